@@ -142,7 +142,7 @@ uint32_t aigtools_dump(uint32_t max_var, const uint8_t *model, size_t model_leng
 /*
  * Puts the words for an outcome into the output, as the program reports it, without a file's name or a line feed:
  * "line 3: bad line". Returns how many bytes they have, at most 80; with less room nothing is written. It is 0 where
- * the status tells of no fault, or memory is refused.
+ * the status tells of no fault. This call takes no memory.
  */
 size_t aigtools_message(const aigtools_outcome *outcome, uint8_t *output, size_t output_length);
 

@@ -191,7 +191,9 @@ static void check_refused_options(void) {
     check(aigtools_message(&x, output, 1) == 0 && output[0] == UNTOUCHED, "message", "no fault", 0);
     check(aigtools_convert(0, 1, text, 0, output, 1, &x) == AIGTOOLS_REFUSED && x.kind == AIGTOOLS_NOT_AIGER &&
               x.place == AIGTOOLS_LINE && x.number == 1, "convert", "nothing at all", 0);
+    growths = 0;
     check(aigtools_message(&x, output, 1) == 25 && output[0] == UNTOUCHED, "message", "too short", 0);
+    check(growths == 0, "message", "takes no memory", growths);
     check(aigtools_version() == AIGTOOLS_VERSION, "version", "that of the header", aigtools_version());
 }
 

@@ -1,10 +1,12 @@
 #!/usr/bin/env python3
 """The library libaigtools beside the linked program: what it answers to the rows of tests/rows/all.sh, to inputs that are
 changed by chance, to memory that is refused, to outputs that are too short, and from threads at once; its symbols; that
-its header, its Python module and its sources have the same numbers; and that each option of a command is one of a call.
+its header, its Python module and its sources have the same numbers, and their outcome the same form; and that each
+option of a command is one of a call.
 
     tests/run/library.py FOLDER PROGRAM     FOLDER holds libaigtools.a and libaigtools.so.1, as release/library makes them
 """
+import ctypes
 import doctest
 import inspect
 import os
@@ -265,6 +267,35 @@ def check_symbols(folder):
     judge("the symbols of libaigtools.so", shared == exports, sorted(shared))
 
 
+# the size of an outcome, and the name, the offset and the size of each of its fields, as a C program sees them
+LAYOUT = """#include "aigtools.h"
+#include <stdio.h>
+#define FIELD(it) printf (#it " %zu %zu\\n", offsetof (aigtools_outcome, it), sizeof ((aigtools_outcome *) 0)->it)
+int main (void) {
+    printf ("%zu\\n", sizeof (aigtools_outcome));
+FIELDS
+    return 0;
+}
+"""
+
+
+def check_layout():
+    """An outcome has the same form in the header, in the Python module and in the sources."""
+    outcome = aigtools._Outcome
+    fields = [(name, getattr(outcome, name)) for name, _ in outcome._fields_]
+    here = [f"{ctypes.sizeof(outcome)}", *(f"{name} {it.offset} {it.size}" for name, it in fields)]
+    with tempfile.TemporaryDirectory() as work:
+        program = LAYOUT.replace("FIELDS", "\n".join(f"    FIELD ({name});" for name, _ in fields))
+        Path(work, "layout.c").write_text(program)
+        if compiled("the form of an outcome", Path(work, "layout"), Path(work, "layout.c")):
+            there = subprocess.run([Path(work, "layout")], stdout=subprocess.PIPE, text=True, check=True).stdout
+            judge("the form of an outcome in the header", there.splitlines() == here, there, here)
+    source = (TOP / "crates/aig_library/src/outcome.rt").read_text()
+    struct = re.search(r"#\[repr\(C\)\]\n#\[derive[^\n]*\npub struct Outcome \{\n(.*?)\n\}", source, re.S)
+    there = re.findall(r"pub (\w+): u(\d+),", struct[1] if struct else "")
+    judge("the form of an outcome in the sources", there == [(name, str(8 * it.size)) for name, it in fields], there)
+
+
 def check_numbers(program):
     """The header, the Python module and the sources have the same numbers, and the versions are the same."""
     sources = [(TOP / f"crates/aig_library/src/{name}.rt").read_text() for name in ("kind", "outcome", "asked")]
@@ -274,6 +305,8 @@ def check_numbers(program):
     judge("the numbers of the header", here == there, here, there)
     kinds = dict(re.findall(r"pub const ([A-Z_]+): u32 = (\d+);", sources[0]))
     judge("the kinds of the Python module", {it.name: str(it.value) for it in aigtools.Kind} == kinds, kinds)
+    others = {name: str(getattr(aigtools, f"_{name}", None)) for name in here.keys() - kinds.keys()}
+    judge("the other numbers of the Python module", others.items() <= here.items(), others)
     said = subprocess.run([program, "--version"], stdout=subprocess.PIPE, text=True, check=True).stdout
     judge("the version", said == f"aiger {aigtools.version()}\n", said, aigtools.version())
     package = (TOP / "release/aigtools.pc").read_text()
@@ -331,6 +364,7 @@ def main(folder, program):
     check_mutants(program)
     check_calls(folder)
     check_symbols(folder)
+    check_layout()
     check_numbers(program)
     check_options(program)
     check_arguments()

@@ -1,23 +1,23 @@
 -- What came of a stimulus that is judged while it comes.
-use Rattle.std.proofs.Common.{◌≡◌, ℕ, List, ◌++◌, Bool, false, Some, None, length, sym, ap, subst, ◌∙◌, if◌then◌else◌}
+use Rattle.std.proofs.Common.{◌≡◌, ◌++◌, ◌∙◌, if◌then◌else◌, ℕ, List, Bool, false, Some, None, length, sym, ap, subst}
 use Rattle.std.proofs.Common.{Err, IfErr, IsErrAnd, Ok, Result}
 use Rattle.aig_circuit.specs.declared.circuit.Circuit.{Circuit}
-use Rattle.aig_io.specs.Devices.{GaveSome, Past, gave}
-use Rattle.aig_io.specs.declared.transfer.ReadError.TheVariants as errors
+use Rattle.aig_io.specs.Devices.{Past}
+use Rattle.aig_io.specs.Runs.{Read}
 use Rattle.aig_lines.specs.Fed.{Feeder, IsFed}
 use Rattle.aig_lines.specs.Feeding.{Feeding, ended_if, fed}
 use Rattle.aig_lines.proofs.Tells.{fed_twice}
-use Rattle.aig_step.specs.Outcome.{Came, first_bad_line}
+use Rattle.aig_step.specs.Outcome.{first_bad_line}
 use Rattle.aig_step.specs.declared.fault.SimFault.{SimFault}
 use Rattle.aig_step.specs.declared.fault.SimFault.TheVariants.{OutOfMemory}
 use Rattle.aig_trace.specs.Parts.Saying.{Saying, before_lines, say_line}
-use Rattle.aig_trace.proofs.Saying.{has_said}
+use Rattle.aig_trace.proofs.RunTexts.{has_said}
 use Rattle.aig_batch.specs.Batched.{NotCollected}
 
 -- memory was refused, when some bytes had come
 pub refused : {T : Type 0} (c : Circuit) (r : Result T SimFault) (source source_now : Past)
-    → IsErrAnd r (λ e. e ≡ OutOfMemory) → GaveSome errors.OutOfMemory source source_now
-    → IfErr r (λ e. NotCollected c e source source_now)
+    → IsErrAnd r (λ e. e ≡ OutOfMemory) → Read (NotCollected c OutOfMemory) source source_now
+    → IfErr r (λ e. Read (NotCollected c e) source source_now)
 refused c (Ok x) source source_now is some = tt
 refused c (Err e) source source_now is some = rw is some
 
@@ -37,11 +37,8 @@ module _ {T : Type 0} (IsAt : T → Saying (Unit {0}) → Type 0) (c : Circuit) 
       subst (IsFed IsAt g u) (sym (fed_twice say_line start bytes chunk)) (more (fed say_line start bytes) stands)
 
   -- which line of them is bad
-  pub came : (f : Feeder) (t : T) (bytes : List ℕ) (over refused : Bool) (source source_now : Past)
-      → HasFed f t bytes over → f.refused ≡ refused → source_now ≡ gave bytes over source
-      → Came (first_bad_line c) bytes over (if refused then Some f.number else None) source source_now
-  came f t bytes over refused source source_now stands is past = record {
-    past = past;
-    first = (has_said IsAt tt (length c.inputs) bytes over f t stands).bad
-        ∙ ap (λ (b : Bool). if b then Some f.number else None) is;
-  }
+  pub first_bad : (f : Feeder) (t : T) (bytes : List ℕ) (over refused : Bool) → HasFed f t bytes over
+      → f.refused ≡ refused → first_bad_line c bytes over ≡ (if refused then Some f.number else None)
+  first_bad f t bytes over refused stands is =
+      (has_said IsAt tt (length c.inputs) bytes over f t stands).bad
+      ∙ ap (λ (b : Bool). if b then Some f.number else None) is

@@ -1,4 +1,2 @@
 pub mod Fronts
-pub mod GoodLines
 pub mod RunsRead
-pub mod TextGroups

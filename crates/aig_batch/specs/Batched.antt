@@ -1,29 +1,28 @@
--- What came of a simulation that reads the whole stimulus before it sends anything. On Ok it is what any simulation is.
-use Rattle.std.specs.Prelude.{◌≡◌, ℕ, List, Bool, true, false, None, Some}
-use Rattle.aig_io.specs.Devices.{GaveSome, Past, TookBeginning, failed_once}
-use Rattle.aig_io.specs.declared.transfer.ReadError.TheVariants as errors
+-- What the answer of a simulation says that reads the whole stimulus before it sends anything.
+use Rattle.std.specs.Prelude.{◌≡◌, ℕ, List, true, false, None, Some, Result, Ok, Err}
+use Rattle.aig_io.specs.Runs.{All, AtEnd, Broken, Ending, IsCut, IsUnbroken, NotSent, Taking, is_at_end}
 use Rattle.aig_circuit.specs.declared.circuit.Circuit.{Circuit}
 use Rattle.aig_step.specs.declared.fault.SimFault.{SimFault}
 use Rattle.aig_step.specs.declared.fault.SimFault.TheVariants.{OutOfMemory, BadStimulus, BadWitness, ReadFailed}
 use Rattle.aig_step.specs.declared.fault.SimFault.TheVariants.{WriteFailed}
 use Rattle.aig_step.specs.declared.trace.Columns.{Columns}
-use Rattle.aig_step.specs.Outcome.{Came, Streamed, first_bad_line}
+use Rattle.aig_step.specs.Outcome.{IsTraceUpTo, first_bad_line}
 
--- What an error says that comes before the whole stimulus was read: memory was refused; this line of what came is the
--- first bad one; or the source failed, and no whole line that came is bad.
-abbrev pub NotCollected : Circuit → SimFault → (source source_now : Past) → Type 0
-NotCollected c OutOfMemory source source_now = GaveSome errors.OutOfMemory source source_now
-NotCollected c (BadStimulus number) source source_now =
-    (bytes : List ℕ) × (ended : Bool) × Came (first_bad_line c) bytes ended (Some number) source source_now
-NotCollected c (BadWitness number) source source_now = ⊥
-NotCollected c ReadFailed source source_now =
-    (bytes : List ℕ) × Came (first_bad_line c) bytes false None (failed_once source) source_now
-NotCollected c WriteFailed source source_now = ⊥
+-- Why a stimulus was not collected: memory was refused; the line of this number is the first bad one of what came; or
+-- the source failed, and no whole line that came is bad.
+abbrev pub NotCollected : Circuit → SimFault → List ℕ → Ending → Type 0
+NotCollected c OutOfMemory bytes ending = IsUnbroken ending
+NotCollected c (BadStimulus number) bytes ending =
+    IsUnbroken ending × (first_bad_line c bytes (is_at_end ending) ≡ Some number)
+NotCollected c (BadWitness number) bytes ending = ⊥
+NotCollected c ReadFailed bytes ending = (ending ≡ Broken) × (first_bad_line c bytes false ≡ None)
+NotCollected c WriteFailed bytes ending = ⊥
 
--- What an error of such a simulation says: the whole stimulus came and has no bad line, and the sink took a beginning
--- of its trace text and failed; or the sink was not called.
-abbrev pub NotBatched : Circuit → Columns → SimFault → (source source_now sink sink_now : Past) → Type 0
-NotBatched c columns WriteFailed source source_now sink sink_now =
-    Streamed c columns true None source source_now (λ text. TookBeginning text sink sink_now)
-NotBatched c columns error source source_now sink sink_now =
-    NotCollected c error source source_now × (sink_now ≡ sink)
+-- All came, no line is bad, and its trace was taken, or the sink failed on the way; or the stimulus was not collected,
+-- and nothing was sent.
+abbrev pub BatchSays : Circuit → Columns → Result (Unit {0}) SimFault → List ℕ → Ending → List ℕ → Taking → Type 0
+BatchSays c columns (Ok done) bytes ending text taking =
+    (ending ≡ AtEnd) × (taking ≡ All) × IsTraceUpTo c columns bytes true None text
+BatchSays c columns (Err WriteFailed) bytes ending text taking =
+    (ending ≡ AtEnd) × IsCut taking × IsTraceUpTo c columns bytes true None text
+BatchSays c columns (Err fault) bytes ending text taking = NotCollected c fault bytes ending × (taking ≡ NotSent)

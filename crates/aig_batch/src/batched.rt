@@ -1,14 +1,15 @@
 //! A simulation that reads the whole stimulus before it sends anything.
-ghost use Rattle.std.specs.Prelude.{◌≡◌, ◌≤◌, ℕ, List, IfErr, None, OnOk, length, true};
+ghost use Rattle.std.specs.Prelude.{◌≡◌, ◌≤◌, ℕ, List, None, length, true};
 ghost use Rattle.std.specs.List.{All};
 ghost use Rattle.aig_circuit.specs.declared.circuit.Circuit.{Circuit as CircuitRecord};
-ghost use Rattle.aig_io.specs.Devices.{CanFail, took};
+ghost use Rattle.aig_io.specs.Devices.{CanFail};
+ghost use Rattle.aig_io.specs.Runs.{AtEnd, Ran, Sent};
 ghost use Rattle.aig_lanes.specs.declared.run.Run.{Run as RunRecord};
-ghost use Rattle.aig_batch.specs.Batched.{NotBatched};
-ghost use Rattle.aig_step.specs.Outcome.{Simulated, Traced, first_bad_line};
+ghost use Rattle.aig_batch.specs.Batched.{BatchSays};
+ghost use Rattle.aig_step.specs.Outcome.{first_bad_line};
 ghost use Rattle.aig_lanes.specs.Parts.Benches.{Fits, HasRoomFor, IsBench};
 ghost use Rattle.aig_batch.specs.Parts.RunsRead.{PutRuns, Says, entries_of_groups};
-ghost use Rattle.aig_batch.specs.Parts.Sent.{NotTraced, SentSo};
+ghost use Rattle.aig_batch.specs.Parts.Sent.{of_sink};
 ghost use Rattle.aig_trace.specs.Parts.Tracing.{IsFresh};
 ghost use Rattle.aig_lanes.specs.Runs.{IsRunOf};
 ghost use Rattle.aig_meaning.specs.Meaning.{MeansTheSame};
@@ -60,8 +61,8 @@ fn trace_good<W: Sink>(
     requires room { All (HasRoomFor bench.old) groups.now }
     ensures { (c : CircuitRecord) (bytes : List ℕ) → MeansTheSame c reader.tracing.circuit
         → Says (length c.inputs) bytes (entries_of_groups groups.now) rest.now
-        → first_bad_line c bytes true ≡ None → Traced c reader.tracing.columns bytes true
-        (SentSo result (W.past sink.old) (W.past sink.new)) }
+        → first_bad_line c bytes true ≡ None → Sent (BatchSays c reader.tracing.columns (of_sink result) bytes AtEnd)
+        (W.past sink.old) (W.past sink.new) }
 {
     let mut output = Output::new(sink);
     put_groups(&mut output, reader.machine(), groups, bench);
@@ -79,8 +80,9 @@ fn trace_lines<W: Sink>(
     requires fresh { IsFresh reader }
     requires sink { CanFail (W.past sink.old) }
     ensures { (c : CircuitRecord) → MeansTheSame c reader.tracing.circuit
-        → first_bad_line c bytes.now true ≡ None → Traced c reader.tracing.columns bytes.now true
-        (SentSo result (W.past sink.old) (W.past sink.new)) }
+        → first_bad_line c bytes.now true ≡ None
+        → Sent (BatchSays c reader.tracing.columns (of_sink result) bytes.now AtEnd)
+        (W.past sink.old) (W.past sink.new) }
 {
     let (sent, _sink) = reader.put_text(Output::new(sink), bytes).finish();
     sent
@@ -100,9 +102,7 @@ fn trace_collected<W: Sink>(
     requires columns { reader.tracing.columns ≡ columns }
     requires none_bad { first_bad_line checked.now bytes.now true ≡ None }
     requires sink { CanFail (W.past sink.old) }
-    ensures ok { OnOk result (Traced checked.now columns bytes.now true
-        (λ text. W.past sink.new ≡ took text (W.past sink.old))) }
-    ensures err { IfErr result (λ e. NotTraced checked.now columns bytes.now e (W.past sink.old) (W.past sink.new)) }
+    ensures { Sent (BatchSays checked.now columns result bytes.now AtEnd) (W.past sink.old) (W.past sink.new) }
 {
     let circuit = checked.circuit();
     if circuit.latches.len() == 0 && circuit.inputs.len() <= MOST_INPUTS {
@@ -151,10 +151,8 @@ pub fn simulate_batched<R: Source, W: Sink>(
 ) -> Result<(), SimFault>
     requires source { CanFail (R.past source.old) }
     requires sink { CanFail (W.past sink.old) }
-    ensures ok { OnOk result (Simulated checked.now columns
-        (R.past source.old) (R.past source.new) (W.past sink.old) (W.past sink.new)) }
-    ensures err { IfErr result (λ error. NotBatched checked.now columns error
-        (R.past source.old) (R.past source.new) (W.past sink.old) (W.past sink.new)) }
+    ensures ran { Ran (BatchSays checked.now columns result)
+        (R.past source.old) (R.past source.new) (W.past sink.old) (W.past sink.new) }
 {
     let reader = StimulusReader::new(alloc, checked, columns)?;
     let bytes = match collect(alloc, checked, source) {

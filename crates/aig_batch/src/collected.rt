@@ -1,8 +1,9 @@
 //! A whole stimulus, judged line by line while it comes.
 ghost use Rattle.std.specs.Prelude.{◌≡◌, [], IfErr, IfOk, None, OnOk, length, true};
-ghost use Rattle.aig_io.specs.Devices.{CanFail};
+ghost use Rattle.aig_io.specs.Devices.{CanFail, gave_all};
+ghost use Rattle.aig_io.specs.Runs.{Read};
 ghost use Rattle.aig_lines.specs.Fed.{IsUnfed};
-ghost use Rattle.aig_step.specs.Outcome.{Came, first_bad_line};
+ghost use Rattle.aig_step.specs.Outcome.{first_bad_line};
 ghost use Rattle.aig_trace.specs.Parts.Saying.{longest_entry};
 ghost use Rattle.aig_batch.specs.Batched.{NotCollected};
 
@@ -46,9 +47,9 @@ fn collect_into<R: Source>(
     requires unfed { IsUnfed feeder.old }
     requires limit { feeder.old.limit ≡ longest_entry (length checked.now.inputs) }
     requires none { bytes.old.items ≡ [] }
-    ensures ok { OnOk result (Came (first_bad_line checked.now) bytes.new.items true None
-        (R.past source.old) (R.past source.new)) }
-    ensures err { IfErr result (λ e. NotCollected checked.now e (R.past source.old) (R.past source.new)) }
+    ensures came { OnOk result (R.past source.new ≡ gave_all bytes.new.items (R.past source.old)) }
+    ensures good { OnOk result (first_bad_line checked.now bytes.new.items true ≡ None) }
+    ensures err { IfErr result (λ e. Read (NotCollected checked.now e) (R.past source.old) (R.past source.new)) }
 {
     let mut judge = Judge {
         inputs: checked.circuit().inputs.len(),
@@ -79,9 +80,9 @@ pub(crate) fn collect<R: Source>(
     source: &mut R,
 ) -> Result<Vec<u8>, SimFault>
     requires { CanFail (R.past source.old) }
-    ensures ok { IfOk result (λ all. Came (first_bad_line checked.now) all.items true None
-        (R.past source.old) (R.past source.new)) }
-    ensures err { IfErr result (λ e. NotCollected checked.now e (R.past source.old) (R.past source.new)) }
+    ensures came { IfOk result (λ all. R.past source.new ≡ gave_all all.items (R.past source.old)) }
+    ensures good { IfOk result (λ all. first_bad_line checked.now all.items true ≡ None) }
+    ensures err { IfErr result (λ e. Read (NotCollected checked.now e) (R.past source.old) (R.past source.new)) }
 {
     let mut feeder = LineFeeder::new(alloc, checked.circuit().inputs.len().max(1))?;
     let mut bytes = Vec::new(alloc);

@@ -1,25 +1,104 @@
--- The lines in front of the gates: what is behind them is read by itself, whatever lines come.
-use Rattle.std.proofs.Common.{◌≡◌, ◌+◌, ◌-◌, ◌≤◌, ◌∙◌, ◌⊎◌, inl, inr, ℕ, List, [], ◌∷◌, ◌++◌, drop, length}
-use Rattle.std.proofs.Common.{Result, Ok, Err, append-nil, refl, sym, ap, subst, arith}
+-- The lines in front of the gates, the steps of reading them, and latches by their places.
+use Rattle.std.proofs.Common.{◌≡◌, ◌+◌, ◌<◌, ◌∷◌, ◌++◌, ◌∙◌, ◌-◌, ◌≤◌, ◌⊎◌, rules, ℕ, suc, List, [], map, take, length}
+use Rattle.std.proofs.Common.{get_or, refl, ap, arith, zero, Ok, Err, sym, inl, inr, drop, Result, append-nil, subst}
+use Rattle.std.specs.Prelude.{slice_index}
+use Rattle.std.proofs.lemmas.Grind.{common_steps}
+use Rattle.std.proofs.lemmas.List.{take_more, length-take-le, length-map}
+use Rattle.aig_circuit.specs.declared.circuit.Latch.{Latch}
 use Rattle.aig_circuit.specs.declared.circuit.Circuit.{Circuit}
 use Rattle.aig_circuit.specs.declared.circuit.Gate.{Gate}
+use Rattle.aig_circuit.proofs.Alike.{latch}
 use Rattle.aig_core.specs.Names.{nothing_named}
+use Rattle.aig_lines.specs.Lines.{Ahead, AreEnded, IsBehind, Line, ahead, bytes_of, lines_of, with_lines}
+use Rattle.aig_lines.proofs.Cutting.{pieces}
+use Rattle.aig_lines.proofs.Taken.{left_fits, taken}
+use Rattle.aig_rows.specs.declared.row.NextState.{NextState}
+use Rattle.aig_rows.specs.Rows.{next_of, Form, next_form}
+use Rattle.aig_rows.specs.Outcomes.{rows_meant}
+use Rattle.aig_rows.specs.Reading.{◌>>=◌, Found, carried_on, row_at, rows_at, at_line, want_of_memory}
 use Rattle.aig_rows.specs.declared.fault.ReadFault.{ReadFault}
 use Rattle.aig_rows.specs.declared.fault.ReadKind.TheVariants as kinds
-use Rattle.aig_rows.specs.Lines.{Ahead, AreEnded, IsBehind, Line, ahead, bytes_of, lines_of, with_lines}
-use Rattle.aig_rows.specs.Reading.{◌>>=◌, Found, at_line, rows_at, want_of_memory}
-use Rattle.aig_rows.proofs.Loops.Cutting.{pieces}
-use Rattle.aig_rows.proofs.Loops.FirstRows.{behind_more, found_behind, found_joined, rows_behind, rows_joined}
 use Rattle.aig_rows.proofs.Steps.{both_ok, ok_same}
-use Rattle.aig_rows.proofs.Taken.{left_fits, taken}
+use Rattle.aig_rows.proofs.Loops.FirstRows.{behind_more, found_behind, found_joined, rows_behind, rows_joined}
+use Rattle.aig_text.specs.Sections.{latches_from, no_lines, Listed, in_binary, sections}
 use Rattle.aig_text.specs.declared.header_line.Header.{Header}
+use Rattle.aig_text.specs.Reading.{section_at, header_at, header_of, sections_at, empty_circuit, tail_at}
 use Rattle.aig_text.specs.declared.section.Section.{Section}
-use Rattle.aig_text.specs.Sections.{Listed, in_binary, sections}
-use Rattle.aig_text.specs.Reading.{header_at, header_of, section_at, sections_at, empty_circuit, tail_at}
+use Rattle.aig_binary.specs.Parts.NextStates.{latches_by}
 use Rattle.aig_binary.specs.BinaryGrammar.{binary_word}
 use Rattle.aig_binary.specs.BinaryReading.{filled, gates_at, with_definitions, binary_at}
-use Rattle.aig_binary.proofs.Joined.{err_same}
 use Rattle.aig_binary.specs.Begun.{first_gate, front_at, gates_behind, gates_from, gates_then}
+use Rattle.aig_binary.proofs.OneByOne.{err_same}
+
+pub no_latches : (v : ℕ) → latches_by v [] ≡ []
+unfolding latches_by
+no_latches v = refl
+
+-- the latch of this variable with a next state
+abbrev pub with_next : ℕ → NextState → Latch
+with_next v n = latch v n.next n.reset
+
+latches_behind : (v : ℕ) (n : NextState) (ns : List NextState)
+    → latches_by v (ns ++ n ∷ []) ≡ latches_by v ns ++ with_next (v + length ns) n ∷ []
+unfolding latches_by
+latches_behind v n [] = let e : v + 0 ≡ v = omega arith in rw e refl
+latches_behind v n (m ∷ ns) = search (rules, latches_behind (suc v) n ns)
+
+pub latches_more : (v i : ℕ) (d : NextState) (ns : List NextState) → i < length ns
+    → latches_by v (take (i + 1) ns) ≡ latches_by v (take i ns) ++ with_next (v + i) (get_or ns i d) ∷ []
+latches_more v i d ns h = grind (arith, common_steps, length-take-le, take_more, latches_behind)
+
+-- what rows tell of next states tells the latches of the rows
+latches_of_rows : (v : ℕ) (rows : List (List ℕ)) → latches_by v (map next_of rows) ≡ latches_from v rows
+unfolding latches_by latches_from
+latches_of_rows v [] = refl
+latches_of_rows v (r ∷ rows) =
+    ap (λ (ls : List Latch). with_next v (next_of r) ∷ ls) (latches_of_rows (suc v) rows)
+
+-- The steps of reading a binary file, one after another.
+
+-- the latches that the rows of their next states make
+module _ (h : Header) (c : Circuit) where
+  abbrev with_nexts : List (List ℕ) × Ahead → Found Circuit
+  with_nexts found = Ok (record c { latches = latches_from (1 + h.inputs) found.0 }, found.1)
+
+  pub nexts_make_latches : (r : Found (List (List ℕ))) (nexts : List NextState) (after : Ahead)
+      → rows_meant next_of [] r ≡ Ok (nexts, after)
+      → (r >>= with_nexts) ≡ Ok (record c { latches = latches_by (1 + h.inputs) nexts }, after)
+  nexts_make_latches (Ok x) nexts after found = search (rules, latches_of_rows)
+  nexts_make_latches (Err e) nexts after found = cc
+
+-- a section without lines
+pub nothing_found : (h : Header) (c : Circuit) (at : Ahead) → section_at no_lines h c at ≡ Ok (c, at)
+unfolding rows_at
+nothing_found h c at = refl
+
+-- so many rows are read
+rows_count : (form : Form) (bound carried count : ℕ) (at after : Ahead) (rows : List (List ℕ))
+    → rows_at form bound carried count at ≡ Ok (rows, after)
+    → length rows ≡ count
+unfolding rows_at
+rows_count form bound carried zero at after rows h = search rules
+rows_count form bound carried (suc count) at after rows h =
+    let one = both_ok (row_at form bound carried at) _ (rows, after) h in
+    let next : ℕ = carried_on form.first carried (slice_index one.0.0 0) in
+    let others = both_ok (rows_at form bound next count one.0.1) _ (rows, after) one.2 in
+    let p : (one.0.0 ∷ others.0.0, others.0.1) ≡ (rows, after) = let e = others.2 in cc in
+    ap (λ (q : List (List ℕ) × Ahead). length q.0) (sym p)
+    ∙ ap (λ c. suc c) (rows_count form bound next count one.0.1 others.0.1 others.0.0 others.1)
+
+found_rows : (r : Found (List (List ℕ))) (ns : List NextState) (after : Ahead)
+    → rows_meant next_of [] r ≡ Ok (ns, after)
+    → (rows : List (List ℕ)) × (r ≡ Ok (rows, after)) × (ns ≡ map next_of rows)
+found_rows (Ok x) ns after h = search rules
+found_rows (Err e) ns after h = cc
+
+pub found_count : (bound start count : ℕ) (at after : Ahead) (ns : List NextState)
+    → rows_meant next_of [] (rows_at next_form bound start count at) ≡ Ok (ns, after)
+    → length ns ≡ count
+found_count bound start count at after ns h = search (rules, found_rows, length-map, rows_count)
+
+-- The lines in front of the gates: what is behind them is read by itself, whatever lines come.
 
 -- a step whose lines were there
 record GoesOn {A : Type 0} (read : Ahead → Found A) (at : Ahead) (p : A × Ahead) : Type 0 where

@@ -1,6 +1,3 @@
-pub mod Gates
-pub mod Numbered
-pub mod Found
+pub mod Lines
 pub mod Accepted
 pub mod Read
-pub mod Faults

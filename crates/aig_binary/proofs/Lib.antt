@@ -1,12 +1,6 @@
 pub mod Deltas
 pub mod OneByOne
-pub mod Defined
-pub mod Stages
-pub mod Grammar
-pub mod Joined
 pub mod Front
-pub mod Written
-pub mod Canonical
+pub mod Grammar
 pub mod Files
-pub mod ReadingOn
 pub mod FileSource

@@ -6,7 +6,7 @@ use Rattle.aig_circuit.specs.Wellformed.{largest_index}
 use Rattle.aig_core.specs.Names.{nothing_named}
 use Rattle.aig_rows.specs.declared.fault.ReadFault.{ReadFault}
 use Rattle.aig_rows.specs.declared.fault.ReadKind.TheVariants as kinds
-use Rattle.aig_rows.specs.Lines.{Ahead, lines_of}
+use Rattle.aig_lines.specs.Lines.{Ahead, lines_of}
 use Rattle.aig_rows.specs.Reading.{◌>>=◌, Found, at_line}
 use Rattle.aig_text.specs.declared.header_line.Header.{Header}
 use Rattle.aig_text.specs.Sections.{sections, in_binary}

@@ -6,7 +6,7 @@ use Rattle.aig_circuit.specs.declared.circuit.Gate.{Gate}
 use Rattle.aig_circuit.specs.declared.circuit.Circuit.{Circuit}
 use Rattle.aig_circuit.specs.Literal.{literal_of}
 use Rattle.aig_circuit.specs.Wellformed.{IsWellFormed}
-use Rattle.aig_rows.specs.Lines.{Line, lines_of}
+use Rattle.aig_lines.specs.Lines.{Line, lines_of}
 use Rattle.aig_text.specs.AsciiGrammar.{IsHeaderLine}
 use Rattle.aig_text.specs.Tail.{AreTailLines}
 use Rattle.aig_text.specs.Sections.{listed_rows, in_binary, header_row, least_header_numbers}

@@ -11,7 +11,7 @@ use Rattle.aig_rows.specs.declared.fault.Place.TheVariants as places
 use Rattle.aig_rows.specs.declared.fault.ReadKind.{ReadKind}
 use Rattle.aig_rows.specs.declared.fault.ReadKind.TheVariants as kinds
 use Rattle.aig_rows.specs.declared.fault.ReadFault.{ReadFault}
-use Rattle.aig_rows.specs.Lines.{Line, ahead, lines_of, bytes_of}
+use Rattle.aig_lines.specs.Lines.{Line, ahead, lines_of, bytes_of}
 use Rattle.aig_text.specs.declared.header_line.Header.{Header}
 use Rattle.aig_text.specs.Sections.{sections, in_binary}
 use Rattle.aig_text.specs.Reading.{header_at, sections_at, empty_circuit, tail_at, fault_of}

@@ -2,7 +2,7 @@
 use Rattle.std.specs.Prelude.{◌⊎◌, ℕ, List, Option, Result, if◌then◌else◌}
 use Rattle.aig_circuit.specs.declared.circuit.Circuit.{Circuit}
 use Rattle.aig_rows.specs.declared.fault.ReadFault.{ReadFault}
-use Rattle.aig_rows.specs.Lines.{lines_of}
+use Rattle.aig_lines.specs.Lines.{lines_of}
 use Rattle.aig_text.specs.Reading.{first_word_is, reading, fault_of}
 use Rattle.aig_text.specs.AsciiGrammar.{IsAsciiText}
 use Rattle.aig_binary.specs.BinaryGrammar.{binary_word, IsBinaryText}

@@ -1,5 +1,6 @@
 //! Deltas: the numbers of gates in a binary file, in groups of seven bits, the lowest group first.
-ghost use Rattle.std.specs.Prelude.{◌≡◌, ◌+◌, ◌*◌, ◌%◌, ◌++◌, ◌^◌, ◌<◌, ◌≤◌, ◌↔◌, ℕ, length, drop, take, None, Some};
+ghost use Rattle.std.specs.Prelude.{◌≡◌, ◌+◌, ◌*◌, ◌%◌, ◌++◌, ◌^◌, ◌<◌, ◌≤◌};
+ghost use Rattle.std.specs.Prelude.{◌↔◌, ℕ, length, drop, take, None, Some};
 ghost use Rattle.std.specs.Prelude.{IfSome};
 ghost use Rattle.aig_rows.specs.Outcomes.{Gives};
 ghost use Rattle.aig_binary.specs.Delta.{BeginsWithDelta, delta_at, shortest_delta};
@@ -40,8 +41,8 @@ impl Delta {
     }
 }
 
-/// Writes a number below 2^14, as `write_delta` writes a number. One and two bytes are distinguished without a branch: in
-/// a file they follow one another without a rule, so a branch would often be predicted wrongly.
+/// One and two bytes are distinguished without a branch: in a file they follow one another without
+/// a rule, so a branch would often be predicted wrongly.
 #[inline(always)]
 fn write_short_delta(bytes: &mut [u8], at: usize, value: u32) -> usize
     requires low { value < 2 ^ 14 }
@@ -57,7 +58,6 @@ fn write_short_delta(bytes: &mut [u8], at: usize, value: u32) -> usize
     at + 1 + more as usize
 }
 
-/// Writes a number of any size, as `write_delta` writes a number.
 #[inline(always)]
 fn write_long_delta(bytes: &mut [u8], at: usize, value: u32) -> usize
     requires { at + LONGEST ≤ length bytes.old }
@@ -76,8 +76,7 @@ fn write_long_delta(bytes: &mut [u8], at: usize, value: u32) -> usize
     end + 1
 }
 
-/// Writes the shortest spelling of a number from a place on, and answers where it ends. Most gates have deltas below
-/// 2^14.
+/// Most gates have deltas below 2^14.
 #[inline(always)]
 pub(crate) fn write_delta(bytes: &mut [u8], at: usize, value: u32) -> usize
     requires { at + LONGEST ≤ length bytes.old }
@@ -93,7 +92,7 @@ pub(crate) fn write_delta(bytes: &mut [u8], at: usize, value: u32) -> usize
 }
 
 /// The shortest spelling of a number.
-#[tactic(auto, using(crate::proofs::Deltas::Stored::some_stored))]
+#[tactic(auto, using(crate::proofs::Deltas::Shortest::some_stored))]
 pub fn put_delta(value: u32) -> Delta
     ensures { result ≡ shortest_delta value }
 {
@@ -102,7 +101,6 @@ pub fn put_delta(value: u32) -> Delta
     Delta { bytes, len }
 }
 
-/// A number below 2^32 alone, and how many bytes spell it.
 fn small_only(value: u64, count: usize) -> Option<(u32, usize)>
     ensures small { value < 2 ^ 32 → result ≡ Some (value, count) }
     ensures large { 2 ^ 32 ≤ value → result ≡ None }
@@ -113,8 +111,7 @@ fn small_only(value: u64, count: usize) -> Option<(u32, usize)>
     Some((value, count))
 }
 
-/// The number at the front in one to three bytes, and how many they are; none where it has more of them. Most numbers
-/// of a file are as short, and read without a loop.
+/// Most numbers of a file have one to three bytes, and are read without a loop.
 #[inline(always)]
 #[tactic(auto, using(crate::proofs::Deltas::Reading::delta_of_one, crate::proofs::Deltas::Reading::delta_of_two, crate::proofs::Deltas::Reading::delta_of_three))]
 fn get_short_delta(bytes: &[u8]) -> Option<(u32, usize)>
@@ -160,12 +157,13 @@ fn get_groups(bytes: &[u8]) -> Option<(u32, usize)>
     None
 }
 
-/// The number at the front, and how many bytes spell it. There is none where no front of the bytes spells a number
-/// below 2^32 in one to five bytes.
+/// The number at the front, and how many bytes spell it. There is none where no front of the bytes
+/// spells a number below 2^32 in one to five bytes.
 #[inline(always)]
 pub fn get_delta(bytes: &[u8]) -> Option<(u32, usize)>
     ensures delta { Gives (λ x. (x.0, drop x.1 bytes.now)) result (delta_at bytes.now) }
-    ensures spelled { (value count : ℕ) → (result ≡ Some (value, count)) ↔ BeginsWithDelta bytes.now value count }
+    ensures spelled { (value count : ℕ) → (result ≡ Some (value, count))
+        ↔ BeginsWithDelta bytes.now value count }
 {
     if bytes.len() >= 3 {
         if let Some(short) = get_short_delta(bytes) {

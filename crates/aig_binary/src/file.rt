@@ -10,9 +10,9 @@ use aig_core::{Checked, Keep};
 use aig_text::{Limits, ReadFault, first_word_is, read_ascii_keeping};
 use std::alloc::Global;
 
-/// Reads a file of either kind, within these limits: as a binary file if that is what its first word says, otherwise as
-/// an ASCII file. The error is the first fault of the text, or that memory ran out. No order of the gates is kept
-/// (`read_file_keeping`).
+/// Reads a file of either kind, within these limits: as a binary file if that is what its first
+/// word says, otherwise as an ASCII file. The error is the first fault of the text, or that memory
+/// ran out. No order of the gates is kept (`read_file_keeping`).
 pub fn read_file(alloc: Global, bytes: &[u8], limits: Limits) -> Result<Checked, ReadFault>
     ensures ok { IfOk result (λ c. IsFileOf bytes.now limits.max_var c) }
     ensures only { (c : CircuitRecord) → IsFileOf bytes.now limits.max_var c
@@ -22,8 +22,8 @@ pub fn read_file(alloc: Global, bytes: &[u8], limits: Limits) -> Result<Checked,
     read_file_keeping(alloc, bytes, limits, Keep::Circuit)
 }
 
-/// Reads a file of either kind, as `read_file` does, and keeps what is wanted of the check later. A binary file has its
-/// gates in order, so there is no order to keep.
+/// Reads a file of either kind, as `read_file` does, and keeps what is wanted of the check later. A
+/// binary file has its gates in order, so there is no order to keep.
 pub fn read_file_keeping(
     alloc: Global,
     bytes: &[u8],

@@ -1,5 +1,6 @@
 //! Gates: each by two deltas, one gate after the other.
-ghost use Rattle.std.specs.Prelude.{◌≡◌, ◌+◌, ◌*◌, ◌^◌, ◌<◌, ◌≤◌, ◌++◌, ◌⊎◌, ◌↔◌, List, ℕ, Err, IfErr, IfOk};
+ghost use Rattle.std.specs.Prelude.{◌≡◌, ◌+◌, ◌*◌, ◌^◌, ◌<◌, ◌≤◌, ◌++◌};
+ghost use Rattle.std.specs.Prelude.{◌⊎◌, ◌↔◌, List, ℕ, Err, IfErr, IfOk};
 ghost use Rattle.std.specs.Prelude.{IsTrue, OnOk, drop, length, nat_le};
 ghost use Rattle.std.specs.List.{list_all};
 ghost use Rattle.aig_rows.specs.declared.fault.ReadKind.TheVariants.{Truncated};
@@ -12,14 +13,12 @@ use crate::delta::get_delta;
 use aig_core::{Gate, Listing, Lit, Var};
 use aig_text::{Place, ReadFault, ReadKind};
 
-/// Whether no byte is the last one of a delta.
 fn all_go_on(bytes: &[u8]) -> bool
     ensures { result ≡ list_all (λ b. nat_le 128 b) bytes.now }
 {
     bytes.iter().all(|byte| *byte >= 128)
 }
 
-/// Why these bytes do not begin with a delta.
 #[cold]
 #[inline(never)]
 fn no_delta(bytes: &[u8]) -> ReadKind
@@ -31,7 +30,7 @@ fn no_delta(bytes: &[u8]) -> ReadKind
     ReadKind::BadDelta
 }
 
-/// What is left of a literal less the delta at the front, which is at least so much, and what follows it.
+/// A literal less the delta at the front, which is at least so much, and what follows it.
 #[inline(always)]
 #[tactic(auto, unfolding(crate::specs::BinaryReading::lowered_at))]
 fn lower(from: u32, least: u32, bytes: &[u8]) -> Result<(u32, &[u8]), ReadKind>
@@ -48,7 +47,6 @@ fn lower(from: u32, least: u32, bytes: &[u8]) -> Result<(u32, &[u8]), ReadKind>
     Ok((from - delta, rest))
 }
 
-/// The gate of this variable, and what follows it.
 #[inline(always)]
 #[tactic(auto, unfolding(crate::specs::BinaryReading::gate_at))]
 fn next_gate(variable: u32, bytes: &[u8]) -> Result<(Gate, &[u8]), ReadKind>
@@ -66,7 +64,6 @@ fn next_gate(variable: u32, bytes: &[u8]) -> Result<(Gate, &[u8]), ReadKind>
     Ok((gate, rest))
 }
 
-/// Whether the bytes end too early.
 fn is_cut(kind: &ReadKind) -> bool
     ensures { IsTrue result ↔ (kind.now ≡ Truncated) }
 {
@@ -76,8 +73,9 @@ fn is_cut(kind: &ReadKind) -> bool
     }
 }
 
-/// Adds the next gates to those that were found, as far as the bytes tell them and no more than `count` are found then;
-/// the first gate has this variable. Answers how many bytes these gates take.
+/// Adds the next gates to those that were found, as far as the bytes tell them and no more than
+/// `count` are found then; the first gate has this variable. Answers how many bytes these gates
+/// take.
 pub(crate) fn read_first_gates(
     found: &mut Listing<Gate>,
     variable: u32,
@@ -86,7 +84,8 @@ pub(crate) fn read_first_gates(
 ) -> Result<usize, ReadFault>
     requires variables { variable + count ≤ 2 ^ 31 }
     requires fewer { length found.old ≤ count }
-    ensures on { IfOk result (λ used. (more : List ℕ) → gates_from variable count found.old (bytes.now ++ more)
+    ensures on { IfOk result (λ used. (more : List ℕ)
+        → gates_from variable count found.old (bytes.now ++ more)
         ≡ gates_from variable count found.new (drop used bytes.now ++ more)) }
     ensures all { IfOk result (λ used. NoneIsThere variable count found.new (drop used bytes.now)) }
     ensures fewer { OnOk result (length found.new ≤ count) }
@@ -122,20 +121,21 @@ pub(crate) fn read_gates(
 ) -> Result<(Listing<Gate>, &[u8]), ReadFault>
     requires variables { variable + count ≤ 2 ^ 31 }
     requires fewer { length found ≤ count }
-    ensures gates { GivesOrMemory (λ x. (x.0, x.1.now)) result (gates_from variable count found bytes.now) }
+    ensures gates { GivesOrMemory (λ x. (x.0, x.1.now)) result
+        (gates_from variable count found bytes.now) }
     ensures shorter { IfOk result (λ x. length x.1.now ≤ length bytes.now) }
 {
     let mut found = found;
     let used = match read_first_gates(&mut found, variable, count, bytes) {
         Ok(used) => used,
         Err(fault) => {
-            drop(found);
+            drop(found); // for the proof
             return Err(fault);
         }
     };
     let read = found.len();
     if read < count as usize {
-        drop(found);
+        drop(found); // for the proof
         return Err(ReadFault {
             place: Place::Gate(read as u64 + 1),
             kind: ReadKind::Truncated,

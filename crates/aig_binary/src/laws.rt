@@ -1,6 +1,8 @@
 //! Laws: facts about the definitions alone, each the contract of a function with an empty body.
-ghost use Rattle.aig_binary.specs.Laws.{ShortestIsDelta, ShortestIsOne, DeltasAreUnambiguous, ReadExactly};
-ghost use Rattle.aig_binary.specs.FileLaws.{BinaryReadExactly, BinaryFaultyOrAccepted, BinaryTextsAreUnambiguous};
+ghost use Rattle.aig_binary.specs.Laws.{ShortestIsDelta, ShortestIsOne};
+ghost use Rattle.aig_binary.specs.Laws.{DeltasAreUnambiguous, ReadExactly};
+ghost use Rattle.aig_binary.specs.FileLaws.{BinaryReadExactly, BinaryFaultyOrAccepted};
+ghost use Rattle.aig_binary.specs.FileLaws.{BinaryTextsAreUnambiguous};
 ghost use Rattle.aig_binary.specs.FileLaws.{CanonicalBinaryIsAccepted};
 
 /// The shortest spelling of a number below 2^32 is one of its spellings, and none could be shorter.

@@ -1,10 +1,12 @@
-//! Binary AIGER files: deltas, the reader and the writer of circuits in binary order. Files of either kind, ASCII or
-//! binary, are read here too.
+//! Binary AIGER files: deltas, the reader and the writer of circuits in binary order. Files of
+//! either kind, ASCII or binary, are read here too.
 //!
-//! Others call `read_file` (`read_file_keeping`), which reads a file of either kind, and `read_source`, which reads a
-//! source to its end, a part at a time; `read_binary` and `write_binary`; `aig_unroll` also calls `put_gates`.
+//! Others call `read_file` (`read_file_keeping`), which reads a file of either kind, and
+//! `read_source`, which reads a source to its end, a part at a time; `read_binary` and
+//! `write_binary`; `aig_unroll` also calls `put_gates`.
 //!
-//! The definitions that matter most are `IsFileOf`, `IsBinaryText`, `first_binary_fault` and `binary_text`.
+//! The definitions that matter most are `IsFileOf`, `IsBinaryText`, `first_binary_fault` and
+//! `binary_text`.
 #![tactic(auto)]
 
 mod delta;

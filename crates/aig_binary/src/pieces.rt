@@ -2,26 +2,27 @@
 ghost use Rattle.std.specs.Prelude.{◌≡◌, ◌+◌, ◌<◌, ◌≤◌, ◌++◌, ◌⊎◌, [], List, ℕ, IfErr, IfOk, Ok};
 ghost use Rattle.std.specs.Prelude.{drop, length};
 ghost use Rattle.aig_circuit.specs.Wellformed.{largest_index};
-ghost use Rattle.aig_rows.specs.Lines.{AreEnded, ahead, lines_of};
+ghost use Rattle.aig_lines.specs.Lines.{AreEnded, ahead, lines_of};
 ghost use Rattle.aig_rows.specs.Reading.{want_of_memory};
 ghost use Rattle.aig_binary.specs.BinaryReading.{binary_at};
-ghost use Rattle.aig_binary.specs.Begun.{AllIsTaken, FitsHeader, HasAllGates, front_at, gates_then, rest_of};
+ghost use Rattle.aig_binary.specs.Begun.{AllIsTaken, FitsHeader, HasAllGates};
+ghost use Rattle.aig_binary.specs.Begun.{front_at, gates_then, rest_of};
 
 use crate::gates::{read_first_gates, read_gates};
 use crate::piecewise::Pieces;
 use crate::reader::{define, read_front};
 use aig_core::{Circuit, Gate, Listing};
-use aig_text::{Cursor, Header, Limits, ReadFault, tail};
+use aig_lines::Cursor;
+use aig_text::{Header, Limits, ReadFault, tail};
 use std::alloc::Global;
 
-/// A reader of a binary file that takes its gates piece by piece. After a fault it holds that, and takes all bytes.
+/// Takes gates of a binary file piece by piece. After a fault it holds that, and takes all bytes.
 #[derive(Drop)]
 pub(crate) struct BinaryReader {
     /// The header, or the first fault of the gates so far.
     header: Result<Header, ReadFault>,
     /// What the lines in front of the gates told.
     circuit: Circuit,
-    /// The gates so far.
     gates: Listing<Gate>,
     /// The number of the first line behind the gates.
     number: u64,
@@ -31,7 +32,8 @@ impl BinaryReader {
     /// It stands behind the lines that told this.
     pub(crate) fn new(alloc: Global, header: Header, circuit: Circuit, number: u64) -> Self
         requires { header.inputs + header.latches + header.gates ≤ largest_index }
-        ensures from { (bytes : List ℕ) → rest_of result bytes ≡ gates_then header circuit [] number bytes }
+        ensures from { (bytes : List ℕ) → rest_of result bytes
+            ≡ gates_then header circuit [] number bytes }
         ensures number { result.number ≡ number }
         ensures fits { FitsHeader result.header result.gates }
     {
@@ -43,14 +45,15 @@ impl BinaryReader {
         }
     }
 
-    /// Reads the lines in front of the gates, where these lines have them all, and answers how many bytes they take.
+    /// Reads the lines in front of the gates, if all are there. Answers how many bytes they take.
     pub(crate) fn begin(
         alloc: Global,
         lines: &[u8],
         limits: Limits,
     ) -> Result<(Self, usize), ReadFault>
         requires ended { AreEnded (lines_of lines.now) }
-        ensures on { IfOk result (λ x. (more : List ℕ) → binary_at limits.max_var (lines_of (lines.now ++ more))
+        ensures on { IfOk result (λ x. (more : List ℕ)
+            → binary_at limits.max_var (lines_of (lines.now ++ more))
             ≡ rest_of x.0 (drop x.1 lines.now ++ more)) }
         ensures within { IfOk result (λ x. x.1 ≤ length lines.now) }
         ensures number { IfOk result (λ x. x.0.number ≤ 1 + x.1) }
@@ -112,8 +115,8 @@ impl Pieces for BinaryReader {
         let header = match header {
             Ok(header) => header,
             Err(fault) => {
-                drop(circuit);
-                drop(gates);
+                drop(circuit); // for the proof
+                drop(gates); // for the proof
                 return Err(fault);
             }
         };
@@ -121,13 +124,13 @@ impl Pieces for BinaryReader {
         let (gates, rest) = match read_gates(gates, first, header.gates, bytes) {
             Ok(found) => found,
             Err(fault) => {
-                drop(circuit);
+                drop(circuit); // for the proof
                 return Err(fault);
             }
         };
-        // The inputs that a header promises take memory only where all that is due of lines and gates was there.
+        // The inputs that a header promises take memory only where all lines and gates were there.
         if let Err(fault) = define(alloc, &header, gates, &mut circuit) {
-            drop(circuit);
+            drop(circuit); // for the proof
             return Err(fault);
         }
         tail(alloc, &header, circuit, Cursor::at_line(number, rest))

@@ -1,19 +1,19 @@
 //! Readers that take a file piece by piece, and the loop by which a source serves them.
-ghost use Rattle.std.specs.Prelude.{◌≡◌, ◌+◌, ◌^◌, ◌<◌, ◌≤◌, ◌++◌, ◌⊎◌, ◌↔◌, ℕ, List, Result, IfErr, IfOk, IsOk, IsTrue};
+ghost use Rattle.std.specs.Prelude.{◌≡◌, ◌+◌, ◌^◌, ◌<◌, ◌≤◌, ◌++◌, ◌⊎◌, ◌↔◌, ℕ};
+ghost use Rattle.std.specs.Prelude.{List, Result, IfErr, IfOk, IsOk, IsTrue};
 ghost use Rattle.std.specs.Prelude.{OnOk, drop, false, length, vec_len};
 ghost use Rattle.aig_circuit.specs.declared.circuit.Circuit.{Circuit as CircuitRecord};
 ghost use Rattle.aig_io.specs.Devices.{CanFail, GaveSome};
 ghost use Rattle.aig_io.specs.Windows.{Filled};
 ghost use Rattle.aig_rows.specs.declared.fault.ReadFault.{ReadFault as Fault};
-ghost use Rattle.aig_rows.specs.Lines.{lines_of};
+ghost use Rattle.aig_lines.specs.Lines.{lines_of, HasNoLineFeed};
 ghost use Rattle.aig_rows.specs.Outcomes.{GivesOrMemory};
-ghost use Rattle.aig_rows.specs.Parts.Plain.{HasNoLineFeed};
 ghost use Rattle.aig_text.specs.Begun.{IsDone, IsValid, ReadsOn, rest_of};
 ghost use Rattle.aig_binary.specs.Sources.{ComesOn, NotAllCame, ReadsAs, ReadsFrom};
 
 use crate::source_fault::SourceFault;
 use aig_core::{Circuit, ReadError, Source, Window, read_to_end};
-use aig_rows::ended_lines;
+use aig_lines::ended_lines;
 use aig_text::{AsciiReader, ReadFault};
 use std::alloc::Global;
 
@@ -37,7 +37,6 @@ pub(crate) trait Pieces: Drop {
     /// Whether it is worth while to look at all that is held once these bytes came.
     fn is_piece(came: &[u8]) -> bool;
 
-    /// Whether all was read that comes in pieces.
     fn is_done(&self) -> bool
         ensures { IsTrue result ↔ has_all self.now };
 
@@ -52,7 +51,6 @@ pub(crate) trait Pieces: Drop {
         ensures number { next_line self.new ≤ next_line self.old + result }
         ensures valid { is_valid self.new };
 
-    /// The circuit that the file tells of which the last bytes are these.
     fn finish(self, alloc: Global, bytes: &[u8]) -> Result<Circuit, ReadFault>
         requires counted { next_line self + length bytes.now < 2 ^ 64 }
         requires valid { is_valid self }
@@ -88,16 +86,18 @@ impl Pieces for AsciiReader {
     }
 }
 
-/// Fetches until a piece comes and so many bytes are held, and answers whether the source goes on.
+/// Answers whether the source goes on.
 pub(crate) fn fetch_piece<R: Source, P: Pieces>(
     source: &mut R,
     window: &mut Window,
     least: usize,
 ) -> Result<bool, ReadError>
     requires { CanFail (R.past source.old) }
-    ensures ok { IfOk result (λ more. Filled window.old window.new more (R.past source.old) (R.past source.new)) }
+    ensures ok { IfOk result (λ more. Filled window.old window.new more (R.past source.old)
+        (R.past source.new)) }
     ensures least { IfOk result (λ more. IsTrue more → least ≤ length window.new) }
-    ensures bound { OnOk result (R.bound source.new + length window.new ≡ R.bound source.old + length window.old) }
+    ensures bound { OnOk result (R.bound source.new + length window.new
+        ≡ R.bound source.old + length window.old) }
     ensures fewer { IfOk result (λ more. IsTrue more → R.bound source.new < R.bound source.old) }
     ensures err { IfErr result (λ error. GaveSome error (R.past source.old) (R.past source.new)) }
 {
@@ -113,16 +113,17 @@ pub(crate) fn fetch_piece<R: Source, P: Pieces>(
     }
 }
 
-/// The bytes of the window, and all that the source still gives, where it goes on.
 pub(crate) fn fetch_all<R: Source>(
     source: &mut R,
     window: Window,
     more: bool,
 ) -> Result<Vec<u8>, ReadError>
     requires { CanFail (R.past source.old) }
-    ensures ok { IfOk result (λ all. ComesOn window all.items more false (R.past source.old) (R.past source.new)) }
+    ensures ok { IfOk result (λ all. ComesOn window all.items more false (R.past source.old)
+        (R.past source.new)) }
     ensures bound { IfOk result (λ all. vec_len all ≤ R.bound source.old + length window) }
-    ensures err { IfErr result (λ error. NotAllCame error more (R.past source.old) (R.past source.new)) }
+    ensures err { IfErr result (λ error.
+        NotAllCame error more (R.past source.old) (R.past source.new)) }
 {
     let mut bytes = window.into_bytes();
     if more {
@@ -131,8 +132,7 @@ pub(crate) fn fetch_all<R: Source>(
     Ok(bytes)
 }
 
-/// Fetches the pieces that a reader takes, of which the window has the next bytes, and has them read. Answers whether
-/// the source goes on.
+/// Answers whether the source goes on.
 fn read_pieces<R: Source, P: Pieces>(
     source: &mut R,
     window: &mut Window,
@@ -141,10 +141,11 @@ fn read_pieces<R: Source, P: Pieces>(
     requires source { CanFail (R.past source.old) }
     requires valid { P.is_valid reader.old }
     requires counted { P.next_line reader.old + length window.old + R.bound source.old ≤ 2 ^ 63 }
-    ensures ok { IfOk result (λ more. ReadsFrom (P.rest reader.old) (P.rest reader.new) window.old window.new more
-        (R.past source.old) (R.past source.new)) }
+    ensures ok { IfOk result (λ more. ReadsFrom (P.rest reader.old) (P.rest reader.new)
+        window.old window.new more (R.past source.old) (R.past source.new)) }
     ensures valid { OnOk result (P.is_valid reader.new) }
-    ensures counted { OnOk result (P.next_line reader.new + length window.new + R.bound source.new ≤ 2 ^ 63) }
+    ensures counted { OnOk result
+        (P.next_line reader.new + length window.new + R.bound source.new ≤ 2 ^ 63) }
     ensures err { IfErr result (λ error. GaveSome error (R.past source.old) (R.past source.new)) }
 {
     let mut more = true;
@@ -156,7 +157,6 @@ fn read_pieces<R: Source, P: Pieces>(
     Ok(more)
 }
 
-/// The circuit that a file tells, of which this reader has the first bytes and the window has the next.
 pub(crate) fn read_rest<R: Source, P: Pieces>(
     alloc: Global,
     source: &mut R,
@@ -166,7 +166,8 @@ pub(crate) fn read_rest<R: Source, P: Pieces>(
     requires source { CanFail (R.past source.old) }
     requires valid { P.is_valid reader }
     requires counted { P.next_line reader + length window + R.bound source.old ≤ 2 ^ 63 }
-    ensures { ReadsAs (λ answer bytes. GivesOrMemory (λ c. c) answer (P.rest reader (window ++ bytes))) result
+    ensures { ReadsAs
+        (λ answer bytes. GivesOrMemory (λ c. c) answer (P.rest reader (window ++ bytes))) result
         (R.past source.old) (R.past source.new) }
 {
     let mut reader = reader;

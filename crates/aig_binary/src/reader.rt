@@ -1,8 +1,9 @@
 //! The reader of binary files.
-ghost use Rattle.std.specs.Prelude.{◌≡◌, ◌+◌, ◌^◌, ◌<◌, ◌≤◌, IfOk, IfErr, MatchResult, OnOk, map, length};
+ghost use Rattle.std.specs.Prelude.{◌≡◌, ◌+◌, ◌^◌, ◌<◌, ◌≤◌, IfOk, IfErr};
+ghost use Rattle.std.specs.Prelude.{MatchResult, OnOk, length};
 ghost use Rattle.std.specs.List.{range_with_len, sum};
 ghost use Rattle.aig_circuit.specs.Wellformed.{largest_index};
-ghost use Rattle.aig_rows.specs.Lines.{lines_of};
+ghost use Rattle.aig_lines.specs.Lines.{lines_of};
 ghost use Rattle.aig_text.specs.declared.section.Section.TheVariants.{Latches};
 ghost use Rattle.aig_text.specs.Sections.{in_binary, sections};
 ghost use Rattle.aig_rows.specs.Outcomes.{GivesOrMemory};
@@ -11,16 +12,18 @@ ghost use Rattle.aig_text.specs.Reading.{IsFirstFault, section_at, sections_at};
 ghost use Rattle.aig_rows.specs.Reading.{at_line, want_of_memory};
 ghost use Rattle.aig_checked.specs.BinaryOrder.{IsInBinaryOrder};
 ghost use Rattle.aig_binary.specs.BinaryGrammar.{IsBinaryText};
-ghost use Rattle.aig_binary.specs.BinaryReading.{filled, with_definitions, binary_at, first_binary_fault};
+ghost use Rattle.aig_binary.specs.BinaryReading.{filled, with_definitions};
+ghost use Rattle.aig_binary.specs.BinaryReading.{binary_at, first_binary_fault};
 ghost use Rattle.aig_binary.specs.Begun.{front_at};
 ghost use Rattle.aig_binary.specs.Parts.NextStates.{latches_by};
 
 use crate::pieces::BinaryReader;
 use crate::piecewise::Pieces;
 use aig_core::{Checked, Circuit, Gate, Latch, Listing, Ordered, Var};
+use aig_lines::Cursor;
 use aig_text::{
-    Cursor, Header, Limits, NextState, Place, ReadFault, ReadKind, SECTIONS, Section,
-    empty_circuit, header, next_states, read_section, tail,
+    Header, Limits, NextState, Place, ReadFault, ReadKind, SECTIONS, Section, empty_circuit,
+    header, next_states, read_section, tail,
 };
 use std::alloc::Global;
 
@@ -43,8 +46,7 @@ fn check_filled(header: Header) -> Result<Header, ReadFault>
     })
 }
 
-/// So many inputs, of the first variables.
-#[tactic(auto, using(aig_checked::proofs::Numbered::Ranges::range_more))]
+#[tactic(auto, using(aig_checked::proofs::Numbered::range_more))]
 fn inputs(alloc: Global, count: u32) -> Result<Listing<Var>, ReadFault>
     requires { count < 2 ^ 31 }
     ensures ok { IfOk result (λ found. found ≡ range_with_len 1 count) }
@@ -80,7 +82,6 @@ fn latches(
     Ok(found)
 }
 
-/// Makes the latches those of the next states that the lines from here on hold, and moves behind these lines.
 fn read_latches(
     alloc: Global,
     header: &Header,
@@ -98,8 +99,7 @@ fn read_latches(
     Ok(())
 }
 
-/// Adds what the lines of a section tell of it, and moves behind these lines.
-#[tactic(auto, using(crate::proofs::Stages::nothing_found))]
+#[tactic(auto, using(crate::proofs::Front::nothing_found))]
 fn read_lines(
     alloc: Global,
     section: Section,
@@ -127,7 +127,6 @@ fn read_lines(
     }
 }
 
-/// Adds what the lines of all sections tell, and moves behind these lines.
 fn read_sections(
     alloc: Global,
     header: &Header,
@@ -166,7 +165,6 @@ pub(crate) fn define(
     Ok(())
 }
 
-/// Reads the lines in front of the gates, and moves behind them.
 pub(crate) fn read_front(
     alloc: Global,
     at: &mut Cursor,
@@ -179,13 +177,13 @@ pub(crate) fn read_front(
     let header = check_filled(promised)?;
     let mut circuit = empty_circuit(alloc, header.max_var);
     if let Err(fault) = read_sections(alloc, &header, &mut circuit, at) {
-        drop(circuit);
+        drop(circuit); // for the proof
         return Err(fault);
     }
     Ok((header, circuit))
 }
 
-/// Reads a circuit from the lines and the gates of a text. Whether it is well formed is not checked here.
+/// Whether it is well formed is not checked here.
 fn read_circuit(alloc: Global, bytes: &[u8], limits: Limits) -> Result<Circuit, ReadFault>
     ensures { GivesOrMemory (λ c. c) result (binary_at limits.max_var (lines_of bytes.now)) }
 {
@@ -194,16 +192,18 @@ fn read_circuit(alloc: Global, bytes: &[u8], limits: Limits) -> Result<Circuit, 
     BinaryReader::new(alloc, header, circuit, at.number).finish(alloc, at.rest)
 }
 
-/// Reads a binary file, within these limits. The error is the first fault of the text, or that memory ran out.
+/// Reads a binary file, within these limits. The error is the first fault of the text, or that
+/// memory ran out.
 pub fn read_binary(alloc: Global, bytes: &[u8], limits: Limits) -> Result<Checked, ReadFault>
     ensures ok { IfOk result (λ c. IsBinaryText bytes.now limits.max_var c) }
     ensures ordered { IfOk result (λ c. IsInBinaryOrder c) }
     ensures only { (c : CircuitRecord) → IsBinaryText bytes.now limits.max_var c
         → MatchResult result (λ d. d ≡ c) (λ e. e ≡ want_of_memory) }
-    ensures fault { IfErr result (λ e. IsFirstFault e (first_binary_fault limits.max_var bytes.now)) }
+    ensures fault { IfErr result (λ e. IsFirstFault e
+        (first_binary_fault limits.max_var bytes.now)) }
 {
-    // What is read of a binary file is well formed already: its gates are in order, and define all that is used. That
-    // it is in binary order stays known, so nobody need look at its gates again.
+    // What is read of a binary file is well formed already: its gates are in order, and define all
+    // that is used. That it is in binary order stays known, so nobody need look at its gates again.
     let circuit = read_circuit(alloc, bytes, limits)?;
     Ok(Ordered::from_well_ordered(circuit).into_checked())
 }

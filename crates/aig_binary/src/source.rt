@@ -3,7 +3,7 @@ ghost use Rattle.std.specs.Prelude.{◌≡◌, ◌+◌, ◌^◌, ◌≤◌, ◌+
 ghost use Rattle.std.specs.Prelude.{MatchOption, false, length, not, true};
 ghost use Rattle.aig_io.specs.Devices.{CanFail, GaveSome, Past, gave};
 ghost use Rattle.aig_io.specs.Windows.{Filled};
-ghost use Rattle.aig_rows.specs.Lines.{lines_of};
+ghost use Rattle.aig_lines.specs.Lines.{lines_of};
 ghost use Rattle.aig_text.specs.Reading.{first_word_is};
 ghost use Rattle.aig_binary.specs.BinaryGrammar.{binary_word};
 ghost use Rattle.aig_binary.specs.BinaryReading.{binary_reading};
@@ -16,14 +16,14 @@ use crate::piecewise::{fetch_all, fetch_piece, read_rest};
 use crate::reader::BINARY_WORD;
 use crate::source_fault::SourceFault;
 use aig_core::{Checked, Keep, Ordered, ReadError, Source, Window};
-use aig_rows::{ReadKind, ended_lines};
-use aig_text::{AsciiReader, Limits, check_read, first_word_is};
+use aig_lines::ended_lines;
+use aig_text::{AsciiReader, Limits, ReadKind, check_read, first_word_is};
 use std::alloc::Global;
 
-/// Lets go of the room that bytes do not fill, and answers whether no memory was refused. Room grows by doubling, so it
-/// may be twice what is filled. Where a block of up to 32 MB is let go, the C library of Linux keeps blocks of that
-/// size from then on, and what is made of the circuit takes them again: without this the system would give and clear
-/// new pages for it.
+/// Lets go of the room that bytes do not fill, and answers whether no memory was refused. Room
+/// grows by doubling, so it may be twice what is filled. Where a block of up to 32 MB is let go,
+/// the C library of Linux keeps blocks of that size from then on, and what is made of the circuit
+/// takes them again: without this the system would give and clear new pages for it.
 fn fit(bytes: &mut Vec<u8>) -> bool
     ensures { bytes.new.items ≡ bytes.old.items }
 {
@@ -50,9 +50,8 @@ fn fetch_first<R: Source>(alloc: Global, source: &mut R) -> Result<(Window, bool
     Ok((window, more))
 }
 
-/// Fetches the lines in front of the gates, of which the window has the first bytes, and has them read. There is no
-/// reader where they are not right. Answers whether the source goes on. Lines that are not there yet are read anew when
-/// twice as much is held, so on the whole no more than twice.
+/// There is no reader where the lines are not right. Answers whether the source goes on. Lines that
+/// are not there yet are read anew when twice as much is held, so on the whole no more than twice.
 fn read_front<R: Source>(
     alloc: Global,
     source: &mut R,
@@ -112,7 +111,6 @@ fn read_whole<R: Source>(
     Ok(found)
 }
 
-/// Reads a binary file of which the window has the first bytes.
 fn read_binary_file<R: Source>(
     alloc: Global,
     source: &mut R,
@@ -121,7 +119,8 @@ fn read_binary_file<R: Source>(
 ) -> Result<Checked, SourceFault>
     requires source { CanFail (R.past source.old) }
     requires counted { length window + R.bound source.old ≤ 2 ^ 62 }
-    requires binary { (more : List ℕ) → first_word_is binary_word (lines_of (window ++ more)) ≡ true }
+    requires binary { (more : List ℕ)
+        → first_word_is binary_word (lines_of (window ++ more)) ≡ true }
     ensures { (before : Past) → R.past source.old ≡ gave window false before
         → ReadsAs (AnswersFile limits.max_var) result before (R.past source.new) }
 {
@@ -134,8 +133,8 @@ fn read_binary_file<R: Source>(
     Ok(Ordered::from_well_ordered(circuit).into_checked())
 }
 
-/// Reads the source to its end, as a file of either kind within these limits, and keeps what is wanted of the check
-/// later. Only a part of it is held at a time.
+/// Reads the source to its end, as a file of either kind within these limits, and keeps what is
+/// wanted of the check later. Only a part of it is held at a time.
 pub fn read_source<R: Source>(
     alloc: Global,
     source: &mut R,

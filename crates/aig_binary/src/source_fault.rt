@@ -12,7 +12,8 @@ pub enum SourceFault {
     /// The source failed, or an allocation did, before all bytes were read.
     #[error("{0}")]
     Source(ReadError),
-    /// The bytes are not the file of a circuit, or an allocation failed while they were read or checked.
+    /// The bytes are not the file of a circuit, or an allocation failed while they were read or
+    /// checked.
     #[error("{0}")]
     File(ReadFault),
 }

@@ -20,7 +20,6 @@ use aig_text::{
     reset_number,
 };
 
-/// The line of a latch: its next literal, and its reset where that is not 0.
 #[inline(always)]
 fn put_next<W: Sink>(output: &mut Output<W>, latch: Latch)
     ensures { Put output.old output.new (row_text 0 (next_row latch)) }
@@ -32,16 +31,15 @@ fn put_next<W: Sink>(output: &mut Output<W>, latch: Latch)
     }
 }
 
-/// The line of each latch.
 fn put_nexts<W: Sink>(output: &mut Output<W>, latches: &[Latch])
-    ensures { Put output.old output.new (flat_map (λ (l : LatchRecord). row_text 0 (next_row l)) latches.now) }
+    ensures { Put output.old output.new (flat_map
+        (λ (l : LatchRecord). row_text 0 (next_row l)) latches.now) }
 {
     for latch in latches {
         put_next(output, *latch);
     }
 }
 
-/// The numbered lines.
 fn put_lines<W: Sink>(output: &mut Output<W>, circuit: &Circuit)
     ensures { Put output.old output.new (flat_map line_text (binary_rows_of circuit.now)) }
 {
@@ -52,7 +50,6 @@ fn put_lines<W: Sink>(output: &mut Output<W>, circuit: &Circuit)
 /// How many gates are written to one piece of the text at most.
 const PIECE: usize = 64;
 
-/// Writes gates by their deltas from the first byte on, and answers where they end.
 #[inline(never)]
 fn write_gates(bytes: &mut [u8], gates: &[Gate]) -> usize
     requires deltas { All HasDeltas gates.now }
@@ -69,8 +66,8 @@ fn write_gates(bytes: &mut [u8], gates: &[Gate]) -> usize
     end
 }
 
-/// Puts gates by their deltas: those of a binary file, or some of them. They are written piece by piece, where how far a
-/// piece goes need not be looked up at each gate.
+/// Puts gates by their deltas: those of a binary file, or some of them. They are written piece by
+/// piece, where how far a piece goes need not be looked up at each gate.
 pub fn put_gates<W: Sink>(output: &mut Output<W>, gates: &[Gate])
     requires { All HasDeltas gates.now }
     ensures { Put output.old output.new (flat_map gate_text gates.now) }
@@ -85,7 +82,6 @@ pub fn put_gates<W: Sink>(output: &mut Output<W>, gates: &[Gate])
     }
 }
 
-/// The whole text.
 fn put_text<W: Sink>(output: &mut Output<W>, circuit: &Circuit)
     requires within { IsWithinLimits circuit.now }
     requires ordered { IsInBinaryOrder circuit.now }
@@ -97,12 +93,14 @@ fn put_text<W: Sink>(output: &mut Output<W>, circuit: &Circuit)
     put_tail(output, circuit);
 }
 
-/// Writes the canonical binary text of a circuit, in slices of at most 8,192 bytes. It takes no memory and fails
-/// only where the sink fails; the sink then took a beginning of the text, and is not called again.
+/// Writes the canonical binary text of a circuit, in slices of at most 8,192 bytes. It takes no
+/// memory and fails only where the sink fails; the sink then took a beginning of the text, and is
+/// not called again.
 pub fn write_binary<W: Sink>(ordered: &Ordered, sink: &mut W) -> Result<(), WriteFault>
     requires { CanFail (W.past sink.old) }
     ensures ok { OnOk result (W.past sink.new ≡ took (binary_text ordered.now) (W.past sink.old)) }
-    ensures err { OnErr result (TookBeginning (binary_text ordered.now) (W.past sink.old) (W.past sink.new)) }
+    ensures err { OnErr result (TookBeginning (binary_text ordered.now) (W.past sink.old)
+        (W.past sink.new)) }
 {
     let mut output = Output::new(sink);
     put_text(&mut output, ordered.as_checked().circuit());

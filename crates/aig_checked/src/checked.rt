@@ -12,14 +12,14 @@ use aig_topo::Order;
 use std::alloc::Global;
 use std::marker::Model;
 
-/// A circuit that is well formed. `check` makes one of any circuit that is, `from_well_formed` of one that is known to
-/// be.
+/// A circuit that is well formed. `check` makes one of any circuit that is, `from_well_formed` of
+/// one that is known to be.
 #[derive(Drop)]
 pub struct Checked {
     circuit: Circuit,
     /// The least ready order of its gates, where the check had to make it and was to keep it.
     order: Option<Order>,
-    /// Whether it is known to be in binary order, as what a binary file holds: then nobody need look again.
+    /// Whether it is known to be in binary order, as a binary file is: then nobody need look again.
     in_binary_order: bool,
 }
 
@@ -35,12 +35,13 @@ impl Model for Checked {
 
     ghost view = { λ a. a.circuit };
 
-    ghost invariant = { λ a. IsGood a.circuit × IfSome a.order (λ order. IsLeast a.circuit order.list)
+    ghost invariant = { λ a. IsGood a.circuit
+        × IfSome a.order (λ order. IsLeast a.circuit order.list)
         × (a.in_binary_order ≡ true → IsInOrder a.circuit) };
 }
 
 impl Checked {
-    /// A circuit that its maker knows to be well formed: nothing is checked again, and no memory is taken.
+    /// A circuit that its maker knows to be well formed: nothing is checked, no memory is taken.
     pub fn from_well_formed(circuit: Circuit) -> Checked
         requires { IsWellFormed circuit }
         ensures { result ≡ circuit }
@@ -52,7 +53,7 @@ impl Checked {
         }
     }
 
-    /// A circuit that its maker knows to be well formed and in binary order: that it is in order stays known.
+    /// A circuit that its maker knows to be well formed and in binary order, which stays known.
     pub(crate) fn from_well_ordered(circuit: Circuit) -> Checked
         requires well_formed { IsWellFormed circuit }
         requires in_order { IsInBinaryOrder circuit }
@@ -65,7 +66,8 @@ impl Checked {
         }
     }
 
-    /// A circuit that its maker knows to be well formed, and the least ready order of its gates where the maker has it.
+    /// A circuit that its maker knows to be well formed, and the least ready order of its gates
+    /// where the maker has it.
     pub fn with_order(circuit: Circuit, order: Option<Order>) -> Checked
         requires well_formed { IsWellFormed circuit }
         requires least { IfSome order (λ order. IsLeastReadyOrder circuit order.list) }
@@ -85,8 +87,8 @@ impl Checked {
         self.in_binary_order
     }
 
-    /// The least ready order of the gates, if the check had to make it and was to keep it (`check_keeping`): of gates
-    /// that stand in order it makes none.
+    /// The least ready order of the gates, if the check had to make it and was to keep it
+    /// (`check_keeping`): of gates that stand in order it makes none.
     pub fn order(&self) -> Option<&Order>
         ensures { IfSome result (λ order. IsLeastReadyOrder self.now order.now.list) }
     {
@@ -122,7 +124,6 @@ impl Checked {
     }
 }
 
-/// Whether the two circuits list the same outputs, bad states, constraints, justice properties and fairness constraints.
 fn list_the_same(first: &Circuit, second: &Circuit) -> bool
     ensures { result ≡ same_lists first.now second.now }
 {
@@ -133,7 +134,8 @@ fn list_the_same(first: &Circuit, second: &Circuit) -> bool
         && first.fairness == second.fairness
 }
 
-/// Whether the two hold the same circuit: the order of entries and of symbols, the names and the comment too.
+/// Whether the two hold the same circuit: the order of entries and of symbols, the names and the
+/// comment too.
 pub fn same(first: &Checked, second: &Checked) -> bool
     ensures { IsTrue result ↔ (first.now ≡ second.now) }
 {

@@ -34,7 +34,6 @@ pub fn copy_justice(alloc: Global, justice: &Justice) -> Result<Justice, OutOfMe
     })
 }
 
-/// The same circuit in memory of its own.
 pub(crate) fn copy_circuit(circuit: &Circuit) -> Result<Circuit, OutOfMemory>
     ensures { IfOk result (λ copy. copy ≡ circuit.now) }
 {

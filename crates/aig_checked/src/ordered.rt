@@ -1,16 +1,19 @@
 //! Circuits in binary order, and the tests for it.
-ghost use Rattle.std.specs.Prelude.{◌≡◌, ◌↔◌, ◌+◌, ◌^◌, ◌<◌, ◌≤◌, ℕ, length, IsTrue, IsOk, IfOk, IfErr};
+ghost use Rattle.std.specs.Prelude.{◌≡◌, ◌↔◌, ◌+◌, ◌^◌, ◌<◌, ◌≤◌, ℕ};
+ghost use Rattle.std.specs.Prelude.{length, IsTrue, IsOk, IfOk, IfErr};
 ghost use Rattle.aig_circuit.specs.Wellformed.{IsWellFormed, IsWithinLimits};
 ghost use Rattle.aig_checked.specs.BinaryOrder.{IsInBinaryOrder, IsNumberedInOrder};
-ghost use Rattle.aig_checked.specs.Parts.Numbered.{AreFirstInOrder, AreNumbered, AreSectionsInOrder, AreSectionsNumbered};
-ghost use Rattle.aig_checked.specs.Parts.Numbered.{IsGateOf, IsInputOf, IsLatchOf, IsNumberedGateOf};
+ghost use Rattle.aig_checked.specs.Parts.Numbered.{AreFirstInOrder, AreNumbered};
+ghost use Rattle.aig_checked.specs.Parts.Numbered.{AreSectionsInOrder, AreSectionsNumbered};
+ghost use Rattle.aig_checked.specs.Parts.Numbered.{IsGateOf, IsInputOf};
+ghost use Rattle.aig_checked.specs.Parts.Numbered.{IsLatchOf, IsNumberedGateOf};
 
 use crate::checked::Checked;
 use aig_circuit::{Circuit, Gate, Latch, Var};
 use std::marker::Model;
 
-/// A circuit that is well formed and in binary order. `try_from_checked` makes one of any circuit that is,
-/// `from_well_ordered` of one that is known to be.
+/// A circuit that is well formed and in binary order. `try_from_checked` makes one of any circuit
+/// that is, `from_well_ordered` of one that is known to be.
 #[derive(Drop)]
 pub struct Ordered {
     checked: Checked,
@@ -33,7 +36,6 @@ trait Numbered {
     /// Whether it is right for this variable.
     ghost is_right: { ℕ → Self → Type 0 };
 
-    /// Whether it is right for this variable.
     fn is_right_for(&self, variable: u64) -> bool
         ensures { IsTrue result ↔ is_right variable self.now };
 }
@@ -68,7 +70,6 @@ impl Numbered for Gate {
     }
 }
 
-/// Whether the entries of a section are numbered on from this variable.
 fn are_in_order<T: Numbered>(first: u64, items: &[T]) -> bool
     requires { first + length items.now < 2 ^ 64 }
     ensures { IsTrue result ↔ AreNumbered T.is_right first items.now }
@@ -83,7 +84,7 @@ fn are_in_order<T: Numbered>(first: u64, items: &[T]) -> bool
     true
 }
 
-/// Whether a gate defines this variable and is over lower literals, its larger operand first or second.
+/// Whether a gate defines this variable and is over lower literals, the larger first or second.
 #[inline(always)]
 fn is_numbered(gate: &Gate, variable: u64) -> bool
     ensures { IsTrue result ↔ IsNumberedGateOf variable gate.now }
@@ -93,7 +94,6 @@ fn is_numbered(gate: &Gate, variable: u64) -> bool
         && u64::from(gate.right.0) < 2 * variable
 }
 
-/// Whether gates are numbered on from this variable, each over lower literals.
 fn are_gates_numbered(first: u64, gates: &[Gate]) -> bool
     requires { first + length gates.now < 2 ^ 64 }
     ensures { IsTrue result ↔ AreNumbered IsNumberedGateOf first gates.now }
@@ -108,7 +108,6 @@ fn are_gates_numbered(first: u64, gates: &[Gate]) -> bool
     true
 }
 
-/// The variable of the first gate, where inputs and latches are the first variables.
 fn first_gate(circuit: &Circuit) -> u64
     requires { IsWithinLimits circuit.now }
     ensures { result ≡ 1 + length circuit.now.inputs + length circuit.now.latches }
@@ -116,7 +115,7 @@ fn first_gate(circuit: &Circuit) -> u64
     1 + circuit.inputs.len() as u64 + circuit.latches.len() as u64
 }
 
-/// Whether inputs and latches are the first variables of a circuit, and there are as many others as gates.
+/// Whether inputs and latches are the first variables, and there are as many others as gates.
 fn are_first_in_order(circuit: &Circuit) -> bool
     requires { IsWithinLimits circuit.now }
     ensures { IsTrue result ↔ AreFirstInOrder circuit.now }
@@ -126,7 +125,6 @@ fn are_first_in_order(circuit: &Circuit) -> bool
         && are_in_order(1 + circuit.inputs.len() as u64, circuit.latches.as_slice())
 }
 
-/// Whether the sections of a circuit are in binary order.
 fn are_sections_in_order(circuit: &Circuit) -> bool
     requires { IsWithinLimits circuit.now }
     ensures { IsTrue result ↔ AreSectionsInOrder circuit.now }
@@ -134,7 +132,7 @@ fn are_sections_in_order(circuit: &Circuit) -> bool
     are_first_in_order(circuit) && are_in_order(first_gate(circuit), circuit.gates.as_slice())
 }
 
-/// Whether they are, but for the order of operands.
+/// As `are_sections_in_order`, but for the order of operands.
 fn are_sections_numbered(circuit: &Circuit) -> bool
     requires { IsWithinLimits circuit.now }
     ensures { IsTrue result ↔ AreSectionsNumbered circuit.now }
@@ -142,17 +140,18 @@ fn are_sections_numbered(circuit: &Circuit) -> bool
     are_first_in_order(circuit) && are_gates_numbered(first_gate(circuit), circuit.gates.as_slice())
 }
 
-/// Whether a circuit is in binary order. It is gone over once, where that is not known yet, and no memory is taken.
-#[tactic(auto, using(crate::proofs::Numbered::Sections::by_sections, crate::proofs::Numbered::Sections::all_sections))]
+/// Whether a circuit is in binary order. It is gone over once, where that is not known yet, and no
+/// memory is taken.
+#[tactic(auto, using(crate::proofs::Numbered::by_sections, crate::proofs::Numbered::all_sections))]
 pub fn is_in_binary_order(checked: &Checked) -> bool
     ensures { IsTrue result ↔ IsInBinaryOrder checked.now }
 {
     checked.is_known_in_order() || are_sections_in_order(checked.circuit())
 }
 
-/// Whether a circuit is in binary order, but for gates whose larger operand comes second, as many files are. It is gone
-/// over once, and no memory is taken.
-#[tactic(auto, using(crate::proofs::Numbered::Sections::by_numbered, crate::proofs::Numbered::Sections::all_numbered))]
+/// Whether a circuit is in binary order, but for gates whose larger operand comes second, as many
+/// files are. It is gone over once, and no memory is taken.
+#[tactic(auto, using(crate::proofs::Numbered::by_numbered, crate::proofs::Numbered::all_numbered))]
 pub fn is_numbered_in_order(checked: &Checked) -> bool
     ensures { IsTrue result ↔ IsNumberedInOrder checked.now }
 {
@@ -160,8 +159,8 @@ pub fn is_numbered_in_order(checked: &Checked) -> bool
 }
 
 impl Ordered {
-    /// A circuit that its maker knows to be well formed and in binary order: nothing is checked again, and no memory is
-    /// taken.
+    /// A circuit that its maker knows to be well formed and in binary order: nothing is checked
+    /// again, and no memory is taken.
     pub fn from_well_ordered(circuit: Circuit) -> Ordered
         requires well_formed { IsWellFormed circuit }
         requires in_order { IsInBinaryOrder circuit }
@@ -172,8 +171,8 @@ impl Ordered {
         }
     }
 
-    /// The circuit as one in binary order, or else as it came. It is gone over once, where its order is not known yet, and
-    /// no memory is taken.
+    /// The circuit as one in binary order, or else as it came. It is gone over once, where its
+    /// order is not known yet, and no memory is taken.
     pub fn try_from_checked(checked: Checked) -> Result<Ordered, Checked>
         ensures ordered { IsOk result ↔ IsInBinaryOrder checked }
         ensures ok { IfOk result (λ ordered. ordered ≡ checked) }
@@ -195,8 +194,8 @@ impl Ordered {
         &self.checked
     }
 
-    /// The circuit, of which the type no longer says that it is in binary order. `is_in_binary_order` need not look again
-    /// at one that `from_well_ordered` made.
+    /// The circuit, of which the type no longer says that it is in binary order.
+    /// `is_in_binary_order` need not look again at one that `from_well_ordered` made.
     pub fn into_checked(self) -> Checked
         ensures value { result ≡ self }
         ensures ordered { IsInBinaryOrder self }

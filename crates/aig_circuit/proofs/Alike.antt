@@ -1,27 +1,36 @@
--- what `==` of circuits and of their parts tells
-use Rattle.std.proofs.Common.{◌≡◌, ℕ, Bool, List, ap, refl, subst, Option, None, Some, nat_eq}
-use mathlib.Core.Bool.{◌&&◌}
-use Rattle.std.specs.Bool.{Decides}
+-- Latches and gates made of what they hold, and what `==` of circuits and of their parts tells.
+use Rattle.std.proofs.Common.{◌≡◌, ◌&&◌, ℕ, ap₂, Bool, List, ap, refl, subst, Option, None, Some, nat_eq, Decides}
 use Rattle.std.specs.Option.{option_eq}
 use Rattle.std.specs.Cmp.Lexicographic.{pointwise}
 use Rattle.std.proofs.lemmas.Bool.Decides.{Decides-at, Decides-eqb, Decides-and, Decides-like}
 use Rattle.std.proofs.lemmas.Slice.Eq.{slice_eq-Decides, bytes_eq-Decides}
 use Rattle.aig_circuit.specs.declared.circuit.Latch.{Latch}
+use Rattle.aig_circuit.specs.declared.circuit.Gate.{Gate}
 use Rattle.aig_circuit.specs.declared.circuit.Reset.{Reset}
 use Rattle.aig_circuit.specs.declared.circuit.Reset.TheVariants.{Zero, One, Uninit}
 use Rattle.aig_circuit.specs.contracts.circuit.ResetPartialEq
 use Rattle.aig_circuit.specs.declared.circuit.Justice.{Justice}
 use Rattle.aig_circuit.specs.Parts.SameLists.{same_lists, same_numbers}
-use Rattle.aig_circuit.specs.declared.circuit.Gate.{Gate}
 use Rattle.aig_circuit.specs.declared.circuit.Kind.{Kind}
-use Rattle.aig_circuit.specs.declared.circuit.Kind.TheVariants.{Input, Latch as LatchKind, Output, Bad}
-use Rattle.aig_circuit.specs.declared.circuit.Kind.TheVariants.{Constraint, Justice as JusticeKind, Fairness}
+use Rattle.aig_circuit.specs.declared.circuit.Kind.TheVariants.{Input, Latch as LatchKind, Output, Bad, Constraint}
+use Rattle.aig_circuit.specs.declared.circuit.Kind.TheVariants.{Justice as JusticeKind, Fairness}
 use Rattle.aig_circuit.specs.declared.circuit.Symbol.{Symbol}
 use Rattle.aig_circuit.specs.contracts.circuit.KindPartialEq
 use Rattle.aig_circuit.specs.declared.circuit.Circuit.{Circuit}
 use Rattle.aig_circuit.specs.contracts.circuit.LatchPartialEq
 use Rattle.aig_circuit.specs.contracts.circuit.GatePartialEq
 use Rattle.aig_circuit.specs.contracts.circuit.SymbolPartialEq
+
+abbrev pub latch : ℕ → ℕ → Reset → Latch
+latch var next reset = record { var = var; next = next; reset = reset }
+
+abbrev pub gate : ℕ → ℕ → ℕ → Gate
+gate var left right = record { var = var; left = left; right = right }
+
+pub gates_alike : {v w l m r s : ℕ} → v ≡ w → l ≡ m → r ≡ s → gate v l r ≡ gate w m s
+gates_alike v l r = ap₂ (λ f x. f x) (ap₂ gate v l) r
+
+-- what `==` of circuits and of their parts tells
 
 -- what `==` tells of two latches, gates, kinds, resets and symbols
 abbrev latch_eq : Latch → Latch → Bool

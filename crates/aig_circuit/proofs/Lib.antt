@@ -1,4 +1,3 @@
 pub mod Alike
-pub mod Makers
 pub mod NameRows
 pub mod Checking

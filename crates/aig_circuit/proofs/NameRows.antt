@@ -1,9 +1,8 @@
 -- Rows of symbols, whose lines stand one behind the other: what bytes behind them change, and one row more.
-use Rattle.std.proofs.Common.{◌≡◌, ◌≤◌, ◌-◌, ℕ, List, [], ◌∷◌, ◌++◌, length, drop, take, ap, ap₂, ◌∙◌, refl, arith}
-use Rattle.std.proofs.Common.{◌+◌, append_assoc, append-nil, decimal, sym}
-use Rattle.std.specs.List.{flat_map, slice_range}
-use Rattle.std.proofs.lemmas.List.{drop-append-le, take-append-le, length-drop, length-append, map-append}
-use Rattle.std.proofs.lemmas.List.{drop_at, take_all}
+use Rattle.std.proofs.Common.{◌≡◌, ◌≤◌, ◌-◌, ◌∷◌, ◌++◌, ◌∙◌, ◌+◌, ℕ, List, [], length, drop, take, ap, ap₂, refl, arith}
+use Rattle.std.proofs.Common.{append_assoc, append-nil, decimal, sym, flat_map, slice_range, length-drop, length-append}
+use Rattle.std.proofs.Common.{drop_at, take_all}
+use Rattle.std.proofs.lemmas.List.{drop-append-le, take-append-le, map-append}
 use Rattle.std.proofs.lemmas.Grind.{flat_map-append}
 use Rattle.aig_circuit.specs.declared.circuit.Kind.{Kind}
 use Rattle.aig_circuit.specs.declared.circuit.Symbol.{Symbol}

@@ -3,8 +3,8 @@ use crate::listing::Listing;
 use crate::literal::{Lit, Var};
 use crate::symbols::Symbols;
 
-/// The largest variable index, and the largest count of anything that a circuit lists: 2^31 - 1, so that each literal
-/// fits into 32 bits.
+/// The largest variable index, and the largest count of anything that a circuit lists: 2^31 - 1, so
+/// that each literal fits into 32 bits.
 pub const LARGEST: u32 = 2_147_483_647;
 
 /// What a latch starts at (AIGER 1.9).
@@ -18,7 +18,8 @@ pub enum Reset {
     Uninit,
 }
 
-/// A latch: a variable that holds its state, the literal whose value it takes in the next step, and what it starts at.
+/// A latch: a variable that holds its state, the literal whose value it takes in the next step, and
+/// what it starts at.
 #[derive(Clone, Copy, PartialEq)]
 pub struct Latch {
     /// The variable that holds the state.
@@ -59,8 +60,9 @@ pub enum Kind {
     Fairness,
 }
 
-/// The name of what stands at a position among its kind, counted from 0. To contracts a circuit's symbols are a list of
-/// these; the circuit itself keeps the lines of all in one list of bytes (`Symbols`).
+/// The name of what stands at a position among its kind, counted from 0. To contracts a circuit's
+/// symbols are a list of these; the circuit itself keeps the lines of all in one list of bytes
+/// (`Symbols`).
 #[derive(Clone, PartialEq, Drop)]
 pub struct Symbol {
     /// What it names.
@@ -71,8 +73,8 @@ pub struct Symbol {
     pub name: Listing<u8>,
 }
 
-/// The justice properties (AIGER 1.9): each is a list of literals. The literals of all properties stand in one list, one
-/// property behind the other, and the sizes tell where each ends.
+/// The justice properties (AIGER 1.9): each is a list of literals. The literals of all properties
+/// stand in one list, one property behind the other, and the sizes tell where each ends.
 #[derive(Clone, PartialEq, Drop)]
 pub struct Justice {
     /// How many literals each property has.
@@ -81,7 +83,8 @@ pub struct Justice {
     pub literals: Listing<Lit>,
 }
 
-/// What an AIGER file says, in the order of the file. A circuit may hold anything: `in_form` and `check` check it.
+/// What an AIGER file says, in the order of the file. A circuit may hold anything: `in_form` and
+/// `check` check it.
 #[derive(Clone, PartialEq, Drop)]
 pub struct Circuit {
     /// The largest variable index; indices up to it may be unused.
@@ -94,7 +97,7 @@ pub struct Circuit {
     pub outputs: Listing<Lit>,
     /// The literal of each bad state: one that is not to be reached (AIGER 1.9).
     pub bad: Listing<Lit>,
-    /// The literal of each invariant constraint: only runs in which it always holds count (AIGER 1.9).
+    /// The literal of each invariant constraint: only runs where it always holds count (AIGER 1.9).
     pub constraints: Listing<Lit>,
     /// The justice properties.
     pub justice: Justice,

@@ -26,7 +26,8 @@ pub trait Entry {
 
     /// The literals that it uses.
     fn uses(&self) -> Uses
-        ensures { option_to_list result.first ++ (option_to_list result.second ++ result.others.now) ≡ used self.now };
+        ensures { option_to_list result.first ++ (option_to_list result.second ++ result.others.now)
+            ≡ used self.now };
 }
 
 impl Entry for Var {

@@ -3,7 +3,8 @@ ghost use Rattle.std.specs.Prelude.{◌≡◌, ◌↔◌, ◌^◌, ◌<◌, ◌�
 ghost use Rattle.std.specs.List.{All, AllByRecursion, sum};
 ghost use Rattle.aig_circuit.specs.declared.circuit.Symbol.{Symbol};
 ghost use Rattle.aig_circuit.specs.Wellformed.{IsWithinLimits, IsVariableUpTo, count_of};
-ghost use Rattle.aig_circuit.specs.Wellformed.{HasGoodSymbols, NameApart, NameTheSame, IsAmong, line_feed};
+ghost use Rattle.aig_circuit.specs.Wellformed.{HasGoodSymbols, NameApart};
+ghost use Rattle.aig_circuit.specs.Wellformed.{NameTheSame, IsAmong, line_feed};
 ghost use Rattle.aig_circuit.specs.Wellformed.{literal_lists};
 ghost use Rattle.aig_circuit.specs.Form.{IsInForm, HasEntriesInRange, AreInRange, IsLiteralUpTo};
 ghost use Rattle.aig_circuit.specs.Parts.SymbolOrder.{place_of, IsRisingFrom};
@@ -14,16 +15,15 @@ use crate::listing::Listing;
 use crate::literal::{Lit, Var};
 use crate::symbols::{BorrowedSymbol, EachSymbol, Symbols};
 
-/// Whether a section is short enough for a file.
 fn is_short_enough<T>(items: &Listing<T>) -> bool
     ensures { IsTrue result ↔ (length items.now ≤ LARGEST) }
 {
     items.len() <= LARGEST as usize
 }
 
-/// Whether each of these lists is short enough for a file.
 fn are_short_enough(lists: &[&[Lit]]) -> bool
-    ensures { IsTrue result ↔ AllByRecursion (λ (ls : List ℕ). length ls ≤ LARGEST) (map (λ ls. ls.now) lists.now) }
+    ensures { IsTrue result ↔ AllByRecursion (λ (ls : List ℕ). length ls ≤ LARGEST)
+        (map (λ ls. ls.now) lists.now) }
 {
     for list in lists {
         if list.len() > LARGEST as usize {
@@ -33,7 +33,6 @@ fn are_short_enough(lists: &[&[Lit]]) -> bool
     true
 }
 
-/// The sum of sizes.
 fn sum_of_sizes(sizes: &[u32]) -> u64
     requires { length sizes.now ≤ LARGEST }
     ensures { result ≡ sum sizes.now }
@@ -45,21 +44,18 @@ fn sum_of_sizes(sizes: &[u32]) -> u64
     all
 }
 
-/// Whether a circuit with this largest index may define the variable.
 fn is_variable_up_to(max_var: u32, variable: Var) -> bool
     ensures { IsTrue result ↔ IsVariableUpTo max_var variable }
 {
     1 <= variable.0 && variable.0 <= max_var
 }
 
-/// Whether a circuit with this largest index may use the literal.
 fn is_literal_up_to(max_var: u32, literal: Lit) -> bool
     ensures { IsTrue result ↔ IsLiteralUpTo max_var literal }
 {
     literal.var().0 <= max_var
 }
 
-/// Whether a circuit with this largest index may use all of these literals.
 fn are_literals_up_to(max_var: u32, literals: &[Lit]) -> bool
     ensures { IsTrue result ↔ AllByRecursion (IsLiteralUpTo max_var) literals.now }
 {
@@ -71,9 +67,9 @@ fn are_literals_up_to(max_var: u32, literals: &[Lit]) -> bool
     true
 }
 
-/// Whether a circuit with this largest index may use all literals of these lists.
 fn are_lists_up_to(max_var: u32, lists: &[&[Lit]]) -> bool
-    ensures { IsTrue result ↔ AllByRecursion (AllByRecursion (IsLiteralUpTo max_var)) (map (λ ls. ls.now) lists.now) }
+    ensures { IsTrue result ↔ AllByRecursion (AllByRecursion (IsLiteralUpTo max_var))
+        (map (λ ls. ls.now) lists.now) }
 {
     for list in lists {
         if !are_literals_up_to(max_var, list) {
@@ -83,7 +79,6 @@ fn are_lists_up_to(max_var: u32, lists: &[&[Lit]]) -> bool
     true
 }
 
-/// Whether what an entry defines and uses is in range.
 fn is_in_range<T: Entry>(max_var: u32, entry: &T) -> bool
     ensures { IsTrue result ↔ AreInRange max_var (T.defined entry.now) (T.used entry.now) }
 {
@@ -100,21 +95,19 @@ fn is_in_range<T: Entry>(max_var: u32, entry: &T) -> bool
         && are_literals_up_to(max_var, uses.others)
 }
 
-/// Whether what each entry of a section defines and uses is in range.
 fn are_in_range<T: Entry>(max_var: u32, entries: &Listing<T>) -> bool
     ensures { IsTrue result ↔ All (λ e. AreInRange max_var (T.defined e) (T.used e)) entries.now }
 {
     entries.iter().all(|entry| is_in_range(max_var, entry))
 }
 
-/// Whether a name stands in one line.
 fn is_one_line(name: &[u8]) -> bool
     ensures { IsTrue result ↔ ¬ IsAmong line_feed name.now }
 {
     !name.contains(&b'\n')
 }
 
-/// A number that rises along the symbols of a file as they usually stand: by kind, then by position.
+/// A number that rises along the symbols as they usually stand: by kind, then by position.
 fn place_of(symbol: &BorrowedSymbol) -> u64
     ensures place { result ≡ place_of symbol.now }
     ensures below { result < 2 ^ 35 }
@@ -147,21 +140,18 @@ fn are_in_order(symbols: &Symbols) -> bool
     true
 }
 
-/// Whether two symbols name the same thing.
 fn name_the_same(first: &BorrowedSymbol, second: &BorrowedSymbol) -> bool
     ensures { IsTrue result ↔ NameTheSame first.now second.now }
 {
     first.kind == second.kind && first.position == second.position
 }
 
-/// Whether no other symbol names what the first does.
 fn is_named_once(first: &BorrowedSymbol, mut others: EachSymbol) -> bool
     ensures { IsTrue result ↔ All (λ other. ¬ NameTheSame first.now other) others.entry }
 {
     others.all(|other| !name_the_same(first, &other))
 }
 
-/// Whether nothing is named twice. It compares all pairs.
 fn are_pairs_apart(symbols: &Symbols) -> bool
     ensures { IsTrue result ↔ NameApart symbols.now }
 {
@@ -174,8 +164,8 @@ fn are_pairs_apart(symbols: &Symbols) -> bool
     true
 }
 
-/// Whether nothing is named twice. Symbols in the usual order are checked in one pass; in any other order all pairs are
-/// compared, since no memory may be taken.
+/// Symbols in the usual order are checked in one pass; in any other order all pairs are compared,
+/// since no memory may be taken.
 fn are_apart(symbols: &Symbols) -> bool
     ensures { IsTrue result ↔ NameApart symbols.now }
 {
@@ -183,7 +173,7 @@ fn are_apart(symbols: &Symbols) -> bool
 }
 
 impl Circuit {
-    /// The lists of literals that a circuit has beside its latches and gates, in the order of a file.
+    /// The lists of literals beside latches and gates, in the order of a file.
     pub fn literal_lists(&self) -> [&[Lit]; 5]
         ensures { map (λ ls. ls.now) result ≡ literal_lists self.now }
     {
@@ -213,7 +203,6 @@ impl Circuit {
             && sum_of_sizes(self.justice.sizes.as_slice()) == self.justice.literals.len() as u64
     }
 
-    /// Whether the largest index and all counts are small enough for a file.
     fn is_within_limits(&self) -> bool
         ensures { IsTrue result ↔ IsWithinLimits self.now }
     {
@@ -225,7 +214,6 @@ impl Circuit {
             && self.has_sizes_of_justice()
     }
 
-    /// Whether each literal of the lists beside latches and gates is in range.
     fn has_lists_in_range(&self) -> bool
         ensures { IsTrue result ↔ AllByRecursion (AllByRecursion (IsLiteralUpTo self.now.max_var))
             (literal_lists self.now) }
@@ -233,7 +221,6 @@ impl Circuit {
         are_lists_up_to(self.max_var, &self.literal_lists())
     }
 
-    /// Whether each variable that is defined, and each literal that is used, is in range.
     fn has_entries_in_range(&self) -> bool
         ensures { IsTrue result ↔ HasEntriesInRange self.now }
     {
@@ -243,7 +230,6 @@ impl Circuit {
             && self.has_lists_in_range()
     }
 
-    /// Whether the symbol names something that is there.
     fn has_place(&self, symbol: &BorrowedSymbol) -> bool
         ensures { IsTrue result ↔ (symbol.now.position < count_of self.now symbol.now.kind) }
     {
@@ -259,31 +245,32 @@ impl Circuit {
         (symbol.position as usize) < count
     }
 
-    /// Whether each symbol names something that is there.
     fn has_places(&self) -> bool
-        ensures { IsTrue result ↔ All (λ (s : Symbol). s.position < count_of self.now s.kind) self.now.symbols }
+        ensures { IsTrue result
+            ↔ All (λ (s : Symbol). s.position < count_of self.now s.kind) self.now.symbols }
     {
         self.symbols.iter().all(|symbol| self.has_place(&symbol))
     }
 
     /// Whether each symbol's name stands in one line.
     fn has_lines(&self) -> bool
-        ensures { IsTrue result ↔ All (λ (s : Symbol). ¬ IsAmong line_feed s.name) self.now.symbols }
+        ensures { IsTrue result
+            ↔ All (λ (s : Symbol). ¬ IsAmong line_feed s.name) self.now.symbols }
     {
         self.symbols.iter().all(|symbol| is_one_line(symbol.name))
     }
 
-    /// Whether each symbol names something that is there, in one line, and nothing is named twice.
     fn has_good_symbols(&self) -> bool
         ensures { IsTrue result ↔ HasGoodSymbols self.now }
     {
         self.has_places() && self.has_lines() && are_apart(&self.symbols)
     }
 
-    /// Whether the circuit is in form: the limits hold, variables and literals are in range, and symbols are good.
-    /// Definitions and uses are not compared. It takes no memory. The time is linear in the circuit's size, unless the
-    /// symbols are not sorted by kind and position: then all pairs of them are compared.
-    #[tactic(auto, using(crate::proofs::Checking::InForm::by_parts, crate::proofs::Checking::InForm::in_range))]
+    /// Whether the circuit is in form: the limits hold, variables and literals are in range, and
+    /// symbols are good. Definitions and uses are not compared. It takes no memory. The time is
+    /// linear in the circuit's size, unless the symbols are not sorted by kind and position: then
+    /// all pairs of them are compared.
+    #[tactic(auto, using(crate::proofs::Checking::by_parts, crate::proofs::Checking::in_range))]
     pub fn in_form(&self) -> bool
         ensures { IsTrue result ↔ IsInForm self.now }
     {

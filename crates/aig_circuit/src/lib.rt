@@ -1,8 +1,10 @@
-//! What an AIGER file says, as data: literals, circuits and symbols, and when a circuit is in form and well formed.
+//! What an AIGER file says, as data: literals, circuits and symbols, and when a circuit is in form
+//! and well formed.
 //!
-//! Others call `Circuit::in_form`, which checks part by part what can be seen without comparing definitions and uses;
-//! `Symbols` and `Listing`, of which circuits are made; and `Val`, the three values. `aig_core` reaches all of this by
-//! name, but for `Entry`, `Uses`, `literal_lists` and `definition_count`, which the crates below it call.
+//! Others call `Circuit::in_form`, which checks part by part what can be seen without comparing
+//! definitions and uses; `Symbols` and `Listing`, of which circuits are made; and `Val`, the three
+//! values. `aig_core` reaches all of this by name, but for `Entry`, `Uses`, `literal_lists` and
+//! `definition_count`, which the crates below it call.
 //!
 //! The definition that matters most is `IsWellFormed`.
 #![tactic(auto)]

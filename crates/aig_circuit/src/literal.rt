@@ -19,7 +19,7 @@ impl Model for Var {
     ghost inverse = { λ n. record { 0 = n } };
 }
 
-/// A literal: twice a variable's index, and one more where the variable is negated. 0 is FALSE, 1 is TRUE.
+/// A literal: twice a variable's index, plus one where it is negated. 0 is FALSE, 1 is TRUE.
 #[derive(Clone, Copy, Debug, PartialEq, Eq)]
 pub struct Lit(pub u32);
 

@@ -1,6 +1,8 @@
-//! The symbols of a circuit. They are kept as the text that a file has of them: their lines stand in one list of bytes,
-//! one behind the other, so no name has memory of its own, and all are written at once.
-ghost use Rattle.std.specs.Prelude.{◌≡◌, [], ◌∷◌, ◌++◌, length, All, Contains, IfNone, IfOk, IfSome, OnOk, OnErr};
+//! The symbols of a circuit. They are kept as the text that a file has of them: their lines stand
+//! in one list of bytes, one behind the other, so no name has memory of its own, and all are
+//! written at once.
+ghost use Rattle.std.specs.Prelude.{◌≡◌, [], ◌∷◌, ◌++◌, length, All, Contains};
+ghost use Rattle.std.specs.Prelude.{IfNone, IfOk, IfSome, OnOk, OnErr};
 ghost use Rattle.std.specs.List.{flat_map};
 ghost use Rattle.std.specs.Cmp.Lexicographic.{pointwise, lists_per};
 ghost use Rattle.std.specs.Iterator.{YieldsFirst, item_count};
@@ -24,7 +26,7 @@ struct StoredSymbol {
     end: usize,
 }
 
-/// Symbols, in the order of a file. To a contract they are the list of them, wherever their lines stand.
+/// Symbols, in the order of a file: to a contract the list of them, wherever their lines stand.
 #[derive(Drop)]
 pub struct Symbols {
     /// The lines in canonical spelling, one behind the other.
@@ -74,7 +76,7 @@ impl<'a> PartialEq for BorrowedSymbol<'a> {
     }
 }
 
-/// Each symbol of a list, in its order. To a contract it is the list of those that are still to come.
+/// Each symbol of a list, in its order: to a contract the list of those that are still to come.
 #[derive(Drop)]
 pub struct EachSymbol<'a> {
     bytes: &'a [u8],
@@ -124,7 +126,6 @@ impl<'a> Iterator for EachSymbol<'a> {
     }
 }
 
-/// The letter that a symbol of this kind begins with.
 fn letter(kind: Kind) -> &'static [u8]
     ensures { result.now ≡ kind_letter kind }
 {
@@ -139,7 +140,6 @@ fn letter(kind: Kind) -> &'static [u8]
     }
 }
 
-/// The line of a symbol in canonical spelling.
 fn line_of(alloc: Global, symbol: &BorrowedSymbol) -> Result<Vec<u8>, AllocError>
     ensures { IfOk result (λ line. line.items ≡ symbol_text symbol.now) }
 {
@@ -180,8 +180,9 @@ impl Symbols {
         }
     }
 
-    /// The name of what stands at this position among its kind, counted from 0; `None` where no symbol is for it. In a
-    /// circuit in form there is one at most. The symbols are looked at one after the other.
+    /// The name of what stands at this position among its kind, counted from 0; `None` where no
+    /// symbol is for it. In a circuit in form there is one at most. The symbols are looked at one
+    /// after the other.
     pub fn name_of(&self, kind: Kind, position: u32) -> Option<&[u8]>
         ensures named { IfSome result (λ name. Contains self.now
             (record { kind = kind; position = position; name = name.now })) }
@@ -209,8 +210,8 @@ impl Symbols {
         self.push_line(symbol, line.as_slice())
     }
 
-    /// Adds a symbol at the end, of which this is the line in canonical spelling, with its line feed. If an allocation
-    /// fails, the symbols stay as they are.
+    /// Adds a symbol at the end, of which this is the line in canonical spelling, with its line
+    /// feed. If an allocation fails, the symbols stay as they are.
     #[inline(always)]
     pub fn push_line(&mut self, symbol: &BorrowedSymbol, line: &[u8]) -> Result<(), AllocError>
         requires { line.now ≡ symbol_text symbol.now }

@@ -1,7 +1,7 @@
 -- Circuits that start in a given state: they are as well formed, and their traces are those from this state.
-use Rattle.std.proofs.Common.{◌≡◌, ◌≤◌, ◌<◌, ◌++◌, ◌∙◌, ℕ, zero, suc, List, [], ◌∷◌, ap, length, map, refl, subst, sym}
-use Rattle.std.proofs.Common.{arith, min, slice_index_or, slice_set, take}
-use Rattle.std.specs.List.{AllByRecursion, AllZip, concat, flat_map}
+use Rattle.std.proofs.Common.{◌≡◌, ◌≤◌, ◌<◌, ◌++◌, ◌∙◌, ◌∷◌, ℕ, zero, suc, List, [], ap, length, map, refl, subst, sym}
+use Rattle.std.proofs.Common.{arith, min, slice_index_or, slice_set, take, flat_map}
+use Rattle.std.specs.List.{AllByRecursion, AllZip, concat}
 use Rattle.aig_circuit.specs.declared.circuit.Circuit.{Circuit}
 use Rattle.aig_circuit.specs.declared.circuit.Gate.{Gate}
 use Rattle.aig_circuit.specs.declared.circuit.Kind.{Kind}
@@ -11,14 +11,13 @@ use Rattle.aig_circuit.specs.declared.circuit.Reset.{Reset}
 use Rattle.aig_circuit.specs.declared.circuit.Symbol.{Symbol}
 use Rattle.aig_circuit.specs.declared.value.Val.{Val}
 use Rattle.aig_circuit.specs.declared.value.Val.TheVariants.{Zero, One, X}
-use Rattle.aig_circuit.specs.Wellformed.{AreDistinct, IsKnown, IsVariableUpTo, IsWellFormed}
-use Rattle.aig_circuit.specs.Wellformed.{count_of, defined_variables}
-use Rattle.aig_circuit.specs.Wellformed.{largest_index, literal_lists, operands, used_literals}
+use Rattle.aig_circuit.specs.Wellformed.{AreDistinct, IsKnown, IsVariableUpTo, IsWellFormed, count_of}
+use Rattle.aig_circuit.specs.Wellformed.{defined_variables, largest_index, literal_lists, operands, used_literals}
 use Rattle.aig_meaning.specs.Meaning.{IsRow, Row, literal_value}
 use Rattle.aig_meaning.specs.Trace.{Follow, IsTrace, MayStartAt, reset_state, reset_value}
 use Rattle.aig_step.specs.TraceText.{character_of, values_text}
 use Rattle.aig_claims.specs.RunDump.{reset_to, started_in, with_resets}
-use Rattle.aig_claims.specs.Started.{reset_of, started_by}
+use Rattle.aig_claims.specs.Started.{value_or_x}
 
 -- nothing but the resets of the latches is changed
 same_vars : (rs : List Reset) (ls : List Latch)
@@ -102,18 +101,15 @@ module _ (c : Circuit) (rs : List Reset) where
     },
   )
 
--- a character tells the reset to its value
-same_reset : (v : Val) → reset_of (character_of v) ≡ reset_to v
-same_reset Zero = refl
-same_reset One = refl
-same_reset X = refl
+-- the characters of values stand for them
+same_value : (v : Val) → value_or_x (character_of v) ≡ v
+same_value Zero = refl
+same_value One = refl
+same_value X = refl
 
-by_text : (vs : List Val) → map reset_of (values_text vs) ≡ map reset_to vs
-by_text [] = refl
-by_text (v ∷ vs) = rw (same_reset v) (ap (λ rs. reset_to v ∷ rs) (by_text vs))
-
-pub started_by_text : (first : List Val) (c : Circuit) → started_by (values_text first) c ≡ started_in first c
-started_by_text first c = ap (λ rs. record c { latches = with_resets rs c.latches }) (by_text first)
+pub values_back : (vs : List Val) → map value_or_x (values_text vs) ≡ vs
+values_back [] = refl
+values_back (v ∷ vs) = rw (same_value v) (ap (λ us. v ∷ us) (values_back vs))
 
 value_again : (v : Val) → reset_value (reset_to v) ≡ v
 value_again Zero = refl
@@ -147,25 +143,29 @@ trace_from c first steps rows may trace = (
       (subst (λ state. Follow (started_in first c) state steps rows) (starts c.latches first may) trace.1),
 )
 
+-- the resets by which latches start at the values of characters
+abbrev pub resets_by : List ℕ → List Reset
+resets_by text = map reset_to (map value_or_x text)
+
 -- the reset of one more latch
 pub next_reset : (text : List ℕ) (i : ℕ) (ls : List Latch) (other : Latch) → i < length text → i < length ls
-    → (let now = with_resets (map reset_of (take i text)) ls in
-    slice_set now i (record (slice_index_or now i other) { reset = reset_of (slice_index_or text i 0) })
-    ≡ with_resets (map reset_of (take (suc i) text)) ls)
+    → (let now = with_resets (resets_by (take i text)) ls in
+    slice_set now i (record (slice_index_or now i other) { reset = reset_to (value_or_x (slice_index_or text i 0)) })
+    ≡ with_resets (resets_by (take (suc i) text)) ls)
 next_reset [] i ls other is_byte is_latch = absurd (omega (arith, is_byte))
 next_reset (b ∷ bs) i [] other is_byte is_latch = absurd (omega (arith, is_latch))
 next_reset (b ∷ bs) zero (l ∷ ls) other is_byte is_latch = refl
 next_reset (b ∷ bs) (suc i) (l ∷ ls) other is_byte is_latch =
-    ap (λ ks. record l { reset = reset_of b } ∷ ks) (next_reset bs i ls other (omega (arith, is_byte))
+    ap (λ ks. record l { reset = reset_to (value_or_x b) } ∷ ks) (next_reset bs i ls other (omega (arith, is_byte))
     (omega (arith, is_latch)))
 
 -- no more resets are needed than there are latches
 pub all_reset : (text : List ℕ) (n : ℕ) (ls : List Latch) → min (length ls) (length text) ≤ n
-    → with_resets (map reset_of (take n text)) ls ≡ with_resets (map reset_of text) ls
+    → with_resets (resets_by (take n text)) ls ≡ with_resets (resets_by text) ls
 all_reset [] zero ls few = refl
 all_reset [] (suc n) ls few = refl
 all_reset (b ∷ bs) zero [] few = refl
 all_reset (b ∷ bs) zero (l ∷ ls) few = absurd (omega (arith, few))
 all_reset (b ∷ bs) (suc n) [] few = refl
 all_reset (b ∷ bs) (suc n) (l ∷ ls) few =
-    ap (λ ks. record l { reset = reset_of b } ∷ ks) (all_reset bs n ls (omega (arith, few)))
+    ap (λ ks. record l { reset = reset_to (value_or_x b) } ∷ ks) (all_reset bs n ls (omega (arith, few)))

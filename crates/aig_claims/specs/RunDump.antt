@@ -1,8 +1,7 @@
--- The dump of the run that a witness file claims, and what came of making it (this project's profile). All bytes of the
--- file are read before it is judged, and all of the dump is made before anything is sent.
+-- The dump of the run that a witness file claims (this project's profile). All bytes of the file are read before it is
+-- judged, and all of the dump is made before anything is sent.
 use Rattle.std.specs.Prelude.{◌≡◌, ◌++◌, ℕ, List, [], ◌∷◌, true, Some, codes, decimal, map}
-use Rattle.aig_io.specs.Devices.{GaveSome, Past}
-use Rattle.aig_io.specs.declared.transfer.ReadError.TheVariants as errors
+use Rattle.aig_io.specs.Runs.{AtEnd, Broken, Ending, IsUnbroken}
 use Rattle.aig_circuit.specs.declared.circuit.Circuit.{Circuit}
 use Rattle.aig_circuit.specs.declared.circuit.Latch.{Latch}
 use Rattle.aig_circuit.specs.declared.circuit.Reset.{Reset}
@@ -14,7 +13,6 @@ use Rattle.aig_meaning.specs.Trace.{IsTrace}
 use Rattle.aig_step.specs.declared.fault.SimFault.{SimFault}
 use Rattle.aig_step.specs.declared.fault.SimFault.TheVariants as sim_faults
 use Rattle.aig_step.specs.declared.trace.Columns.TheVariants.{Properties}
-use Rattle.aig_step.specs.Outcome.{Came}
 use Rattle.aig_step.specs.TraceText.{run_text}
 use Rattle.aig_wave.specs.Wave.{wave_text}
 use Rattle.aig_witness.specs.declared.verdict.Verdict.{Verdict}
@@ -56,20 +54,17 @@ pub record IsWitnessDump (c : Circuit) (claim : Claim) (verdict : Verdict) (text
   pub is_run : IsRunDump c claim run
   pub is_text : text ≡ comment_line verdict ++ run
 
--- The witness file was judged, and this is done with the dump for it.
-pub record JudgedWith (c : Circuit) (verdict : Verdict) (witness witness_now : Past) (IsDone : List ℕ → Type 0) : Type 0
-  where
-    pub judged : Judged c verdict witness witness_now
-    pub text : List ℕ
-    pub is_text : IsWitnessDump c judged.claim verdict text
-    pub done : IsDone text
+-- the file was judged, and this is the dump for it
+pub record JudgedWith (c : Circuit) (verdict : Verdict) (bytes text : List ℕ) : Type 0 where
+  pub judged : Judged c verdict bytes
+  pub is_dump : IsWitnessDump c judged.claim verdict text
 
--- Why there is no dump: memory was refused, while bytes of the witness file came or behind its end; its source failed;
--- or all of it came, and the line of this number is the first wrong one.
-abbrev pub HasNoDump : Circuit → SimFault → (witness witness_now : Past) → Type 0
-HasNoDump c sim_faults.OutOfMemory witness witness_now = GaveSome errors.OutOfMemory witness witness_now
-HasNoDump c (sim_faults.BadStimulus number) witness witness_now = ⊥
-HasNoDump c (sim_faults.BadWitness number) witness witness_now =
-    (bytes : List ℕ) × Came (first_bad_witness_line c) bytes true (Some number) witness witness_now
-HasNoDump c sim_faults.ReadFailed witness witness_now = GaveSome errors.Source witness witness_now
-HasNoDump c sim_faults.WriteFailed witness witness_now = ⊥
+-- Why there is no dump: memory was refused, while bytes came or behind their end; the source failed; or all came, and
+-- the line of this number is the first wrong one.
+abbrev pub HasNoDump : Circuit → SimFault → List ℕ → Ending → Type 0
+HasNoDump c sim_faults.OutOfMemory bytes ending = IsUnbroken ending
+HasNoDump c (sim_faults.BadStimulus number) bytes ending = ⊥
+HasNoDump c (sim_faults.BadWitness number) bytes ending =
+    (ending ≡ AtEnd) × (first_bad_witness_line c bytes true ≡ Some number)
+HasNoDump c sim_faults.ReadFailed bytes ending = ending ≡ Broken
+HasNoDump c sim_faults.WriteFailed bytes ending = ⊥

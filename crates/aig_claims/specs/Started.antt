@@ -1,14 +1,10 @@
--- Resets by characters.
-use Rattle.std.specs.Prelude.{◌==◌, ℕ, List, if◌then◌else◌, map}
-use Rattle.aig_circuit.specs.declared.circuit.Circuit.{Circuit}
-use Rattle.aig_circuit.specs.declared.circuit.Reset.{Reset}
-use Rattle.aig_circuit.specs.declared.circuit.Reset.TheVariants as resets
-use Rattle.aig_claims.specs.RunDump.{with_resets}
+-- Values by characters.
+use Rattle.std.specs.Prelude.{ℕ}
+use Rattle.std.specs.Option.{unwrap_or}
+use Rattle.aig_circuit.specs.declared.value.Val.{Val}
+use Rattle.aig_circuit.specs.declared.value.Val.TheVariants.{X}
+use Rattle.aig_step.specs.Stimulus.{value_of}
 
--- the reset by which a latch starts at the value of this character
-abbrev pub reset_of : ℕ → Reset
-reset_of byte = if byte == 48 then resets.Zero else if byte == 49 then resets.One else resets.Uninit
-
--- the circuit that starts in the state of this text
-abbrev pub started_by : List ℕ → Circuit → Circuit
-started_by text c = record c { latches = with_resets (map reset_of text) c.latches }
+-- the value that a character stands for, and `x` where it stands for none
+abbrev pub value_or_x : ℕ → Val
+value_or_x byte = unwrap_or (value_of byte) X

@@ -1,14 +1,14 @@
 //! Circuits that start in a given state.
 ghost use Rattle.std.specs.Prelude.{◌≡◌, map};
-ghost use Rattle.aig_claims.specs.RunDump.{with_resets};
-ghost use Rattle.aig_claims.specs.Started.{reset_of, started_by};
+ghost use Rattle.aig_claims.specs.RunDump.{reset_to, started_in, with_resets};
+ghost use Rattle.aig_claims.specs.Started.{value_or_x};
 
 use aig_checked::Checked;
 use aig_circuit::{Circuit, Latch, Listing, Reset};
 
 /// The reset by which a latch starts at the value of a character.
 fn reset_of(character: u8) -> Reset
-    ensures { result ≡ reset_of character }
+    ensures { result ≡ reset_to (value_or_x character) }
 {
     match character {
         b'0' => Reset::Zero,
@@ -19,7 +19,7 @@ fn reset_of(character: u8) -> Reset
 
 /// Gives latches the resets by which they start at the values of characters.
 fn reset_by(latches: &mut [Latch], text: &[u8])
-    ensures { latches.new ≡ with_resets (map reset_of text.now) latches.old }
+    ensures { latches.new ≡ with_resets (map reset_to (map value_or_x text.now)) latches.old }
 {
     for i in 0..latches.len().min(text.len()) {
         latches[i].reset = reset_of(text[i]);
@@ -28,7 +28,7 @@ fn reset_by(latches: &mut [Latch], text: &[u8])
 
 /// The circuit that starts in the state of a text. Nothing is checked again, and no memory is taken.
 pub fn started_by(text: &[u8], found: Checked) -> Checked
-    ensures { result ≡ started_by text.now found }
+    ensures { result ≡ started_in (map value_or_x text.now) found }
 {
     let found = found.into_circuit();
     let mut latches = found.latches.into_vec();

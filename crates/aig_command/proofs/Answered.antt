@@ -1,11 +1,9 @@
 -- What is answered where `clap` takes the arguments, and where it does not.
-use Rattle.std.proofs.Common.{◌≡◌, ◌≢◌, ◌∙◌, ◌⊎◌, ◌==◌, Bool, Option, Some, None, Result, Ok, Err, IfOk, IfErr}
-use Rattle.std.proofs.Common.{IfSome, List, [], ◌∷◌, ap, arith, cond, drop, false, inl, inr, is_some, length, refl}
-use Rattle.std.proofs.Common.{subst, sym, true, true≢false}
-use Rattle.std.specs.Prelude.{String, ◌-◌, option_and_then, string_bytes, take}
-use Rattle.std.specs.Global.{Global}
+use Rattle.std.proofs.Common.{◌≡◌, ◌≢◌, ◌∙◌, ◌⊎◌, ◌==◌, ◌∷◌, ◌-◌, Bool, Option, Some, None, Result, Ok, Err, IfOk}
+use Rattle.std.proofs.Common.{IfErr, IfSome, List, [], ap, arith, cond, drop, false, inl, inr, is_some, length, refl}
+use Rattle.std.proofs.Common.{subst, sym, true, true≢false, String, option_and_then, string_bytes, take, Global}
+use Rattle.std.proofs.Common.{take_all}
 use Rattle.std.specs.List.{list_any}
-use Rattle.std.proofs.lemmas.List.{take_all}
 use Rattle.clap.specs.Words.{HasMatchesOf, IsAmong, Kinds, Text, is_simple, is_simple_and_free, subcommand_of}
 use Rattle.clap.specs.Words.{subcommand_rows_of, takes}
 use Rattle.clap.specs.declared.error.kind.ErrorKind.{ErrorKind}

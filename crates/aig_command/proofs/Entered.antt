@@ -1,14 +1,25 @@
--- A command line that `clap` takes has a subcommand that is one of ours.
-use Rattle.std.proofs.Common.{IfSome, rules, ◌≡◌, Bool, Option, Some, None, List, [], ◌∷◌, ap, cond, drop, false}
-use Rattle.std.proofs.Common.{is_some, not, option_map, refl, sym, true, true≢false}
-use Rattle.std.specs.Prelude.{option_and_then}
-use Rattle.std.specs.List.{AllByRecursion, find, list_any}
-use Rattle.clap.specs.Words.{Kinds, Row, Text, subcommand_of}
+-- What `clap` takes has a subcommand that is one of ours, and values that pass their arguments' parsers.
+use Rattle.std.proofs.Common.{◌≡◌, ◌∷◌, ◌∙◌, ◌+◌, ◌||◌, ◌++◌, IfSome, rules, Bool, Option, Some, None, List, [], ap}
+use Rattle.std.proofs.Common.{cond, drop, false, is_some, not, option_map, refl, sym, true, true≢false, ℕ, arith}
+use Rattle.std.proofs.Common.{length, min, option_and_then, find, bytes_eq, ne_eqb}
+use Rattle.std.specs.List.{AllByRecursion, list_any}
+use Rattle.std.proofs.lemmas.Slice.Eq.{bytes_eq-Decides}
+use Rattle.clap.specs.Words.{Kinds, Row, Text, subcommand_of, Rule, count_of}
 use Rattle.clap.specs.Facts.{explicit_source}
-use Rattle.clap.specs.Faults.{check_fault, entered_fault, level_fault}
-use Rattle.clap.specs.Kinds.{check_kinds, or_else}
+use Rattle.clap.specs.Faults.{check_fault, entered_fault, level_fault, action_fault, default_fault, repeat_fault}
+use Rattle.clap.specs.Faults.{use_fault, values_fault}
+use Rattle.clap.specs.Kinds.{check_kinds, or_else, request_kinds, value_kinds, values_kinds}
 use Rattle.clap.specs.Simple.{App, Shape, built, entered, label_of, names_of, rows_at}
-use Rattle.clap.specs.Walk.{Held, Names, answers_to, finished, nothing_held, walk}
+use Rattle.clap.specs.Walk.{Held, Names, answers_to, finished, nothing_held, walk, action_of, arg_by_id, at_row}
+use Rattle.clap.specs.Walk.{counted, default_rows, has_row, is_empty, more_values, new_count, reading_by, used, used_as}
+use Rattle.clap.specs.Walk.{values_or_missing, with_count, with_default, with_values, without}
+use Rattle.clap.specs.Matches.{count_text}
+use Rattle.clap.specs.declared.builder.action.ArgAction.{ArgAction}
+use Rattle.clap.specs.declared.builder.action.ArgAction.TheVariants as action
+use Rattle.clap.specs.declared.builder.value_parser.Reading.{Reading}
+use Rattle.clap.specs.declared.builder.value_parser.ValueParser.{ValueParser}
+use Rattle.clap.specs.declared.parser.matches.ValueSource.{ValueSource}
+use Rattle.clap.specs.declared.parser.matches.ValueSource.TheVariants.{CommandLine, DefaultValue}
 use Rattle.aig_command.specs.Aiger.{aiger}
 use Rattle.aig_command.specs.Asked.{asked_by, faults}
 
@@ -90,3 +101,118 @@ is_known (Some p) e = go (find named (built aiger).subs) (found_has IsOurs named
 pub known : (words : List Text) → faults words ≡ []
     → is_some (option_and_then asked_by (subcommand_of aiger words)) ≡ true
 known words e = is_known (stop_at words) (is_entered words e)
+
+-- Where `clap` finds nothing wrong with the arguments, each value that it found passes its argument's parser.
+pub first_empty : (a b : Kinds) → or_else a b ≡ [] → a ≡ []
+first_empty [] b e = refl
+first_empty (k ∷ ks) b e = e
+
+-- ---- values
+
+values_more : (i : Bool) (p : ValueParser) (vs ws : List Text) → values_kinds i p vs ≡ [] → values_kinds i p ws ≡ []
+    → values_kinds i p (vs ++ ws) ≡ []
+values_more i p [] ws e f = f
+values_more i p (v ∷ vs) ws e f =
+    ap (λ (k : Kinds). or_else k (values_kinds i p (vs ++ ws))) (first_empty (value_kinds i p v) _ e)
+    ∙ values_more i p vs ws (second_empty (value_kinds i p v) _ e) f
+
+-- ---- lists
+
+all_more : {X : Type 0} (P : X → Type 0) (xs ys : List X) → AllByRecursion P xs → AllByRecursion P ys
+    → AllByRecursion P (xs ++ ys)
+all_more P [] ys h k = k
+all_more P (x ∷ xs) ys h k = (h.0, all_more P xs ys h.1 k)
+
+at_row_keeps : (P : Row → Type 0) (id : Text) (change : Row → List Row) (missing rows : List Row)
+    → ((r : Row) → bytes_eq r.id id ≡ true → P r → AllByRecursion P (change r)) → AllByRecursion P missing
+    → AllByRecursion P rows → AllByRecursion P (at_row id change missing rows)
+at_row_keeps P id change missing [] each new h = new
+at_row_keeps P id change missing (r ∷ rs) each new h =
+    go (bytes_eq r.id id) refl (at_row_keeps P id change missing rs each new h.1)
+  where
+    go : (b : Bool) → bytes_eq r.id id ≡ b → AllByRecursion P (at_row id change missing rs)
+        → AllByRecursion P (cond b (change r ++ rs) (r ∷ at_row id change missing rs))
+    go true e later = all_more P (change r) rs (each r e h.0) h.1
+    go false e later = (h.0, later)
+
+-- ---- one use of an argument
+
+module _ (c : List Rule) where
+  -- these values pass the parser of the argument of this id, and are read as that says
+  abbrev pub Pass : Text → List Text → Reading → Type 0
+  Pass id values how = IfSome (arg_by_id c id) (λ a. (values_fault a values ≡ []) × (how ≡ reading_by a))
+
+  abbrev pub AllPass : List Row → Type 0
+  AllPass = AllByRecursion (λ (r : Row). Pass r.id r.values r.reading)
+
+  -- a row of the argument's id is its own
+  abbrev pub IsFirst : Rule → Type 0
+  IsFirst a = arg_by_id c a.id ≡ Some a
+
+  module _ (a : Rule) (first : IsFirst a) where
+    pass : (id : Text) (values : List Text) (how : Reading) → arg_by_id c id ≡ Some a → values_fault a values ≡ []
+        → how ≡ reading_by a → Pass id values how
+    pass id values how is e same = rw is (e, same)
+
+    more_pass : (r : Row) (values : List Text) → bytes_eq r.id a.id ≡ true → values_fault a values ≡ []
+        → Pass r.id r.values r.reading → Pass r.id (r.values ++ values) r.reading
+    more_pass r values same e h =
+        let own = ap (arg_by_id c) ((bytes_eq-Decides r.id a.id).0 same) ∙ first in
+        let fits : (values_fault a r.values ≡ []) × (r.reading ≡ reading_by a) = rw own at h in
+        pass r.id (r.values ++ values) r.reading own (values_more _ _ r.values values fits.0 e) fits.1
+
+    with_values_pass : (s : ValueSource) (values : List Text) (rows : List Row) → values_fault a values ≡ []
+        → AllPass rows → AllPass (with_values a.id (reading_by a) s values rows)
+    with_values_pass s values rows e h =
+        at_row_keeps _ a.id (more_values s values) _ rows (λ r same p. (more_pass r values same e p, tt))
+        (pass a.id values (reading_by a) first e refl, tt) h
+
+    with_count_pass : (s : ValueSource) (n : ℕ) (rows : List Row) → values_fault a (count_text n ∷ []) ≡ []
+        → AllPass rows → AllPass (with_count a.id (reading_by a) s n rows)
+    with_count_pass s n rows e h =
+        at_row_keeps _ a.id (new_count s n) _ rows (λ r same p. (more_pass r (count_text n ∷ []) same e p, tt))
+        (pass a.id (count_text n ∷ []) (reading_by a) first e refl, tt) h
+
+    without_pass : (rows : List Row) → AllPass rows → AllPass (without a.id rows)
+    without_pass rows h = at_row_keeps _ a.id (λ _. []) [] rows (λ r same p. tt) tt h
+
+    counted_pass : (again : Bool) (values : List Text) (rows : List Row)
+        → action_fault action.Count again a values rows ≡ [] → AllPass rows
+        → AllPass (counted a.id (reading_by a) values rows)
+    counted_pass again [] rows e h =
+        with_count_pass CommandLine (min (count_of a.id rows + 1) 255) (without a.id rows)
+        (ap (λ (k : Kinds). or_else k []) e) (without_pass rows h)
+    counted_pass again (v ∷ vs) rows e h = with_values_pass CommandLine (v ∷ vs) _ e (without_pass rows h)
+
+    used_as_pass : (x : ArgAction) (again : Bool) (values : List Text) (rows : List Row)
+        → action_fault x again a values rows ≡ [] → AllPass rows → AllPass (used_as x a.id (reading_by a) values rows)
+    used_as_pass action.Set again values rows e h =
+        with_values_pass CommandLine values _ (second_empty (repeat_fault again a.id rows) _ e) (without_pass rows h)
+    used_as_pass action.SetTrue again values rows e h =
+        with_values_pass CommandLine values _ (second_empty (repeat_fault again a.id rows) _ e) (without_pass rows h)
+    used_as_pass action.SetFalse again values rows e h =
+        with_values_pass CommandLine values _ (second_empty (repeat_fault again a.id rows) _ e) (without_pass rows h)
+    used_as_pass action.Append again values rows e h = with_values_pass CommandLine values rows e h
+    used_as_pass action.Count again values rows e h = counted_pass again values rows e h
+    used_as_pass action.Help again values rows e h = h
+    used_as_pass action.HelpShort again values rows e h = h
+    used_as_pass action.HelpLong again values rows e h = h
+    used_as_pass action.Version again values rows e h = h
+
+    pub used_pass : (again : Bool) (values : List Text) (rows : List Row) → use_fault again a values rows ≡ []
+        → AllPass rows → AllPass (used a values rows)
+    used_pass again values rows e h =
+        used_as_pass (action_of a) again (values_or_missing a values) rows (second_empty _ _ e) h
+
+    pub with_default_pass : (rows : List Row) → default_fault rows a ≡ [] → AllPass rows → AllPass (with_default rows a)
+    with_default_pass rows e h = go (has_row a.id rows) a.defaults e
+      where
+        go : (b : Bool) (vs : List Text)
+            → cond (b || is_empty vs) [] (or_else (request_kinds (action_of a)) (values_fault a vs)) ≡ []
+            → AllPass (cond b rows (default_rows a.id (reading_by a) vs rows))
+        go true vs f = h
+        go false [] f = h
+        go false (v ∷ vs) f =
+            let full : is_empty (v ∷ vs) ≡ false = ne_eqb (length (v ∷ vs)) 0 (λ none. omega arith) in
+            with_values_pass DefaultValue (v ∷ vs) rows
+            (second_empty (request_kinds (action_of a)) (values_fault a (v ∷ vs)) (rw full at f)) h

@@ -1,6 +1,4 @@
-pub mod Read
+pub mod Within
 pub mod Entered
 pub mod Answered
-pub mod Passed
 pub mod Walked
-pub mod Within

@@ -1,28 +1,25 @@
 -- Where `clap` finds nothing wrong on its walk over the words, each value that it holds passes its argument's parser.
-use Rattle.std.proofs.Common.{◌≡◌, ◌&&◌, ℕ, Bool, Option, Some, None, List, [], ◌∷◌, IfSome, cond, drop, false}
-use Rattle.std.proofs.Common.{is_some, length, refl, true, zero, suc}
-use Rattle.std.specs.Prelude.{encode_utf8, slice_get, fold}
-use Rattle.std.specs.List.{AllByRecursion, find}
+use Rattle.std.proofs.Common.{◌≡◌, ◌&&◌, ◌∷◌, ℕ, Bool, Option, Some, None, List, [], IfSome, cond, drop, false, is_some}
+use Rattle.std.proofs.Common.{length, refl, true, zero, suc, encode_utf8, slice_get, fold, find, bytes_eq, chars}
+use Rattle.std.specs.List.{AllByRecursion}
 use Rattle.std.specs.Option.{option_map_or}
-use Rattle.std.specs.Str.{bytes_eq, chars}
 use Rattle.clap.specs.Lexer.{long_of, short_of}
 use Rattle.clap.specs.Words.{Kinds, Row, Rule, Shape, Text}
 use Rattle.clap.specs.Kinds.{or_else}
-use Rattle.clap.specs.Faults.{bundle_fault}
-use Rattle.clap.specs.Faults.{bundle_step_fault, default_fault, defaults_fault, flag_word_fault, flags_fault}
-use Rattle.clap.specs.Faults.{level_fault, long_fault, option_fault, other_fault, positional_fault, react_fault}
-use Rattle.clap.specs.Faults.{settle_fault, short_fault, step_fault, stray_fault, turn_fault, use_fault, walk_fault}
-use Rattle.clap.specs.Faults.{word_fault}
-use Rattle.clap.specs.Walk.{Held, Names, Outcome, Step, Waiting, Walk, after_flag, after_step, arg_by_id}
-use Rattle.clap.specs.Walk.{arg_by_index, arg_by_long, arg_by_short, attached_value, bundle_met, bundle_step, done}
-use Rattle.clap.specs.Walk.{flag_met, idle, is_pending, long_met, long_or_other, next, nothing_held, option}
-use Rattle.clap.specs.Walk.{option_met, option_word, plain, plain_word, positional, reacted, refused, rows_after}
-use Rattle.clap.specs.Walk.{settled, settled_rows, short_met, short_or_plain, subcommand, subcommand_met}
-use Rattle.clap.specs.Walk.{subcommand_or_other, takes_several, takes_values, to_positional, trailing, used_by_id}
-use Rattle.clap.specs.Walk.{value, waits, walk, walk_from, walked, walked_from, with_default, word_met}
+use Rattle.clap.specs.Faults.{bundle_fault, bundle_step_fault, default_fault, defaults_fault, flag_word_fault}
+use Rattle.clap.specs.Faults.{flags_fault, level_fault, long_fault, option_fault, other_fault, positional_fault}
+use Rattle.clap.specs.Faults.{react_fault, settle_fault, short_fault, step_fault, stray_fault, turn_fault, use_fault}
+use Rattle.clap.specs.Faults.{walk_fault, word_fault}
+use Rattle.clap.specs.Walk.{Held, Names, Outcome, Step, Waiting, Walk, after_flag, after_step, arg_by_id, arg_by_index}
+use Rattle.clap.specs.Walk.{arg_by_long, arg_by_short, attached_value, bundle_met, bundle_step, done, flag_met, idle}
+use Rattle.clap.specs.Walk.{is_pending, long_met, long_or_other, next, nothing_held, option, option_met, option_word}
+use Rattle.clap.specs.Walk.{plain, plain_word, positional, reacted, refused, rows_after, settled, settled_rows}
+use Rattle.clap.specs.Walk.{short_met, short_or_plain, subcommand, subcommand_met, subcommand_or_other, takes_several}
+use Rattle.clap.specs.Walk.{takes_values, to_positional, trailing, used_by_id, value, waits, walk, walk_from, walked}
+use Rattle.clap.specs.Walk.{walked_from, with_default, word_met}
 use Rattle.clap.specs.declared.error.kind.ErrorKind.TheVariants as kind
-use Rattle.aig_command.proofs.Entered.{found_has, second_empty}
-use Rattle.aig_command.proofs.Passed.{AllPass, IsFirst, first_empty, used_pass, with_default_pass}
+use Rattle.aig_command.proofs.Entered.{found_has, second_empty, AllPass, IsFirst, first_empty, used_pass}
+use Rattle.aig_command.proofs.Entered.{with_default_pass}
 
 -- ---- words that change no row
 

@@ -1,14 +1,15 @@
 //! The command line as `clap` takes it, with its help texts.
 ghost use Rattle.std.specs.Prelude.{IfOk, codes};
 ghost use Rattle.clap.specs.Words.{App, Rule, new_app, new_rule, with_rule, with_subcommand};
-ghost use Rattle.aig_command.specs.Aiger.{HasApp, HasRule, above, aiger, aigsim, aigunroll, flag, frames, max_var};
+ghost use Rattle.aig_command.specs.Aiger.{HasApp, HasRule, above, aiger, aigsim};
+ghost use Rattle.aig_command.specs.Aiger.{aigunroll, flag, frames, max_var};
 ghost use Rattle.aig_command.specs.Aiger.{required_file, to_aig};
 
 use clap::{Arg, ArgAction, Command, value_parser};
 use std::alloc::{AllocError, Global};
 
-/// The program's version, the one place in the sources that has it.
-const VERSION: &str = "1.1.0";
+/// The program's version, the one place in the sources that has it. By its contract the library's number is the same.
+pub const VERSION: &str = "1.1.0";
 
 const ABOUT: &str = "Tools for circuits in the AIGER format";
 
@@ -153,14 +154,12 @@ const MAX_VAR_HELP: &str = "\
 Refuse a circuit with an index or a count above N:
 0 to 2147483647, which is also the default";
 
-/// A command with its texts, before its arguments.
 fn command<'a>(alloc: Global, name: &'a str, about: &'a str, after: &'a str) -> Command<'a>
     ensures { HasApp (new_app name.now) result }
 {
     Command::new(alloc, name).about(about).after_help(after)
 }
 
-/// An option that is given or not.
 fn flag<'a>(alloc: Global, name: &'a str, help: &'a str) -> Arg<'a>
     ensures { HasRule (flag name.now) result }
 {
@@ -170,7 +169,6 @@ fn flag<'a>(alloc: Global, name: &'a str, help: &'a str) -> Arg<'a>
         .help(help)
 }
 
-/// The limit on what is read.
 fn max_var<'a>(alloc: Global) -> Arg<'a>
     ensures { HasRule max_var result }
 {
@@ -182,7 +180,6 @@ fn max_var<'a>(alloc: Global) -> Arg<'a>
         .help(MAX_VAR_HELP)
 }
 
-/// The number of frames, which has to be given.
 fn frames<'a>(alloc: Global) -> Arg<'a>
     ensures { HasRule frames result }
 {
@@ -195,33 +192,31 @@ fn frames<'a>(alloc: Global) -> Arg<'a>
         .help(FRAMES_HELP)
 }
 
-/// The name of a file.
 fn file<'a>(alloc: Global, name: &'a str, help: &'a str) -> Arg<'a>
     ensures { HasRule (new_rule name.now) result }
 {
     Arg::new(alloc, name).help(help)
 }
 
-/// The name of a file that has to be given.
 fn required_file<'a>(alloc: Global, name: &'a str, help: &'a str) -> Arg<'a>
     ensures { HasRule (required_file name.now) result }
 {
     Arg::new(alloc, name).required(true).help(help)
 }
 
-/// The command with one argument more. It takes what the calls before it gave, so that a command is made with no `?`
-/// between its arguments: each `?` is a way out, on which the proof follows all that is dropped.
+/// It takes what the calls before it gave, so that a command is made with no `?` between its
+/// arguments: each `?` is a way out, on which the proof follows all that is dropped.
 fn with_argument<'a>(
     command: Result<Command<'a>, AllocError>,
     argument: Arg<'a>,
 ) -> Result<Command<'a>, AllocError>
-    ensures { (app : App) (rule : Rule) → IfOk command.entry (HasApp app) → HasRule rule argument.entry
+    ensures { (app : App) (rule : Rule) → IfOk command.entry (HasApp app)
+        → HasRule rule argument.entry
         → IfOk result (HasApp (with_rule app rule)) }
 {
     command?.arg(argument)
 }
 
-/// The program with one subcommand more.
 fn with_subcommand<'a>(
     program: Result<Command<'a>, AllocError>,
     subcommand: Result<Command<'a>, AllocError>,
@@ -232,7 +227,6 @@ fn with_subcommand<'a>(
     program?.subcommand(subcommand?)
 }
 
-/// `aigtoaig`.
 fn to_aig<'a>(alloc: Global) -> Result<Command<'a>, AllocError>
     ensures { IfOk result (HasApp to_aig) }
 {
@@ -246,7 +240,6 @@ fn to_aig<'a>(alloc: Global) -> Result<Command<'a>, AllocError>
     with_argument(command, file(alloc, "destination", DESTINATION_HELP))
 }
 
-/// `aigsim`.
 fn aigsim<'a>(alloc: Global) -> Result<Command<'a>, AllocError>
     ensures { IfOk result (HasApp aigsim) }
 {
@@ -260,7 +253,6 @@ fn aigsim<'a>(alloc: Global) -> Result<Command<'a>, AllocError>
     with_argument(command, file(alloc, "stimulus", STIMULUS_HELP))
 }
 
-/// `aigunroll`.
 fn aigunroll<'a>(alloc: Global) -> Result<Command<'a>, AllocError>
     ensures { IfOk result (HasApp aigunroll) }
 {
@@ -284,7 +276,6 @@ fn program<'a>(alloc: Global) -> Result<Command<'a>, AllocError>
     command.bin_name("aiger")
 }
 
-/// The program, with its subcommands.
 pub(crate) fn aiger<'a>(alloc: Global) -> Result<Command<'a>, AllocError>
     ensures { IfOk result (HasApp aiger) }
 {

@@ -9,14 +9,12 @@ use crate::options::is_set;
 use crate::usage::Usage;
 use clap::ArgMatches;
 
-/// Whether the name has this ending.
 fn has_ending(name: &str, ending: &str) -> bool
     ensures { result ≡ ends_with nat_eq name.now ending.now }
 {
     name.ends_with(ending)
 }
 
-/// Whether there is a file whose name has this ending.
 fn ends_in(named: &Option<String>, ending: &str) -> bool
     ensures { result ≡ ends_in ending.now (name_of named.now) }
 {
@@ -26,14 +24,12 @@ fn ends_in(named: &Option<String>, ending: &str) -> bool
     }
 }
 
-/// Whether ASCII is written to this destination, by an option or by its name.
 pub(crate) fn wants_ascii(matches: &ArgMatches<'_>, destination: &Option<String>) -> bool
     ensures { result ≡ wants_ascii (rows_of (found_of matches.now)) (name_of destination.now) }
 {
     is_set(matches, "ascii") || ends_in(destination, ".aag")
 }
 
-/// Refuses a destination that cannot be written.
 pub(crate) fn check_destination(destination: &Option<String>) -> Result<(), Usage>
     ensures ok { OnOk result (destination_refusal (name_of destination.now) ≡ None) }
     ensures err { IfErr result (λ reason. IsReason reason

@@ -10,7 +10,6 @@ use std::alloc::{AllocError, Global};
 /// The largest index that the format has, and so the limit where none is set.
 const LARGEST: u32 = 2_147_483_647;
 
-/// Whether the option is given.
 pub(crate) fn is_set(matches: &ArgMatches<'_>, name: &str) -> bool
     ensures { result ≡ is_set name.now (rows_of (found_of matches.now)) }
 {
@@ -18,14 +17,12 @@ pub(crate) fn is_set(matches: &ArgMatches<'_>, name: &str) -> bool
     matches.get_one::<bool>(name).unwrap_or(false)
 }
 
-/// The number that the option sets, or else this one.
 pub(crate) fn number(matches: &ArgMatches<'_>, name: &str, otherwise: u32) -> u32
     ensures { result ≡ number name.now otherwise (rows_of (found_of matches.now)) }
 {
     matches.get_one::<u32>(name).unwrap_or(otherwise)
 }
 
-/// The limit that `--max-var` sets.
 pub(crate) fn limit(matches: &ArgMatches<'_>) -> u32
     ensures { result ≡ limit (rows_of (found_of matches.now)) }
 {
@@ -38,7 +35,8 @@ pub(crate) fn file(
     matches: &ArgMatches<'_>,
     place: &str,
 ) -> Result<Option<String>, AllocError>
-    ensures { IfOk result (λ named. name_of named ≡ file place.now (rows_of (found_of matches.now))) }
+    ensures { IfOk result (λ named. name_of named
+        ≡ file place.now (rows_of (found_of matches.now))) }
 {
     let Some(name) = matches.get_str(place) else {
         return Ok(None);

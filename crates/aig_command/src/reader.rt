@@ -1,5 +1,6 @@
 //! What a command line asks for.
-ghost use Rattle.std.specs.Prelude.{◌≡◌, IfErr, IfOk, IfSome, is_some, option_and_then, string_bytes, true};
+ghost use Rattle.std.specs.Prelude.{◌≡◌, IfErr, IfOk, IfSome, is_some};
+ghost use Rattle.std.specs.Prelude.{option_and_then, string_bytes, true};
 ghost use Rattle.std.specs.List.{list_any};
 ghost use Rattle.clap.specs.Words.{FailsBy, HasMatchesOf, kind_of, subcommand_rows_of, takes};
 ghost use Rattle.clap.specs.declared.error.kind.ErrorKind.TheVariants.{OutOfMemory};
@@ -18,19 +19,19 @@ use clap::error::ErrorKind;
 use clap::{ArgMatches, Error};
 use std::alloc::{AllocError, Global};
 
-/// What `clap` finds in the arguments, where it takes them.
 fn parse<'a>(alloc: Global, words: &'a [String]) -> Result<ArgMatches<'a>, Error>
     ensures matches { IfOk result (HasMatchesOf aiger (texts words.now)) }
-    ensures passes { IfErr result (λ e. takes aiger (texts words.now) ≡ true → kind_of e ≡ OutOfMemory) }
+    ensures passes { IfErr result (λ e. takes aiger (texts words.now) ≡ true
+        → kind_of e ≡ OutOfMemory) }
     ensures kinds { FailsBy (faults (texts words.now)) result }
 {
     aiger(alloc)?.try_get_matches_from(words)
 }
 
-/// What arguments ask for that `clap` takes.
 fn read_matches(alloc: Global, matches: &ArgMatches<'_>) -> Result<Command, Usage>
     requires known { is_some (option_and_then asked_by (subcommand_rows_of matches.now)) ≡ true }
-    requires within { IfSome (option_and_then asked_by (subcommand_rows_of matches.now)) IsWithinLimits }
+    requires within { IfSome (option_and_then asked_by (subcommand_rows_of matches.now))
+        IsWithinLimits }
     ensures answer { IfSome (option_and_then asked_by (subcommand_rows_of matches.now)) (λ asked.
         IsAnswer asked result) }
     ensures can_do { IfOk result CanDo }
@@ -53,9 +54,9 @@ fn is_option(word: &str, long: &str, short: &str) -> bool
     word == long || word.starts_with(short)
 }
 
-/// Whether one of the arguments is this option.
 fn any_option(words: &[String], long: &str, short: &str) -> bool
-    ensures { result ≡ list_any (λ word. is_option long.now short.now (string_bytes word)) words.now }
+    ensures { result ≡ list_any
+        (λ word. is_option long.now short.now (string_bytes word)) words.now }
 {
     for word in words {
         if is_option(word.as_str(), long, short) {
@@ -65,7 +66,6 @@ fn any_option(words: &[String], long: &str, short: &str) -> bool
     false
 }
 
-/// Whether one of the arguments after the program's name is this option.
 fn asks_for(words: &[String], long: &str, short: &str) -> bool
     ensures { result ≡ asks_for long.now short.now (texts words.now) }
 {
@@ -87,7 +87,7 @@ fn not_taken(alloc: Global, words: &[String], error: &Error) -> Result<Command, 
 {
     match error.kind() {
         ErrorKind::OutOfMemory => Err(Usage::OutOfMemory),
-        // No contract of `clap` says that only such an argument makes it answer with help, or with its version.
+        // No contract of `clap` says that only such an argument makes it answer with help.
         ErrorKind::DisplayHelp if asks_for(words, "--help", "-h") => {
             Ok(Command::Help(text_of(alloc, error)?))
         }
@@ -98,8 +98,9 @@ fn not_taken(alloc: Global, words: &[String], error: &Error) -> Result<Command, 
     }
 }
 
-/// What a command line asks for, given as its arguments, the program's name first. It is refused where it has not the
-/// form of a command, and where what it asks for cannot be done. No file is looked at.
+/// What a command line asks for, given as its arguments, the program's name first. It is refused
+/// where it has not the form of a command, and where what it asks for cannot be done. No file is
+/// looked at.
 pub fn command(alloc: Global, words: &[String]) -> Result<Command, Usage>
     ensures ok { IfOk result (IsCommand (texts words.now)) }
     ensures can_do { IfOk result CanDo }

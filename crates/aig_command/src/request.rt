@@ -7,8 +7,8 @@ pub struct ToAig {
     pub ascii: bool,
     /// Whether symbols and comment are left out.
     pub strip: bool,
-    /// Whether the comment begins with a map block, by which the conversion can be undone. This stands without `ascii`,
-    /// `strip` and `undo_map`.
+    /// Whether the comment begins with a map block, by which the conversion can be undone. This
+    /// stands without `ascii`, `strip` and `undo_map`.
     pub keep_map: bool,
     /// Whether a conversion is undone by the map block of its image.
     pub undo_map: bool,
@@ -23,22 +23,22 @@ pub struct ToAig {
 /// A simulation of a circuit, or the judging of a witness file against it.
 #[derive(Drop)]
 pub struct Sim {
-    /// Whether the whole stimulus is read, and each line of it found good, before anything is written.
+    /// Whether the whole stimulus is read, and each line found good, before anything is written.
     pub batch: bool,
     /// Whether a line of the trace shows bad states and constraints too.
     pub properties: bool,
-    /// Whether a witness file is judged, which stands in the stimulus's place. This stands without `batch` and
-    /// `properties`.
+    /// Whether a witness file is judged, which stands in the stimulus's place. This stands without
+    /// `batch` and `properties`.
     pub witness: bool,
-    /// Whether the trace is written as a Value Change Dump, which always shows bad states and constraints too. This
-    /// stands without `properties` and `witness`.
+    /// Whether the trace is written as a Value Change Dump, which always shows bad states and
+    /// constraints too. This stands without `properties` and `witness`.
     pub vcd: bool,
     /// The limit on the largest variable index and the counts of the model.
     pub max_var: u32,
     /// The model's name; `None` is the standard input.
     pub model: Option<String>,
-    /// The name of the stimulus, or of the witness file; `None` is the standard input. This or the model is a file with
-    /// a name.
+    /// The name of the stimulus, or of the witness file; `None` is the standard input. This or the
+    /// model is a file with a name.
     pub stimulus: Option<String>,
 }
 

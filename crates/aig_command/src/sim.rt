@@ -1,7 +1,8 @@
 //! What the arguments of `aigsim` ask for.
 ghost use Rattle.std.specs.Prelude.{◌≡◌, IfErr, IfOk, None, OnOk, Some};
 ghost use Rattle.clap.specs.Words.{found_of, rows_of};
-ghost use Rattle.aig_command.specs.Answer.{CanDo, HasOneStandardInput, IsAnswer, IsDumpAlone, IsReason};
+ghost use Rattle.aig_command.specs.Answer.{CanDo, HasOneStandardInput};
+ghost use Rattle.aig_command.specs.Answer.{IsAnswer, IsDumpAlone, IsReason};
 ghost use Rattle.aig_command.specs.Answer.{IsWitnessAlone, simulation_of};
 ghost use Rattle.aig_command.specs.Asked.{aigsim, simulation, simulation_refusal};
 
@@ -11,9 +12,9 @@ use crate::usage::Usage;
 use clap::ArgMatches;
 use std::alloc::{AllocError, Global};
 
-/// The simulation that the arguments name.
 fn simulation(alloc: Global, matches: &ArgMatches<'_>) -> Result<Sim, AllocError>
-    ensures { IfOk result (λ request. simulation_of request ≡ simulation (rows_of (found_of matches.now))) }
+    ensures { IfOk result (λ request. simulation_of request
+        ≡ simulation (rows_of (found_of matches.now))) }
 {
     let model = file(alloc, matches, "model")?;
     let stimulus = file(alloc, matches, "stimulus")?;
@@ -28,7 +29,6 @@ fn simulation(alloc: Global, matches: &ArgMatches<'_>) -> Result<Sim, AllocError
     })
 }
 
-/// Refuses a simulation that cannot be done.
 fn check(request: &Sim) -> Result<(), Usage>
     ensures ok { OnOk result (simulation_refusal (simulation_of request.now) ≡ None) }
     ensures err { IfErr result (λ reason. IsReason reason
@@ -49,7 +49,6 @@ fn check(request: &Sim) -> Result<(), Usage>
     Ok(())
 }
 
-/// What the arguments of `aigsim` ask for.
 pub(crate) fn aigsim(alloc: Global, matches: &ArgMatches<'_>) -> Result<Command, Usage>
     ensures answer { IsAnswer (aigsim (rows_of (found_of matches.now))) result }
     ensures can_do { IfOk result CanDo }

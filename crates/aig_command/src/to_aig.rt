@@ -11,9 +11,9 @@ use crate::usage::Usage;
 use clap::ArgMatches;
 use std::alloc::{AllocError, Global};
 
-/// The conversion that the arguments name.
 fn conversion(alloc: Global, matches: &ArgMatches<'_>) -> Result<ToAig, AllocError>
-    ensures { IfOk result (λ request. conversion_of request ≡ conversion (rows_of (found_of matches.now))) }
+    ensures { IfOk result (λ request. conversion_of request
+        ≡ conversion (rows_of (found_of matches.now))) }
 {
     let source = file(alloc, matches, "source")?;
     let destination = file(alloc, matches, "destination")?;
@@ -28,7 +28,6 @@ fn conversion(alloc: Global, matches: &ArgMatches<'_>) -> Result<ToAig, AllocErr
     })
 }
 
-/// Refuses a conversion that cannot be done.
 fn check(request: &ToAig) -> Result<(), Usage>
     ensures ok { OnOk result (refusal (conversion_of request.now) ≡ None) }
     ensures err { IfErr result (λ reason. IsReason reason
@@ -47,7 +46,6 @@ fn check(request: &ToAig) -> Result<(), Usage>
     check_destination(&request.destination)
 }
 
-/// What the arguments of `aigtoaig` ask for.
 pub(crate) fn to_aig(alloc: Global, matches: &ArgMatches<'_>) -> Result<Command, Usage>
     ensures answer { IsAnswer (to_aig (rows_of (found_of matches.now))) result }
     ensures can_do { IfOk result CanDo }

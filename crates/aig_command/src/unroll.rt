@@ -11,16 +11,15 @@ use crate::usage::Usage;
 use clap::ArgMatches;
 use std::alloc::{AllocError, Global};
 
-/// The number of frames that `--frames` sets.
 fn frames(matches: &ArgMatches<'_>) -> u32
     ensures { result ≡ frames (rows_of (found_of matches.now)) }
 {
     number(matches, "frames", 1)
 }
 
-/// The unrolling that the arguments name.
 fn unrolling(alloc: Global, matches: &ArgMatches<'_>) -> Result<Unroll, AllocError>
-    ensures { IfOk result (λ request. unrolling_of request ≡ unrolling (rows_of (found_of matches.now))) }
+    ensures { IfOk result (λ request. unrolling_of request
+        ≡ unrolling (rows_of (found_of matches.now))) }
 {
     let source = file(alloc, matches, "source")?;
     let destination = file(alloc, matches, "destination")?;
@@ -33,7 +32,6 @@ fn unrolling(alloc: Global, matches: &ArgMatches<'_>) -> Result<Unroll, AllocErr
     })
 }
 
-/// What the arguments of `aigunroll` ask for.
 pub(crate) fn aigunroll(alloc: Global, matches: &ArgMatches<'_>) -> Result<Command, Usage>
     requires within { IsWithinLimits (aigunroll (rows_of (found_of matches.now))) }
     ensures answer { IsAnswer (aigunroll (rows_of (found_of matches.now))) result }

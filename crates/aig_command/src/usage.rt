@@ -10,7 +10,7 @@ use std::fmt;
 /// Why a command line is refused.
 #[derive(Debug, Drop)]
 pub enum Usage {
-    /// It has not the form of a command. The text is for the user: what is wrong, and what the form is.
+    /// It has not the form of a command. The text tells what is wrong, and what the form is.
     Words(String),
     /// A map is kept in the comment of a binary file, and ASCII is asked for.
     KeepMapNeedsBinary,
@@ -31,7 +31,7 @@ pub enum Usage {
 }
 
 impl Usage {
-    /// What is wrong, in words: of `Words` a text of whole lines, and else a text without a line feed.
+    /// What is wrong, in words: of `Words` whole lines, and else a text without a line feed.
     pub fn words(&self) -> &str
         ensures { result.now ≡ usage_words self.now }
     {

@@ -3,6 +3,3 @@ pub mod Sections
 pub mod Faultless
 pub mod Reported
 pub mod InOrder
-pub mod Properties
-pub mod Parted
-pub mod Operands

@@ -15,8 +15,8 @@ use std::alloc::Global;
 mod distinct;
 mod faults;
 
-/// Checks a circuit in form. The error has the circuit as it was, and its first fault or that memory ran out. No order
-/// of the gates is kept (`check_keeping`).
+/// Checks a circuit in form. The error has the circuit as it was, and its first fault or that
+/// memory ran out. No order of the gates is kept (`check_keeping`).
 pub fn check(alloc: Global, circuit: Circuit) -> Result<Checked, (Circuit, CheckFault)>
     requires in_form { IsInForm circuit }
     ensures ok { IfOk result (λ checked. checked ≡ circuit) }
@@ -32,10 +32,10 @@ pub fn check(alloc: Global, circuit: Circuit) -> Result<Checked, (Circuit, Check
 /// What a check keeps.
 #[derive(Clone, Copy)]
 pub enum Keep {
-    /// The circuit alone. It takes the least time and memory if nobody asks for an order of the gates later.
+    /// The circuit alone: the least time and memory if nobody asks for an order of the gates later.
     Circuit,
-    /// The least ready order of the gates too, where they do not stand in order: for a binary image, which would
-    /// otherwise make it once more.
+    /// The least ready order of the gates too, where they do not stand in order: for a binary
+    /// image, which would otherwise make it once more.
     Order,
 }
 

@@ -15,8 +15,8 @@ pub enum CheckFault {
     /// The literal is used, and nothing defines its variable.
     #[error("literal {0} not defined")]
     Undefined(Lit),
-    /// The gate with this literal depends on a cycle of gates: it is part of one, or uses a gate that depends on one.
-    /// No variable is defined twice, and every one that is used is defined.
+    /// The gate with this literal depends on a cycle of gates: it is part of one, or uses a gate
+    /// that depends on one. No variable is defined twice, and every one that is used is defined.
     #[error("gate {0} depends on a cycle")]
     Cyclic(Lit),
     /// An allocation failed; nothing is known of the circuit.

@@ -1,8 +1,9 @@
-//! The check of circuits. What a circuit is (`aig_circuit`), maps from variables (`aig_tables`), the order of gates
-//! (`aig_topo`), circuits that are well formed (`aig_checked`) and the devices of `aig_io` are reached here too.
+//! The check of circuits. What a circuit is (`aig_circuit`), maps from variables (`aig_tables`),
+//! the order of gates (`aig_topo`), circuits that are well formed (`aig_checked`) and the devices
+//! of `aig_io` are reached here too.
 //!
-//! Others call `check` and `check_keeping`, which make a `Checked` of a `Circuit` or report its first fault; and
-//! `Names`, what symbols named so far.
+//! Others call `check` and `check_keeping`, which make a `Checked` of a `Circuit` or report its
+//! first fault; and `Names`, what symbols named so far.
 //!
 //! The definition that matters most is `first_structural_fault`.
 #![tactic(auto)]

@@ -31,7 +31,6 @@ pub struct Names {
     fairness: VarSet,
 }
 
-/// No position yet, of so many.
 fn no_positions(alloc: Global, count: u32) -> Result<VarSet, AllocError>
     ensures { IfOk result (λ positions. positions ≡ set.empty) }
 {
@@ -55,8 +54,6 @@ struct NamedProperties {
     fairness: VarSet,
 }
 
-/// No position yet of two kinds, of which there are so many. The sets that are there are dropped by name where another
-/// cannot be made: the proof goes through all that goes out of scope by itself.
 fn no_two(alloc: Global, first: u32, second: u32) -> Result<(VarSet, VarSet), AllocError>
     ensures first { IfOk result (λ two. two.0 ≡ set.empty) }
     ensures second { IfOk result (λ two. two.1 ≡ set.empty) }
@@ -65,13 +62,12 @@ fn no_two(alloc: Global, first: u32, second: u32) -> Result<(VarSet, VarSet), Al
     match no_positions(alloc, second) {
         Ok(second) => Ok((first, second)),
         Err(refused) => {
-            drop(first);
+            drop(first); // for the proof
             Err(refused)
         }
     }
 }
 
-/// No input, latch or output yet.
 fn no_ends(alloc: Global, counts: &NamedCounts) -> Result<NamedEnds, AllocError>
     ensures inputs { IfOk result (λ ends. ends.inputs ≡ set.empty) }
     ensures latches { IfOk result (λ ends. ends.latches ≡ set.empty) }
@@ -85,14 +81,13 @@ fn no_ends(alloc: Global, counts: &NamedCounts) -> Result<NamedEnds, AllocError>
             outputs,
         }),
         Err(refused) => {
-            drop(inputs);
-            drop(latches);
+            drop(inputs); // for the proof
+            drop(latches); // for the proof
             Err(refused)
         }
     }
 }
 
-/// No property yet.
 fn no_properties(alloc: Global, counts: &NamedCounts) -> Result<NamedProperties, AllocError>
     ensures bad { IfOk result (λ properties. properties.bad ≡ set.empty) }
     ensures constraints { IfOk result (λ properties. properties.constraints ≡ set.empty) }
@@ -108,8 +103,8 @@ fn no_properties(alloc: Global, counts: &NamedCounts) -> Result<NamedProperties,
             fairness,
         }),
         Err(refused) => {
-            drop(bad);
-            drop(constraints);
+            drop(bad); // for the proof
+            drop(constraints); // for the proof
             Err(refused)
         }
     }
@@ -120,7 +115,7 @@ impl Names {
     pub fn new(alloc: Global, counts: NamedCounts) -> Result<Self, AllocError>
         ensures { IfOk result (λ names. names ≡ nothing_named) }
     {
-        // Seven sets made here, each of which may fail beside all before it, took two minutes to prove.
+        // In groups: seven sets that may each fail beside those before took two minutes to prove.
         let ends = no_ends(alloc, &counts)?;
         match no_properties(alloc, &counts) {
             Ok(properties) => Ok(Names {
@@ -133,7 +128,7 @@ impl Names {
                 fairness: properties.fairness,
             }),
             Err(refused) => {
-                drop(ends);
+                drop(ends); // for the proof
                 Err(refused)
             }
         }

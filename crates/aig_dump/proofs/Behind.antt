@@ -1,10 +1,9 @@
 -- A bad line of what was read at first is a bad line of all of it, whatever comes behind.
-use Rattle.std.proofs.Common.{◌≡◌, ◌∙◌, ◌++◌, ◌∷◌, ◌==◌, ◌||◌, ℕ, suc, List, [], Bool, true, false, filter, length, take, drop}
-use Rattle.std.proofs.Common.{Option, None, Some, Result, Ok, Err, refl, ap, sym, subst}
+use Rattle.std.proofs.Common.{◌≡◌, ◌∙◌, ◌++◌, ◌∷◌, ◌==◌, ◌||◌, ℕ, suc, List, [], Bool, true, false, filter, length}
+use Rattle.std.proofs.Common.{take, drop, Option, None, Some, Result, Ok, Err, refl, ap, sym, subst, take-append-drop}
 use Rattle.std.specs.List.{AllByRecursion}
-use Rattle.std.proofs.lemmas.List.{take-append-drop}
 use Rattle.aig_circuit.specs.declared.circuit.Circuit.{Circuit}
-use Rattle.aig_rows.specs.Lines.{Line, begun_by, line, lines_of}
+use Rattle.aig_lines.specs.Lines.{Line, begun_by, line, lines_of}
 use Rattle.aig_step.specs.Outcome.{first_bad_line}
 use Rattle.aig_step.specs.Stimulus.{Entry, Stimulus, before_rest, entry_of, judged_lines, lines_say, text_of}
 use Rattle.aig_witness.specs.Witness.{Said, Shape, first_bad_witness_line, said_behind, said_by, said_with, shape_of}

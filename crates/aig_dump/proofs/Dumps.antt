@@ -1,144 +1,190 @@
 -- What is sent where the dump of a trace is written.
-use Rattle.std.proofs.Common.{◌≡◌, ◌∙◌, ◌++◌, ℕ, List, [], Bool, true, false, Option, None, Some, Result, Ok, Err}
-use Rattle.std.proofs.Common.{IfErr, OnOk, add-zero, ap, ap₂, cond, inl, inr, is_ok, refl, subst, sym}
-use Rattle.std.proofs.lemmas.List.{append-nil}
-use Rattle.aig_io.specs.Devices.{Origin, Past, TookBeginning, took, unused}
-use Rattle.aig_io.specs.Output.{Out, Put}
-use Rattle.aig_io.proofs.Puts.{all_sent, beginning_sent, put_nothing}
+use Rattle.std.proofs.Common.{◌≡◌, ◌∙◌, ◌++◌, ℕ, List, [], Bool, true, false, Result, Ok, Err, OnOk, ap, ap₂, arith}
+use Rattle.std.proofs.Common.{cond, is_err, is_ok, refl, subst, sym, take, drop, take-append-drop}
+use Rattle.aig_io.specs.Devices.{Origin, Past, TookBeginning, unused}
+use Rattle.aig_io.specs.Runs.{All, AtEnd, Beginning, Broken, Ending, IsCut, NotSent, Open, Ran, Taking, came, sent}
+use Rattle.aig_io.specs.Runs.{taken}
+use Rattle.aig_io.proofs.Puts.{beginning_longer}
+use Rattle.aig_io.proofs.Took.{took_none}
 use Rattle.aig_circuit.specs.declared.circuit.Circuit.{Circuit}
+use Rattle.aig_lines.specs.Lines.{lines_of}
 use Rattle.aig_step.specs.declared.fault.SimFault.{SimFault}
 use Rattle.aig_step.specs.declared.fault.SimFault.TheVariants as faults
 use Rattle.aig_step.specs.declared.trace.Columns.TheVariants.{Properties}
-use Rattle.aig_rows.specs.Lines.{lines_of}
-use Rattle.aig_wave.specs.Fresh.{fresh_origin, later}
-use Rattle.aig_wave.specs.Frames.{frames_of}
+use Rattle.aig_wave.specs.Frames.{frames_of, most_frames}
 use Rattle.aig_wave.specs.Layout.{Layout, layout_of}
-use Rattle.aig_wave.specs.Standing.{fresh_at, wave_origin}
+use Rattle.aig_wave.specs.Standing.{WasSent, wave_origin}
 use Rattle.aig_wave.specs.Wave.{dump, wave_text}
-use Rattle.aig_dump.specs.Dumped.{DumpedAs, Ran}
+use Rattle.aig_wave.proofs.Growing.{wave_grows}
+use Rattle.aig_dump.specs.Dumped.{DumpSays, IsDumpOf, TraceSaysAs, meant}
 
--- the output took this, or failed and took a beginning of it
-abbrev IsSent : Bool → List ℕ → (o o_now : Past) → Type 0
-IsSent false dump o o_now = o_now ≡ took dump o
-IsSent true dump o o_now = TookBeginning dump o o_now
+-- devices keep their origins
+came_origin : (bytes : List ℕ) (ending : Ending) (source : Past) → (came bytes ending source).origin ≡ source.origin
+came_origin bytes AtEnd source = refl
+came_origin bytes Open source = refl
+came_origin bytes Broken source = refl
 
--- What was sent to a sink whose past began anew was sent to the sink below.
-sent_on : (failed : Bool) (dump : List ℕ) (o o_now fresh : Past) (origin : Origin)
-    → IsSent failed dump (unused origin) fresh → o_now ≡ later o fresh.bytes fresh.failures → IsSent failed dump o o_now
-sent_on true dump o o_now fresh origin sent is = record { count = sent.count; past = rw sent.past at is }
-sent_on false dump o o_now fresh origin sent is =
-    let at : o_now ≡ later o dump 0 = rw sent at is in
-    at ∙ ap (λ (n : ℕ). record o { bytes = o.bytes ++ dump; failures = n }) (add-zero o.failures)
+sent_origin : (text : List ℕ) (taking : Taking) (sink : Past) → (sent text taking sink).origin ≡ sink.origin
+sent_origin text NotSent sink = refl
+sent_origin text All sink = refl
+sent_origin text (Beginning count) sink = refl
 
--- it keeps its origin
-origin_sent : (failed : Bool) (dump : List ℕ) (fresh : Past) (origin : Origin)
-    → IsSent failed dump (unused origin) fresh → fresh.origin ≡ origin
-origin_sent true dump fresh origin sent = ap (λ (p : Past). p.origin) sent.past
-origin_sent false dump fresh origin sent = ap (λ (p : Past). p.origin) sent
+pub ran_origins : (P : List ℕ → Ending → List ℕ → Taking → Type 0) (s s_now o o_now : Past) → Ran P s s_now o o_now
+    → (s_now.origin ≡ s.origin) × (o_now.origin ≡ o.origin)
+ran_origins P s s_now o o_now ran = (
+  ap (λ (p : Past). p.origin) ran.came ∙ came_origin ran.bytes ran.ending s,
+  ap (λ (p : Past). p.origin) ran.says.sent ∙ sent_origin ran.says.text ran.says.taking o,
+)
 
--- all that was put was sent
-put_sent : {W : Type 0} (name : ℕ) (sink : W) (origin : Origin) (b : Out W) (dump : List ℕ) (failed : Bool)
-    → Put (fresh_at name sink origin) b dump → b.held ≡ [] → b.failed ≡ failed
-    → IsSent failed dump (unused origin) b.past
-put_sent name sink origin b dump true put empty broke =
-    beginning_sent (fresh_at name sink origin) _ b b dump refl refl refl put (put_nothing b) broke
-put_sent name sink origin b dump false put empty good =
-    all_sent (fresh_at name sink origin) _ b b dump refl refl put (put_nothing b) empty good
+-- what a sink took that was unused before, and whether it failed
+taken_is : (text : List ℕ) (taking : Taking) (origin : Origin) → (sent text taking (unused origin)).bytes ≡ taken text taking
+taken_is text NotSent origin = refl
+taken_is text All origin = refl
+taken_is text (Beginning count) origin = refl
 
-sent_below : (batch : Bool) (c : Circuit) (s s_now : Past) (fault : Option SimFault) (o o_now fresh : Past)
-    (origin : Origin) → DumpedAs batch c fault s s_now (unused origin) fresh
-    → o_now ≡ later o fresh.bytes fresh.failures → DumpedAs batch c fault s s_now o o_now
-sent_below batch c s s_now fault o o_now fresh origin (inl d) is =
-    let done = sent_on false _ o o_now fresh origin d.done is in
-    inl (record { origin = d.origin; trace = d.trace; ran = d.ran; done = done })
-sent_below batch c s s_now fault o o_now fresh origin (inr (e, (other, d))) is =
-    let done = sent_on true _ o o_now fresh origin d.done is in
-    inr (e, (other, record { origin = d.origin; trace = d.trace; ran = d.ran; done = done }))
+uncut : (text : List ℕ) (taking : Taking) (origin : Origin) → (sent text taking (unused origin)).failures ≡ 0
+    → ¬ IsCut taking
+uncut text NotSent origin good = λ cut. cut
+uncut text All origin good = λ cut. cut
+uncut text (Beginning count) origin good = absurd (omega arith)
 
-module _ {T : Type 0} (batch : Bool) (c : Circuit) (s s_now : Past) where
-  abbrev HasRun : (wave trace : Past) → Result T SimFault → Type 0
-  HasRun wave trace r =
-      OnOk r (Ran batch c Properties None s s_now wave trace)
-      × IfErr r (λ fault. Ran batch c Properties (Some fault) s s_now wave trace)
+meant_is : (text : List ℕ) (taking : Taking) → ¬ IsCut taking → taken text taking ≡ meant text taking
+meant_is text NotSent whole = refl
+meant_is text All whole = refl
+meant_is text (Beginning count) whole = absurd (whole tt)
 
-  abbrev IsAnswered : (o o_now : Past) → Result T SimFault → Type 0
-  IsAnswered o o_now r =
-      OnOk r (DumpedAs batch c None s s_now o o_now)
-      × IfErr r (λ fault. DumpedAs batch c (Some fault) s s_now o o_now)
+module _ (c : Circuit) where
+  abbrev Says : Bool → Result (Unit {0}) SimFault → List ℕ → Ending → List ℕ → Taking → Type 0
+  Says batch ran bytes ending trace taking = TraceSaysAs batch c Properties ran bytes ending trace taking
 
-  answered : (o o_now : Past) (origin : Origin) (trace : Past) (failed : Bool) (ran answer : Result T SimFault)
-      → answer ≡ cond failed (Err faults.WriteFailed) ran → HasRun (unused origin) trace ran
-      → IsSent failed (wave_text c trace.bytes (is_ok ran)) o o_now → IsAnswered o o_now answer
-  answered o o_now origin trace false (Ok x) answer e h sent =
-      rw e (inl (record { origin = origin; trace = trace; ran = h.0; done = sent }), tt)
-  answered o o_now origin trace false (Err fault) answer e h sent =
-      rw e (tt, inl (record { origin = origin; trace = trace; ran = h.1; done = sent }))
-  answered o o_now origin trace true (Ok x) answer e h sent =
-      rw e (tt, inr (refl, (None, record { origin = origin; trace = trace; ran = h.0; done = sent })))
-  answered o o_now origin trace true (Err fault) answer e h sent =
-      rw e (tt, inr (refl, (Some fault, record { origin = origin; trace = trace; ran = h.1; done = sent })))
+  cut_where_told : (batch : Bool) (bytes : List ℕ) (ending : Ending) (trace : List ℕ) (taking : Taking)
+      → Says batch (Err faults.WriteFailed) bytes ending trace taking → IsCut taking
+  cut_where_told true bytes ending trace taking says = says.1
+  cut_where_told false bytes ending trace taking says = says.1
 
-  -- The trace went through a wave sink to a sink that had taken nothing.
-  pub dumped : {W : Type 0} (o o_now wave trace : Past) (w : Layout) (name : ℕ) (sink : W) (b : Out W)
-      (done failed : Bool) (ran answer : Result T SimFault)
-      → w ≡ layout_of c → o ≡ unused o.origin → wave ≡ unused (wave_origin w name o.origin)
-      → trace.origin ≡ wave.origin → HasRun wave trace ran → done ≡ is_ok ran
-      → ((v : Layout) (other : ℕ) (origin : Origin) → trace.origin ≡ wave_origin v other origin
-      → Put (fresh_at other sink origin) b (dump v (frames_of v trace.bytes) done))
-      → b.held ≡ [] → b.failed ≡ failed → o_now ≡ b.past → answer ≡ cond failed (Err faults.WriteFailed) ran
-      → (o_now.origin ≡ o.origin) × IsAnswered o o_now answer
-  dumped o o_now wave trace w name sink b done failed ran answer is new new_wave kept run ended put empty as_told output
-      answers =
-      let traced = kept ∙ ap (λ (p : Past). p.origin) new_wave in
+  all_at_end : (batch : Bool) (done : Unit {0}) (bytes : List ℕ) (ending : Ending) (trace : List ℕ) (taking : Taking)
+      → Says batch (Ok done) bytes ending trace taking → taking ≡ All
+  all_at_end true done bytes ending trace taking says = says.1
+  all_at_end false done bytes ending trace taking says = says.1
+
+  -- the sink took all of the dump
+  whole : (batch : Bool) (ran : Result (Unit {0}) SimFault) (bytes : List ℕ) (ending : Ending) (trace text : List ℕ)
+      (taking : Taking) → ¬ IsCut taking → Says batch ran bytes ending trace taking
+      → text ≡ wave_text c (meant trace taking) (is_ok ran) → DumpSays batch c ran bytes ending text All
+  whole batch (Err faults.WriteFailed) bytes ending trace text taking not_cut says is =
+      absurd (not_cut (cut_where_told batch bytes ending trace taking says))
+  whole batch (Err fault) bytes ending trace text taking not_cut says is =
+      (refl, record { trace = trace; taking = taking; says = says; is_dump = is })
+  whole batch (Ok done) bytes ending trace text taking not_cut says is =
+      (refl, record { trace = trace; taking = taking; says = says; is_dump = is })
+
+  -- the dump of a beginning of a trace is a beginning of its dump
+  longer : (trace : List ℕ) (taking : Taking) (o o_now : Past)
+      → TookBeginning (wave_text c (taken trace taking) false) o o_now
+      → TookBeginning (wave_text c (meant trace taking) false) o o_now
+  longer trace NotSent o o_now begun = begun
+  longer trace All o o_now begun = begun
+  longer trace (Beginning count) o o_now begun =
+      let grown = wave_grows c (take count trace) (drop count trace) false in
+      subst (λ (text : List ℕ). TookBeginning text o o_now)
+      (sym grown.1 ∙ ap (λ (text : List ℕ). wave_text c text false) (take-append-drop count trace))
+      (beginning_longer o o_now [] _ grown.0 begun)
+
+  -- a beginning of the dump of all of the trace
+  begun_of : (batch : Bool) (ran : Result (Unit {0}) SimFault) (bytes : List ℕ) (ending : Ending) (trace : List ℕ)
+      (taking : Taking) (o o_now : Past) → Says batch ran bytes ending trace taking
+      → TookBeginning (wave_text c (taken trace taking) (is_ok ran)) o o_now
+      → TookBeginning (wave_text c (meant trace taking) (is_ok ran)) o o_now
+  begun_of batch (Ok done) bytes ending trace taking o o_now says begun =
+      let all = all_at_end batch done bytes ending trace taking says in
+      rw all (rw all at begun)
+  begun_of batch (Err fault) bytes ending trace taking o o_now says begun = longer trace taking o o_now begun
+
+module _ (batch : Bool) (c : Circuit) (s s_now o o_now : Past) where
+  abbrev IsTraced : Result (Unit {0}) SimFault → (wave trace : Past) → Type 0
+  IsTraced ran wave trace = Ran (TraceSaysAs batch c Properties ran) s s_now wave trace
+
+  answered : {T E : Type 0} (r : Result T E) (ran answer : Result (Unit {0}) SimFault) (origin : Origin) (trace : Past)
+      → answer ≡ cond (is_err r) (Err faults.WriteFailed) ran → IsTraced ran (unused origin) trace
+      → OnOk r (trace.failures ≡ 0) → WasSent r (wave_text c trace.bytes (is_ok ran)) o o_now
+      → Ran (DumpSays batch c answer) s s_now o o_now
+  answered (Ok x) ran answer origin trace e run good put =
+      let t = run.says in
+      let not_cut = uncut t.text t.taking origin (rw t.sent at good) in
+      let text : trace.bytes ≡ meant t.text t.taking =
+      ap (λ (p : Past). p.bytes) t.sent ∙ taken_is t.text t.taking origin ∙ meant_is t.text t.taking not_cut in
+      rw e (record {
+        bytes = run.bytes;
+        ending = run.ending;
+        says = record {
+          text = wave_text c trace.bytes (is_ok ran);
+          taking = All;
+          says = whole c batch ran run.bytes run.ending t.text _ t.taking not_cut t.says
+              (ap (λ (t : List ℕ). wave_text c t (is_ok ran)) text);
+          sent = put;
+        };
+        came = run.came;
+      })
+  answered (Err fault) ran answer origin trace e run good put =
+      let t = run.says in
+      let text : trace.bytes ≡ taken t.text t.taking =
+      ap (λ (p : Past). p.bytes) t.sent ∙ taken_is t.text t.taking origin in
+      let begun = begun_of c batch ran run.bytes run.ending t.text t.taking o o_now t.says
+      (subst (λ (t : List ℕ). TookBeginning (wave_text c t (is_ok ran)) o o_now) text put) in
+      rw e (record {
+        bytes = run.bytes;
+        ending = run.ending;
+        says = record {
+          text = wave_text c (meant t.text t.taking) (is_ok ran);
+          taking = Beginning begun.count;
+          says = (tt, (ran, record { trace = t.text; taking = t.taking; says = t.says; is_dump = refl }));
+          sent = begun.past;
+        };
+        came = run.came;
+      })
+
+  -- The trace went through a wave sink to a sink with this past.
+  pub dumped : {T E : Type 0} (r : Result T E) (ran answer : Result (Unit {0}) SimFault) (wave trace : Past) (w : Layout)
+      (name : ℕ) (o_end : Past) (done failed : Bool) → w ≡ layout_of c → wave ≡ unused (wave_origin w name o)
+      → IsTraced ran wave trace → done ≡ is_ok ran
+      → ((v : Layout) (other : ℕ) (before : Past) → trace.origin ≡ wave_origin v other before
+      → WasSent r (dump v (frames_of v trace.bytes) done) before o_end)
+      → OnOk r (trace.failures ≡ 0) → failed ≡ is_err r → answer ≡ cond failed (Err faults.WriteFailed) ran
+      → o_now ≡ o_end
+      → Ran (DumpSays batch c answer) s s_now o o_now
+  dumped r ran answer wave trace w name o_end done failed is new run ended put good fails answers output =
+      let kept : trace.origin ≡ wave_origin w name o =
+      (ran_origins _ s s_now wave trace run).1 ∙ ap (λ (p : Past). p.origin) new in
       let text : dump w (frames_of w trace.bytes) done ≡ wave_text c trace.bytes (is_ok ran) =
       ap₂ (λ (v : Layout) (d : Bool). dump v (frames_of v trace.bytes) d) is ended in
-      let sent = put_sent name sink o.origin b _ failed (put w name o.origin traced) empty as_told in
-      let at = subst (λ (p : Past). IsSent failed (wave_text c trace.bytes (is_ok ran)) p o_now) (sym new)
-      (subst (λ (p : Past). IsSent failed (wave_text c trace.bytes (is_ok ran)) (unused o.origin) p) (sym output)
-      (subst (λ (d : List ℕ). IsSent failed d (unused o.origin) b.past) text sent)) in (
-        ap (λ (p : Past). p.origin) output ∙ origin_sent failed _ b.past o.origin sent,
-        answered o o_now (wave_origin w name o.origin) trace failed ran answer answers
-            (subst (λ (p : Past). HasRun p trace ran) new_wave run) at,
-      )
-
-  -- A dump was sent to a sink whose past began anew, and so to the sink below. The parts of that past at the end are
-  -- told one by one.
-  pub dumped_below : (o o_now o_end fresh fresh_now : Past) (lender : ℕ) (answer : Result T SimFault)
-      → fresh ≡ unused (fresh_origin lender o) → fresh_now.origin ≡ fresh.origin
-      → OnOk answer (DumpedAs batch c None s s_now fresh fresh_now)
-      → IfErr answer (λ fault. DumpedAs batch c (Some fault) s s_now fresh fresh_now)
-      → ((other : ℕ) (before : Past) → fresh_now.origin ≡ fresh_origin other before
-      → o_end ≡ later before fresh_now.bytes fresh_now.failures)
-      → o_now ≡ o_end → IsAnswered o o_now answer
-  dumped_below o o_now o_end fresh fresh_now lender answer new kept ok err finish output =
-      let is = output ∙ finish lender o (kept ∙ ap (λ (p : Past). p.origin) new) in
-      go answer ok err is
-    where
-      go : (r : Result T SimFault) → OnOk r (DumpedAs batch c None s s_now fresh fresh_now)
-          → IfErr r (λ fault. DumpedAs batch c (Some fault) s s_now fresh fresh_now)
-          → o_now ≡ later o fresh_now.bytes fresh_now.failures → IsAnswered o o_now r
-      go (Ok x) done none is =
-          (sent_below batch c s s_now None o o_now fresh_now _ (rw new at done) is, tt)
-      go (Err fault) none done is =
-          (tt, sent_below batch c s s_now (Some fault) o o_now fresh_now _ (rw new at done) is)
+      answered r ran answer (wave_origin w name o) trace
+      (answers ∙ ap (λ (b : Bool). cond b (Err faults.WriteFailed) ran) fails)
+      (subst (λ (p : Past). IsTraced ran p trace) new run) good
+      (subst (λ (p : Past). WasSent r (wave_text c trace.bytes (is_ok ran)) o p) (sym output)
+      (subst (λ (t : List ℕ). WasSent r t o o_end) text (put w name o kept)))
 
 -- nothing comes of a dump for which there is no memory
-took_nothing : (o : Past) → o ≡ took [] o
-took_nothing o = ap (λ (bytes : List ℕ). record o { bytes = bytes }) (sym (append-nil o.bytes))
-
 no_frame : (c : Circuit) → wave_text c [] false ≡ []
-unfolding lines_of
+unfolding lines_of most_frames
 no_frame c = refl
 
-refused_at_once : (batch : Bool) (c : Circuit) (s o : Past) → Ran batch c Properties (Some faults.OutOfMemory) s s o o
-refused_at_once true c s o = (([], false, took_nothing s), refl)
-refused_at_once false c s o = (refl, refl)
+refused_at_once : (batch : Bool) (c : Circuit) → TraceSaysAs batch c Properties (Err faults.OutOfMemory) [] Open [] NotSent
+refused_at_once true c = (tt, refl)
+refused_at_once false c = (refl, refl, refl)
 
-pub nothing_dumped : (batch : Bool) (c : Circuit) (s o : Past) → DumpedAs batch c (Some faults.OutOfMemory) s s o o
-nothing_dumped batch c s o =
-    inl (record {
-      origin = o.origin;
-      trace = unused o.origin;
-      ran = refused_at_once batch c s (unused o.origin);
-      done = subst (λ (d : List ℕ). o ≡ took d o) (sym (no_frame c)) (took_nothing o);
-    })
+pub nothing_dumped : (batch : Bool) (c : Circuit) (s o : Past)
+    → Ran (DumpSays batch c (Err faults.OutOfMemory)) s s o o
+nothing_dumped batch c s o = record {
+  bytes = [];
+  ending = Open;
+  says = record {
+    text = [];
+    taking = All;
+    says = (
+      refl,
+      record { trace = []; taking = NotSent; says = refused_at_once batch c; is_dump = sym (no_frame c) },
+    );
+    sent = took_none o;
+  };
+  came = took_none s;
+}

@@ -1,58 +1,109 @@
 -- What a source over bytes in memory gave, once it was read.
-use Rattle.std.proofs.Common.{◌≡◌, ◌⊎◌, ◌+◌, ◌<◌, ℕ, List, Bool, true, false, inl, inr, refl, subst, arith, Ok}
-use Rattle.std.proofs.Common.{Some, drop, length, take, take-add}
-use Rattle.aig_io.proofs.Took.{gave_next}
-use Rattle.aig_io.specs.Devices.{Past, after_fetch, gave, gave_all, unused}
-use Rattle.aig_io.specs.declared.device.DeviceFault.{DeviceFault}
+use Rattle.std.proofs.Common.{◌≡◌, ◌∙◌, ◌⊎◌, ◌+◌, ◌<◌, ℕ, List, Bool, false, OnOk, ap, IfErr, IfOk, Result}
+use Rattle.std.proofs.Common.{Ok, Err, inl, inr, refl, subst, arith, None, Some, length, take, true}
+use Rattle.aig_io.specs.Devices.{Origin, Past, unused}
+use Rattle.aig_io.specs.Lent.{HasGiven, lent}
+use Rattle.aig_io.specs.Runs.{All, AtEnd, Broken, Ending, IsUnbroken, Open, Ran, Read, Taking, came, is_at_end}
 use Rattle.aig_circuit.specs.declared.circuit.Circuit.{Circuit}
 use Rattle.aig_step.specs.declared.fault.SimFault.{SimFault}
 use Rattle.aig_step.specs.declared.fault.SimFault.TheVariants as sim_faults
-use Rattle.aig_step.specs.declared.trace.Columns.{Columns}
-use Rattle.aig_step.specs.Outcome.{first_bad_line}
-use Rattle.aig_batch.specs.Batched.{NotBatched}
-use Rattle.aig_witness.specs.Confirming.{NotJudged}
+use Rattle.aig_step.specs.declared.trace.Columns.TheVariants.{Properties}
+use Rattle.aig_step.specs.Outcome.{IsTraceUpTo, first_bad_line}
+use Rattle.aig_wave.specs.Wave.{wave_text}
+use Rattle.aig_witness.specs.declared.verdict.Verdict.{Verdict}
+use Rattle.aig_witness.specs.Confirming.{ConfirmSays}
 use Rattle.aig_witness.specs.Witness.{first_bad_witness_line}
-use Rattle.aig_dump.specs.InMemory.{IsBadStimulus, IsBadWitness, WantsMemory}
-use Rattle.aig_io.specs.Lent.{HasGiven, lent}
+use Rattle.aig_dump.specs.Dumped.{DumpSays, TraceSaysAs}
+use Rattle.aig_dump.specs.InMemory.{IsBadStimulus, IsBadWitness, IsDumpFor, IsVerdictFor, WantsMemory}
 use Rattle.aig_dump.proofs.Behind.{bad_line_stays, wrong_line_stays}
 
+-- a simulation that succeeded read all, found no bad line, and traced all
+all_traced : (batch : Bool) (c : Circuit) (done : Unit {0}) (bytes : List ℕ) (ending : Ending) (trace : List ℕ)
+    (taking : Taking) → TraceSaysAs batch c Properties (Ok done) bytes ending trace taking
+    → (ending ≡ AtEnd) × (taking ≡ All) × IsTraceUpTo c Properties bytes true None trace
+all_traced true c done bytes ending trace taking says = says
+all_traced false c done bytes ending trace taking says = says
+
 module _ (input : List ℕ) (now : Past) (given : HasGiven now) where
-  -- what was read to its end is all of the input
-  pub all_read : (bytes : List ℕ) → now ≡ gave_all bytes (unused (lent input)) → bytes ≡ input
-  all_read bytes is = let all = rw is at given.whole in all (omega arith)
+  -- what was read to its end is all of the input, and else a beginning of it
+  pub all_read : (bytes : List ℕ) → now ≡ came bytes AtEnd (unused (lent input)) → bytes ≡ input
+  all_read bytes is =
+      let all = rw is at given.whole in
+      all input refl (omega arith)
+
+  part_read : (bytes : List ℕ) → now ≡ came bytes Open (unused (lent input)) → bytes ≡ take (length bytes) input
+  part_read bytes is =
+      let front = rw is at given.front in
+      front input refl
 
   -- the first bad line of what was read is that of all of the input
-  bad_line : (c : Circuit) (bytes : List ℕ) (ended : Bool) (k : ℕ) → now ≡ gave bytes ended (unused (lent input))
-      → first_bad_line c bytes ended ≡ Some k → first_bad_line c input true ≡ Some k
-  bad_line c bytes true k is first = subst (λ bs. first_bad_line c bs true ≡ Some k) (all_read bytes is) first
-  bad_line c bytes false k is first =
+  pub bad_line : (c : Circuit) (bytes : List ℕ) (ending : Ending) (k : ℕ) → IsUnbroken ending
+      → now ≡ came bytes ending (unused (lent input)) → first_bad_line c bytes (is_at_end ending) ≡ Some k
+      → first_bad_line c input true ≡ Some k
+  bad_line c bytes AtEnd k whole is first = subst (λ bs. first_bad_line c bs true ≡ Some k) (all_read bytes is) first
+  bad_line c bytes Open k whole is first =
       bad_line_stays c (length bytes) k input
-      (subst (λ bs. first_bad_line c bs false ≡ Some k) (rw is at given.front) first)
-
-  pub not_batched : (c : Circuit) (columns : Columns) (fault : SimFault) (sink sink_now : Past)
-      → NotBatched c columns fault (unused (lent input)) now sink sink_now
-      → IsBadStimulus c input fault ⊎ WantsMemory fault
-  not_batched c columns (sim_faults.BadStimulus line) sink sink_now said =
-      inl (line, refl, bad_line c said.0.0 said.0.1 line said.0.2.past said.0.2.first)
-  not_batched c columns (sim_faults.BadWitness line) sink sink_now said = absurd said.0
-  not_batched c columns sim_faults.OutOfMemory sink sink_now said = inr (inl refl)
-  not_batched c columns sim_faults.ReadFailed sink sink_now said = inr (inr (inl refl))
-  not_batched c columns sim_faults.WriteFailed sink sink_now said = inr (inr (inr refl))
+      (subst (λ bs. first_bad_line c bs false ≡ Some k) (part_read bytes is) first)
+  bad_line c bytes Broken k whole is first = absurd whole
 
   -- the same of a witness file
-  wrong_line_of : (c : Circuit) (bytes : List ℕ) (ended : Bool) (k : ℕ) → now ≡ gave bytes ended (unused (lent input))
-      → first_bad_witness_line c bytes ended ≡ Some k → first_bad_witness_line c input true ≡ Some k
-  wrong_line_of c bytes true k is first =
+  wrong_line : (c : Circuit) (bytes : List ℕ) (ending : Ending) (k : ℕ) → IsUnbroken ending
+      → now ≡ came bytes ending (unused (lent input)) → first_bad_witness_line c bytes (is_at_end ending) ≡ Some k
+      → first_bad_witness_line c input true ≡ Some k
+  wrong_line c bytes AtEnd k whole is first =
       subst (λ bs. first_bad_witness_line c bs true ≡ Some k) (all_read bytes is) first
-  wrong_line_of c bytes false k is first =
+  wrong_line c bytes Open k whole is first =
       wrong_line_stays c (length bytes) k input
-      (subst (λ bs. first_bad_witness_line c bs false ≡ Some k) (rw is at given.front) first)
+      (subst (λ bs. first_bad_witness_line c bs false ≡ Some k) (part_read bytes is) first)
+  wrong_line c bytes Broken k whole is first = absurd whole
 
-  pub not_judged : (c : Circuit) (fault : SimFault) → NotJudged c fault (unused (lent input)) now
-      → IsBadWitness c input fault ⊎ WantsMemory fault
-  not_judged c (sim_faults.BadWitness line) said =
-      inl (line, refl, wrong_line_of c said.0 said.1 line said.2.past said.2.first)
-  not_judged c (sim_faults.BadStimulus line) said = absurd said
-  not_judged c sim_faults.OutOfMemory said = inr (inl refl)
-  not_judged c sim_faults.ReadFailed said = inr (inr (inl refl))
-  not_judged c sim_faults.WriteFailed said = inr (inr (inr refl))
+  pub dumped : (batch : Bool) (c : Circuit) (r : Result (Unit {0}) SimFault) (origin : Origin) (sink_now : Past)
+      → Ran (DumpSays batch c r) (unused (lent input)) now (unused origin) sink_now
+      → OnOk r ((first_bad_line c input true ≡ None) × IsDumpFor c input sink_now.bytes)
+  dumped batch c (Ok done) origin sink_now ran =
+      let sent = ran.says in
+      let d = sent.says.1 in
+      let says = all_traced batch c done ran.bytes ran.ending d.trace d.taking d.says in
+      let read = all_read ran.bytes (rw says.0 at ran.came) in
+      let text : sink_now.bytes ≡ sent.text = ap (λ (p : Past). p.bytes) (rw sent.says.0 at sent.sent) in
+      let is : sent.text ≡ wave_text c d.trace true = rw says.1 at d.is_dump in
+      subst (λ (bytes : List ℕ). (first_bad_line c bytes true ≡ None) × IsDumpFor c bytes sink_now.bytes) read
+      (says.2.first, (d.trace, says.2.is_text, text ∙ is))
+  dumped batch c (Err fault) origin sink_now ran = tt
+
+  bad_stimulus : (batch : Bool) (c : Circuit) (line : ℕ) (bytes : List ℕ) (ending : Ending) (trace : List ℕ)
+      (taking : Taking)
+      → TraceSaysAs batch c Properties (Err (sim_faults.BadStimulus line)) bytes ending trace taking
+      → now ≡ came bytes ending (unused (lent input)) → first_bad_line c input true ≡ Some line
+  bad_stimulus true c line bytes ending trace taking says is = bad_line c bytes ending line says.0.0 is says.0.1
+  bad_stimulus false c line bytes ending trace taking says is = bad_line c bytes ending line says.0 is says.2.first
+
+  pub not_dumped : (batch : Bool) (c : Circuit) (r : Result (Unit {0}) SimFault) (sink sink_now : Past)
+      → Ran (DumpSays batch c r) (unused (lent input)) now sink sink_now
+      → IfErr r (λ fault. IsBadStimulus c input fault ⊎ WantsMemory fault)
+  not_dumped batch c (Ok done) sink sink_now ran = tt
+  not_dumped batch c (Err (sim_faults.BadStimulus line)) sink sink_now ran =
+      let d = ran.says.says.1 in
+      inl (line, refl, bad_stimulus batch c line ran.bytes ran.ending d.trace d.taking d.says ran.came)
+  not_dumped true c (Err (sim_faults.BadWitness line)) sink sink_now ran = absurd ran.says.says.1.says.0
+  not_dumped false c (Err (sim_faults.BadWitness line)) sink sink_now ran = absurd ran.says.says.1.says
+  not_dumped batch c (Err sim_faults.OutOfMemory) sink sink_now ran = inr (inl refl)
+  not_dumped batch c (Err sim_faults.ReadFailed) sink sink_now ran = inr (inr (inl refl))
+  not_dumped batch c (Err sim_faults.WriteFailed) sink sink_now ran = inr (inr (inr refl))
+
+  pub judged : (c : Circuit) (r : Result Verdict SimFault) → Read (ConfirmSays c r) (unused (lent input)) now
+      → IfOk r (IsVerdictFor c input)
+  judged c (Ok verdict) read =
+      let bytes = all_read read.bytes (rw read.says.0 at read.came) in
+      subst (λ bs. IsVerdictFor c bs verdict) bytes (read.says.1.claim, read.says.1.says, read.says.1.is_verdict)
+  judged c (Err fault) read = tt
+
+  pub not_judged : (c : Circuit) (r : Result Verdict SimFault) → Read (ConfirmSays c r) (unused (lent input)) now
+      → IfErr r (λ fault. IsBadWitness c input fault ⊎ WantsMemory fault)
+  not_judged c (Ok verdict) read = tt
+  not_judged c (Err (sim_faults.BadWitness line)) read =
+      inl (line, refl, wrong_line c read.bytes read.ending line read.says.0 read.came read.says.1)
+  not_judged c (Err (sim_faults.BadStimulus line)) read = absurd read.says
+  not_judged c (Err sim_faults.OutOfMemory) read = inr (inl refl)
+  not_judged c (Err sim_faults.ReadFailed) read = inr (inr (inl refl))
+  not_judged c (Err sim_faults.WriteFailed) read = absurd read.says

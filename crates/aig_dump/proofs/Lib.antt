@@ -1,6 +1,5 @@
 pub mod Behind
 pub mod Dumps
 pub mod Lents
-pub mod MemoryDumps
 pub mod Runs
 pub mod RunDumps

@@ -6,7 +6,7 @@ use Rattle.aig_circuit.specs.declared.circuit.Circuit.{Circuit}
 use Rattle.aig_circuit.specs.declared.value.Val.{Val}
 use Rattle.aig_meaning.specs.Meaning.{Row}
 use Rattle.aig_meaning.specs.Trace.{IsTrace, reset_state}
-use Rattle.aig_rows.specs.Lines.{Line, lines_of}
+use Rattle.aig_lines.specs.Lines.{Line, lines_of}
 use Rattle.aig_step.specs.declared.trace.Columns.TheVariants.{Properties}
 use Rattle.aig_step.specs.Stimulus.{Runs, judged_lines, runs_of, stimulus, text_of}
 use Rattle.aig_step.specs.TraceText.{IsTraceText, last_stop, rows_text, run_text, values_text}
@@ -15,10 +15,10 @@ use Rattle.aig_wave.specs.Wave.{wave_text}
 use Rattle.aig_witness.specs.Witness.{Claim, SaysClaim}
 use Rattle.aig_witness.proofs.WitnessTexts.{witness_files_are_read}
 use Rattle.aig_claims.specs.RunDump.{IsRunDump, started_in}
-use Rattle.aig_claims.specs.Started.{started_by}
+use Rattle.aig_claims.specs.Started.{value_or_x}
+use Rattle.aig_dump.specs.InMemory.{IsDumpFor}
 use Rattle.aig_dump.proofs.Behind.{all_judged}
-use Rattle.aig_dump.proofs.MemoryDumps.{IsDumpOf}
-use Rattle.aig_claims.proofs.Starting.{started_by_text, trace_from}
+use Rattle.aig_claims.proofs.Starting.{trace_from, values_back}
 
 -- lines of which three texts are known
 record AreThree (ls : List Line) (text : List ℕ) (texts : List (List ℕ)) : Type 0 where
@@ -74,15 +74,15 @@ trace_of_run c st text steps (runs, bad) t =
 pub run_dumped : (c : Circuit) (claim : Claim) (witness first st run : List ℕ) → SaysClaim c witness claim
     → ((one two three : Line) (ls : List Line) → lines_of witness ≡ one ∷ two ∷ three ∷ ls
     → (first ≡ text_of three) × (lines_of st ≡ ls))
-    → IsDumpOf (started_by first c) st run → IsRunDump c claim run
+    → IsDumpFor (started_in (map value_or_x first) c) st run → IsRunDump c claim run
 run_dumped c claim witness first st run says parted dumped =
     let file = (witness_files_are_read c witness claim).0 says in
     let lines = three_lines (lines_of witness) _ _ _ _ file.texts in
     let known = parted lines.one lines.two lines.three lines.behind lines.parted in
     let d : Circuit = started_in claim.first c in
-    let started : started_by first c ≡ d =
-    ap (λ text. started_by text c) (known.0 ∙ lines.third) ∙ started_by_text claim.first c in
-    let (trace, is_trace, is) = subst (λ (e : Circuit). IsDumpOf e st run) started dumped in
+    let started : started_in (map value_or_x first) c ≡ d =
+    ap (λ vs. started_in vs c) (ap (map value_or_x) (known.0 ∙ lines.third) ∙ values_back claim.first) in
+    let (trace, is_trace, is) = subst (λ (e : Circuit). IsDumpFor e st run) started dumped in
     let texts : map text_of (judged_lines st true) ≡ map values_text claim.steps ++ codes "." ∷ [] =
     ap (map text_of) (all_judged (lines_of st) ∙ known.1) ∙ lines.others in
     let said = (stimuli_are_read d st true (Said claim.steps) None).1 (record {

@@ -1,36 +1,39 @@
--- What came of a simulation that writes its trace, or the dump of that, for the pasts of the stimulus and the sink as
--- they were and as they are now.
-use Rattle.std.specs.Prelude.{◌≡◌, ◌⊎◌, ℕ, List, Bool, Option, None, Some, MatchBool, is_none}
-use Rattle.aig_io.specs.Devices.{Origin, Past, TookBeginning, took, unused}
+-- What the answer of a simulation says that writes its trace, or the dump of that.
+use Rattle.std.specs.Prelude.{◌≡◌, ℕ, List, [], Bool, Result, Ok, Err, MatchBool, is_ok}
+use Rattle.aig_io.specs.Runs.{All, Beginning, Ending, IsCut, NotSent, Taking}
 use Rattle.aig_circuit.specs.declared.circuit.Circuit.{Circuit}
 use Rattle.aig_step.specs.declared.fault.SimFault.{SimFault}
 use Rattle.aig_step.specs.declared.fault.SimFault.TheVariants.{WriteFailed}
 use Rattle.aig_step.specs.declared.trace.Columns.{Columns}
 use Rattle.aig_step.specs.declared.trace.Columns.TheVariants.{Properties}
-use Rattle.aig_batch.specs.Batched.{NotBatched}
-use Rattle.aig_step.specs.Outcome.{NotSimulated, Simulated}
+use Rattle.aig_step.specs.Outcome.{TraceSays}
+use Rattle.aig_batch.specs.Batched.{BatchSays}
 use Rattle.aig_wave.specs.Wave.{wave_text}
 
--- What came of a simulation that writes its trace, as a batch or step by step: it succeeded, or ended with a fault.
-abbrev pub Ran : Bool → Circuit → Columns → Option SimFault → (stimulus stimulus_now sink sink_now : Past) → Type 0
-Ran batch c columns None stimulus stimulus_now sink sink_now = Simulated c columns stimulus stimulus_now sink sink_now
-Ran batch c columns (Some fault) stimulus stimulus_now sink sink_now =
-    MatchBool batch (NotBatched c columns fault stimulus stimulus_now sink sink_now)
-    (NotSimulated c columns fault stimulus stimulus_now sink sink_now)
+-- what an answer says where the trace is written, as a batch or step by step
+abbrev pub TraceSaysAs : Bool → Circuit → Columns → Result (Unit {0}) SimFault → List ℕ → Ending → List ℕ → Taking
+    → Type 0
+TraceSaysAs batch c columns answer bytes ending text taking =
+    MatchBool batch (BatchSays c columns answer bytes ending text taking)
+    (TraceSays c columns answer bytes ending text taking)
 
--- The trace of a simulation, with all its columns, went to a sink that had taken nothing. This is done with the dump of
--- what that sink took; the dump is ended where the simulation succeeded.
-pub record Dumped (batch : Bool) (c : Circuit) (fault : Option SimFault) (stimulus stimulus_now : Past)
-    (IsDone : List ℕ → Type 0) : Type 0 where
-  pub origin : Origin
-  pub trace : Past
-  pub ran : Ran batch c Properties fault stimulus stimulus_now (unused origin) trace
-  pub done : IsDone (wave_text c trace.bytes (is_none fault))
+-- what a sink was to take of a text
+abbrev pub meant : List ℕ → Taking → List ℕ
+meant text NotSent = []
+meant text All = text
+meant text (Beginning count) = text
 
--- What came of a simulation that writes the dump of its trace: the output took the dump; or it failed, and took a
--- beginning of the dump, however the simulation ended.
-abbrev pub DumpedAs : Bool → Circuit → Option SimFault → (stimulus stimulus_now sink sink_now : Past) → Type 0
-DumpedAs batch c fault stimulus stimulus_now sink sink_now =
-    Dumped batch c fault stimulus stimulus_now (λ dump. sink_now ≡ took dump sink)
-    ⊎ ((fault ≡ Some WriteFailed) × ((other : Option SimFault)
-    × Dumped batch c other stimulus stimulus_now (λ dump. TookBeginning dump sink sink_now)))
+-- This is the dump of all of the trace, with all its columns, that goes with this answer. It is ended where the
+-- simulation succeeded.
+pub record IsDumpOf (batch : Bool) (c : Circuit) (answer : Result (Unit {0}) SimFault) (bytes : List ℕ) (ending : Ending)
+    (dump : List ℕ) : Type 0 where
+  pub trace : List ℕ
+  pub taking : Taking
+  pub says : TraceSaysAs batch c Properties answer bytes ending trace taking
+  pub is_dump : dump ≡ wave_text c (meant trace taking) (is_ok answer)
+
+-- The sink took all of the dump that goes with the answer; or it failed on the way, however the simulation ended.
+abbrev pub DumpSays : Bool → Circuit → Result (Unit {0}) SimFault → List ℕ → Ending → List ℕ → Taking → Type 0
+DumpSays batch c (Err WriteFailed) bytes ending text taking =
+    IsCut taking × ((answer : Result (Unit {0}) SimFault) × IsDumpOf batch c answer bytes ending text)
+DumpSays batch c answer bytes ending text taking = (taking ≡ All) × IsDumpOf batch c answer bytes ending text

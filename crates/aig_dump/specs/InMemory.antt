@@ -4,8 +4,13 @@ use Rattle.aig_circuit.specs.declared.circuit.Circuit.{Circuit}
 use Rattle.aig_step.specs.declared.fault.SimFault.{SimFault}
 use Rattle.aig_step.specs.declared.fault.SimFault.TheVariants.{BadStimulus, BadWitness, OutOfMemory, ReadFailed}
 use Rattle.aig_step.specs.declared.fault.SimFault.TheVariants.{WriteFailed}
+use Rattle.aig_step.specs.declared.trace.Columns.TheVariants.{Properties}
 use Rattle.aig_step.specs.Outcome.{first_bad_line}
+use Rattle.aig_step.specs.TraceText.{IsTraceText}
+use Rattle.aig_wave.specs.Wave.{wave_text}
+use Rattle.aig_claims.specs.RunDump.{IsRunDump}
 use Rattle.aig_witness.specs.declared.verdict.Verdict.{Verdict}
+use Rattle.aig_witness.specs.Confirming.{Judged}
 use Rattle.aig_witness.specs.Witness.{Claim, IsVerdict, SaysClaim, first_bad_witness_line}
 
 -- This line of the stimulus is the first bad one.
@@ -18,9 +23,18 @@ abbrev pub IsBadWitness : Circuit → (witness : List ℕ) → SimFault → Type
 IsBadWitness c witness fault =
     (line : ℕ) × (fault ≡ BadWitness line) × (first_bad_witness_line c witness true ≡ Some line)
 
+-- these bytes are the dump of the trace of a whole stimulus
+abbrev pub IsDumpFor : Circuit → (stimulus bytes : List ℕ) → Type 0
+IsDumpFor c stimulus bytes =
+    (trace : List ℕ) × IsTraceText c Properties stimulus true trace × (bytes ≡ wave_text c trace true)
+
 -- the verdict on what a witness file claims of a circuit
 abbrev pub IsVerdictFor : Circuit → (witness : List ℕ) → Verdict → Type 0
 IsVerdictFor c witness verdict = (claim : Claim) × SaysClaim c witness claim × IsVerdict c claim verdict
+
+-- a witness file was judged, and this is the dump of the run that it claims
+abbrev pub JudgedRun : Circuit → Verdict → (witness run : List ℕ) → Type 0
+JudgedRun c verdict witness run = (judged : Judged c verdict witness) × IsRunDump c judged.claim run
 
 -- The fault blames no line. Then memory was refused, since no device in memory fails for another reason.
 abbrev pub WantsMemory : SimFault → Type 0

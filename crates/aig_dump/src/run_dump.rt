@@ -1,7 +1,7 @@
 //! The dump of the run that a witness file claims.
 ghost use Rattle.std.specs.Prelude.{◌≡◌, ◌⊎◌, ◌∷◌, ℕ, IfErr, IfOk, List};
 ghost use Rattle.aig_circuit.specs.declared.circuit.Circuit.{Circuit};
-ghost use Rattle.aig_rows.specs.Lines.{Line as LineRecord, line as made_line, lines_of};
+ghost use Rattle.aig_lines.specs.Lines.{Line as LineRecord, line as made_line, lines_of};
 ghost use Rattle.aig_rows.specs.Messages.{message_text};
 ghost use Rattle.aig_step.specs.Stimulus.{text_of};
 ghost use Rattle.aig_step.specs.declared.fault.SimFault.TheVariants as faults;
@@ -9,11 +9,10 @@ ghost use Rattle.aig_witness.specs.Witness.{Claim, IsVerdict, SaysClaim};
 ghost use Rattle.aig_claims.specs.RunDump.{IsRunDump, comment_line};
 ghost use Rattle.aig_dump.specs.InMemory.{IsBadWitness, WantsMemory};
 
-use crate::in_memory::{dump_step_by_step, verdict_on};
+use crate::in_memory::{dump_as, verdict_on};
 use aig_claims::started_by;
 use aig_core::{Checked, OutOfMemory};
-use aig_lines::without_return;
-use aig_rows::{Line, split_line};
+use aig_lines::{Line, split_line, without_return};
 use aig_step::SimFault;
 use aig_text::Message;
 use aig_witness::Verdict;
@@ -58,7 +57,8 @@ fn run_dump(alloc: Global, found: Checked, witness: &[u8]) -> Result<Vec<u8>, Ou
 {
     let (first, steps) = state_and_steps(witness);
     let started = started_by(first, found);
-    let made = dump_step_by_step(alloc, &started, steps);
+    // To take runs side by side wants more stack than the system gives before a program begins.
+    let made = dump_as(alloc, false, &started, steps);
     drop(started);
     match made {
         Ok(run) => Ok(run),

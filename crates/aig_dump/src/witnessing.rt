@@ -1,8 +1,9 @@
 //! The dump of a witness's run, from a source to a sink.
-ghost use Rattle.std.specs.Prelude.{◌≡◌, ◌++◌, IfErr, IfOk, OnErr, OnOk};
+ghost use Rattle.std.specs.Prelude.{◌≡◌, ◌++◌, IfErr, IfOk, MatchResult, OnErr, OnOk};
 ghost use Rattle.aig_io.specs.Devices.{CanFail, gave_all, took, TookBeginning};
-ghost use Rattle.aig_witness.specs.Confirming.{Judged};
-ghost use Rattle.aig_claims.specs.RunDump.{HasNoDump, IsRunDump, comment_line};
+ghost use Rattle.aig_io.specs.Runs.{AtEnd, Read};
+ghost use Rattle.aig_claims.specs.RunDump.{HasNoDump, comment_line};
+ghost use Rattle.aig_dump.specs.InMemory.{JudgedRun};
 
 use crate::run_dump::{comment_line, judge_and_dump};
 use aig_core::{Checked, Output, ReadError, Sink, Source, read_all};
@@ -19,7 +20,7 @@ fn read_witness<R: Source>(
 ) -> Result<Vec<u8>, SimFault>
     requires { CanFail (R.past witness.old) }
     ensures ok { IfOk result (λ bytes. R.past witness.new ≡ gave_all bytes.items (R.past witness.old)) }
-    ensures err { IfErr result (λ fault. HasNoDump found.now fault (R.past witness.old) (R.past witness.new)) }
+    ensures err { IfErr result (λ fault. Read (HasNoDump found.now fault) (R.past witness.old) (R.past witness.new)) }
 {
     match read_all(alloc, witness) {
         Ok(bytes) => Ok(bytes),
@@ -35,9 +36,9 @@ pub fn read_and_dump<R: Source>(
     witness: &mut R,
 ) -> Result<(Verdict, Vec<u8>), SimFault>
     requires { CanFail (R.past witness.old) }
-    ensures ok { IfOk result (λ made. (judged : Judged found made.0 (R.past witness.old) (R.past witness.new))
-        × IsRunDump found judged.claim made.1.items) }
-    ensures err { IfErr result (λ fault. HasNoDump found fault (R.past witness.old) (R.past witness.new)) }
+    ensures read { Read (λ bytes ending. MatchResult result
+        (λ made. (ending ≡ AtEnd) × JudgedRun found made.0 bytes made.1.items) (λ fault. HasNoDump found fault bytes ending))
+        (R.past witness.old) (R.past witness.new) }
 {
     match read_witness(alloc, &found, witness) {
         Ok(bytes) => {

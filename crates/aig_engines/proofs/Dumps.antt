@@ -12,14 +12,13 @@ use Rattle.aig_image.specs.Relabelled.{relabelled_latch, relabelled_literal}
 use Rattle.aig_image.specs.Renumbering.{in_new_order, renumbered}
 use Rattle.aig_image.proofs.Imaging.Ordered.{image_is_ordered}
 use Rattle.aig_map.specs.MapBlock.{IsMappedImage}
-use Rattle.aig_map.proofs.Mapping.MappedOrder.{mapped_image_is_ordered}
+use Rattle.aig_map.proofs.Mapping.{mapped_image_is_ordered}
 use Rattle.aig_wave.specs.Laws.{ShowTheSame}
 use Rattle.aig_wave.specs.Wave.{wave_text}
 use Rattle.aig_wave.proofs.Alike.{same_wave}
 use Rattle.aig_wave.proofs.Retold.{dumps_lose_nothing}
 use Rattle.aig_engines.specs.Conversion.{IsConversionText, IsSource, IsTextAs}
-use Rattle.aig_engines.specs.DumpLaws.{ConversionsAreDumpedAlike, DumpsAreKept, DumpsAreUnambiguous}
-use Rattle.aig_engines.specs.DumpLaws.{DumpsTellTraces}
+use Rattle.aig_engines.specs.DumpLaws.{ConversionsAreDumpedAlike, DumpsAreKept, DumpsAreUnambiguous, DumpsTellTraces}
 use Rattle.aig_engines.specs.File.{IsFileOf}
 use Rattle.aig_binary.proofs.Files.{one_circuit}
 use Rattle.aig_engines.proofs.Traces.{one_simulation_text, traces_are_kept}
@@ -156,10 +155,10 @@ one_dump request model stimulus dump other p q =
     p.is_dump ∙ ap₂ (λ (c : Circuit) (trace : List ℕ). wave_text c trace true) found traces ∙ sym q.is_dump
 
 pub dumps_tell_traces : DumpsTellTraces
-dumps_tell_traces request model stimulus other dump p q =
+dumps_tell_traces request model stimulus other dump p q short other_short =
     let c = p.simulation.found in
     let found = one_circuit model request.max_var q.simulation.found c q.simulation.read p.simulation.read in
     dumps_lose_nothing c (well_formed_file model request.max_var c p.simulation.read).limits stimulus other p.trace
-    q.trace p.simulation.is_trace p.simulation.none_bad (rw found at q.simulation.is_trace)
+    q.trace short other_short p.simulation.is_trace p.simulation.none_bad (rw found at q.simulation.is_trace)
     (rw found at q.simulation.none_bad)
     (sym p.is_dump ∙ q.is_dump ∙ ap (λ (d : Circuit). wave_text d q.trace true) found)

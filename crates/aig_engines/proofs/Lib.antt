@@ -10,3 +10,4 @@ pub mod Texts
 pub mod Dumps
 pub mod WitnessDumps
 pub mod SourceFaults
+pub mod Outcomes

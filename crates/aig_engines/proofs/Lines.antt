@@ -1,6 +1,6 @@
 -- A line that was put into an output and sent.
-use Rattle.std.proofs.Common.{◌≡◌, ◌≢◌, ◌++◌, List, [], ℕ, Bool, true, false, codes}
-use Rattle.std.proofs.Common.{Result, Ok, Err, inl, inr, is_err, is_ok, refl}
+use Rattle.std.proofs.Common.{◌≡◌, ◌≢◌, ◌++◌, List, [], ℕ, Bool, true, false, codes, Result, Ok, Err, inl, inr, is_err}
+use Rattle.std.proofs.Common.{is_ok, refl}
 use Rattle.aig_io.specs.Output.{Out, Put}
 use Rattle.aig_io.proofs.Puts.{all_sent, beginning_sent}
 use Rattle.aig_engines.specs.Blame.{Party, TheSource, TheSink, Memory, TheInput, TheStimulus, TheSteps}

@@ -1,13 +1,13 @@
 -- What is converted means what it was converted from.
-use Rattle.std.proofs.Common.{refl, rules, ℕ, List, Bool, true, false, inl, if◌then◌else◌}
+use Rattle.std.proofs.Common.{if◌then◌else◌, refl, rules, ℕ, List, Bool, true, false, inl}
 use Rattle.aig_circuit.specs.declared.circuit.Circuit.{Circuit}
 use Rattle.aig_circuit.specs.declared.circuit.TheConstants.{LARGEST}
 use Rattle.aig_circuit.specs.Wellformed.{IsWellFormed}
 use Rattle.aig_meaning.specs.Meaning.{IsRow, MeansTheSame, Row}
-use Rattle.aig_meaning.proofs.Same.{means_itself, same_back, same_by_rows, same_through}
+use Rattle.aig_meaning.proofs.Traces.{means_itself, same_back, same_by_rows, same_through}
 use Rattle.aig_image.proofs.Imaging.Ordered.{image_is_ordered}
-use Rattle.aig_image.proofs.Meaning.Images.{image_means_the_same}
-use Rattle.aig_map.proofs.Mapping.MappedOrder.{mapped_image_is_ordered}
+use Rattle.aig_image.proofs.Meaning.{image_means_the_same}
+use Rattle.aig_map.proofs.Mapping.{mapped_image_is_ordered}
 use Rattle.aig_order.proofs.Meaning.{mapped_image_means_the_same, undone_means_the_same}
 use Rattle.aig_command.specs.declared.request.ToAig.{ToAig}
 use Rattle.aig_engines.specs.File.{IsFileOf}

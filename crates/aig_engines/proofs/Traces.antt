@@ -3,10 +3,9 @@ use Rattle.std.proofs.Common.{◌≡◌, ◌∙◌, sym, ℕ, List, true}
 use Rattle.aig_circuit.specs.declared.circuit.Circuit.{Circuit}
 use Rattle.aig_circuit.specs.declared.circuit.TheConstants.{LARGEST}
 use Rattle.aig_meaning.specs.Meaning.{MeansTheSame}
-use Rattle.aig_meaning.proofs.Same.{same_back}
+use Rattle.aig_meaning.proofs.Traces.{same_back}
 use Rattle.aig_command.specs.declared.request.Sim.{Sim}
-use Rattle.aig_trace_laws.proofs.OneText.{one_trace_text}
-use Rattle.aig_trace_laws.proofs.SameTexts.{same_meaning_same_text}
+use Rattle.aig_trace_laws.proofs.Texts.{one_trace_text, same_meaning_same_text}
 use Rattle.aig_engines.specs.File.{IsFileOf}
 use Rattle.aig_engines.specs.Simulation.{columns_of, IsSimulationText}
 use Rattle.aig_engines.specs.Laws.{SimulationsAreUnambiguous, SimulationTextsExist, TracesAreKept}

@@ -4,15 +4,15 @@ use Rattle.std.proofs.Common.{◌≡◌, ◌∙◌, sym, ap, ℕ, List, Bool, tr
 use Rattle.aig_circuit.specs.declared.circuit.Circuit.{Circuit}
 use Rattle.aig_circuit.specs.declared.circuit.TheConstants.{LARGEST}
 use Rattle.aig_circuit.specs.Wellformed.{IsWellFormed}
-use Rattle.aig_circuit.proofs.Checking.Fitting.{definitions_fit, well_formed_in_form}
+use Rattle.aig_circuit.proofs.Checking.{definitions_fit, well_formed_in_form}
 use Rattle.aig_text.specs.AsciiText.{ascii_text}
-use Rattle.aig_text.proofs.Canonical.Text.{canonical_text}
+use Rattle.aig_text.proofs.Canonical.{canonical_text}
 use Rattle.aig_text.specs.AsciiGrammar.{IsAsciiText}
 use Rattle.aig_checked.specs.BinaryOrder.{IsInBinaryOrder}
 use Rattle.aig_binary.specs.BinaryText.{binary_text}
-use Rattle.aig_binary.proofs.Canonical.{canonical_binary}
+use Rattle.aig_binary.proofs.Files.{canonical_binary, one_circuit}
 use Rattle.aig_map.specs.MapBlock.{IsMappedImage}
-use Rattle.aig_map.proofs.Mapping.MappedOrder.{mapped_image_is_ordered}
+use Rattle.aig_map.proofs.Mapping.{mapped_image_is_ordered}
 use Rattle.aig_image.proofs.Imaging.Ordered.{image_is_one}
 use Rattle.aig_map.proofs.Sources.OneSource.{one_source, undoing_recovers}
 use Rattle.aig_map.proofs.Sources.Refused.{one_mapped}
@@ -20,9 +20,8 @@ use Rattle.aig_image.proofs.Imaging.OwnImage.{own_image}
 use Rattle.aig_command.specs.declared.request.ToAig.{ToAig}
 use Rattle.aig_engines.specs.File.{IsFileOf}
 use Rattle.aig_engines.specs.Conversion.{IsImageAs, IsSource, IsTextAs, IsConversionText, changed}
-use Rattle.aig_engines.specs.Laws.{BinarySurvivesAscii, ConversionsAreUnambiguous, IsPlain, KeepsMap}
-use Rattle.aig_engines.specs.Laws.{UndoesMap, UndoingGivesAsciiBack}
-use Rattle.aig_binary.proofs.Files.{one_circuit}
+use Rattle.aig_engines.specs.Laws.{BinarySurvivesAscii, ConversionsAreUnambiguous, IsPlain, KeepsMap, UndoesMap}
+use Rattle.aig_engines.specs.Laws.{UndoingGivesAsciiBack}
 
 one_image : (keep_map : Bool) (c image other : Circuit) → IsImageAs keep_map c image → IsImageAs keep_map c other
     → image ≡ other

@@ -6,7 +6,7 @@ use Rattle.aig_circuit.specs.Wellformed.{IsWellFormed}
 use Rattle.aig_text.specs.AsciiText.{ascii_text}
 use Rattle.aig_text.specs.Reading.{fault_of}
 use Rattle.aig_binary.specs.BinaryText.{binary_text}
-use Rattle.aig_map.proofs.Mapping.MappedOrder.{mapped_image_is_one, mapped_image_is_ordered}
+use Rattle.aig_map.proofs.Mapping.{mapped_image_is_one, mapped_image_is_ordered}
 use Rattle.aig_map.proofs.Sources.OneSource.{undoing_recovers}
 use Rattle.aig_image.proofs.Imaging.OwnImage.{own_image}
 use Rattle.aig_map.proofs.Sources.Refused.{only_memory}

@@ -5,7 +5,7 @@ use Rattle.aig_circuit.specs.declared.circuit.TheConstants.{LARGEST}
 use Rattle.aig_checked.specs.BinaryOrder.{IsInBinaryOrder}
 use Rattle.aig_circuit.specs.Wellformed.{IsWellFormed}
 use Rattle.aig_unroll.specs.Unrolled.{IsUnrolled}
-use Rattle.aig_unroll.proofs.Ordering.Counts.{one_unrolled, unrolled_is_ordered}
+use Rattle.aig_unroll.proofs.Ordering.Ordered.{one_unrolled, unrolled_is_ordered}
 use Rattle.aig_command.specs.declared.request.Unroll.{Unroll}
 use Rattle.aig_engines.specs.File.{IsFileOf}
 use Rattle.aig_engines.specs.Unrolling.{IsUnrollingText, text_as}

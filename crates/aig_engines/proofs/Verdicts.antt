@@ -3,15 +3,14 @@ use Rattle.std.proofs.Common.{◌≡◌, ◌∙◌, ℕ, List, None, Result, Ok,
 use Rattle.aig_circuit.specs.declared.circuit.Circuit.{Circuit}
 use Rattle.aig_circuit.specs.declared.circuit.TheConstants.{LARGEST}
 use Rattle.aig_meaning.specs.Meaning.{MeansTheSame}
-use Rattle.aig_meaning.proofs.Same.{same_back}
+use Rattle.aig_meaning.proofs.Traces.{same_back}
 use Rattle.aig_command.specs.declared.request.Sim.{Sim}
 use Rattle.aig_step.specs.Stimulus.{judged_lines}
 use Rattle.aig_witness.specs.declared.verdict.Verdict.{Verdict}
 use Rattle.aig_witness.specs.Witness.{Claim, IsVerdict, Nothing, Property, Said, SaysClaim, Steps, Version, Whole}
 use Rattle.aig_witness.specs.Witness.{shape_of, witness_of, wrong_line}
-use Rattle.aig_witness.proofs.Verdicts.{one_verdict}
+use Rattle.aig_witness.proofs.Verdicts.{one_verdict, claims_have_files}
 use Rattle.aig_witness.proofs.WitnessEnds.{says_too, verdict_too}
-use Rattle.aig_witness.proofs.WitnessFiles.{claims_have_files}
 use Rattle.aig_witness.proofs.Witnessing.{same_bad}
 use Rattle.aig_engines.specs.File.{IsFileOf}
 use Rattle.aig_engines.specs.Laws.{RightRunsAreConfirmed, VerdictsAreKept, WitnessAnswersAreUnambiguous}

@@ -6,8 +6,7 @@ use Rattle.aig_circuit.specs.declared.circuit.Reset.{Reset}
 use Rattle.aig_circuit.specs.declared.circuit.TheConstants.{LARGEST}
 use Rattle.aig_circuit.specs.Wellformed.{IsWellFormed}
 use Rattle.aig_meaning.specs.Meaning.{MeansTheSame, Row}
-use Rattle.aig_meaning.proofs.Same.{same_back}
-use Rattle.aig_meaning.proofs.Traces.{rows_follow_once, same_meaning_same_traces}
+use Rattle.aig_meaning.proofs.Traces.{same_back, rows_follow_once, same_meaning_same_traces}
 use Rattle.aig_command.specs.declared.request.Sim.{Sim}
 use Rattle.aig_step.specs.declared.trace.Columns.TheVariants.{Properties}
 use Rattle.aig_step.specs.TraceText.{run_text}

@@ -1,7 +1,7 @@
 -- A witness that is confirmed, in the unrolled circuit.
 use Rattle.std.proofs.lemmas.Grind.{common_steps}
-use Rattle.std.proofs.Common.{◌≡◌, ◌+◌, ◌*◌, ◌<◌, ◌++◌, ◌∷◌, ℕ, zero, suc, List, [], ap, arith, get_or, length}
-use Rattle.std.proofs.Common.{map, refl, subst, sym, take, ◌∙◌}
+use Rattle.std.proofs.Common.{◌≡◌, ◌+◌, ◌*◌, ◌<◌, ◌++◌, ◌∷◌, ◌∙◌, ℕ, zero, suc, List, [], ap, arith, get_or, length}
+use Rattle.std.proofs.Common.{map, refl, subst, sym, take}
 use Rattle.std.specs.List.{All}
 use Rattle.std.proofs.Math.Seq.{take-append-add}
 use Rattle.std.proofs.lemmas.List.{append-nil, get_or-append-add, get_or-map, length-append, length-map, length-take}

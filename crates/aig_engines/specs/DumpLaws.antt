@@ -1,5 +1,5 @@
 -- What the definitions of dumps say of one another.
-use Rattle.std.specs.Prelude.{◌≡◌, ◌↔◌, ℕ, List, Bool, false}
+use Rattle.std.specs.Prelude.{◌≡◌, ◌↔◌, ◌≤◌, ◌^◌, ℕ, List, Bool, false, length}
 use Rattle.aig_circuit.specs.declared.circuit.Circuit.{Circuit}
 use Rattle.aig_circuit.specs.declared.circuit.TheConstants.{LARGEST}
 use Rattle.aig_command.specs.declared.request.Sim.{Sim}
@@ -31,7 +31,9 @@ DumpsAreKept = (request : ToAig) (before after : Sim) → request.strip ≡ fals
     → (file converted stimulus dump : List ℕ) → IsConversionText request file converted
     → IsDumpText before file stimulus dump ↔ IsDumpText after converted stimulus dump
 
--- A dump tells its trace: two stimuli of a model with one dump have one trace with the properties.
+-- A dump tells its trace: two stimuli of a model with one dump have one trace with the properties. No source gives a
+-- longer stimulus.
 abbrev pub DumpsTellTraces : Type 0
 DumpsTellTraces = (request : Sim) (model stimulus other dump : List ℕ) (p : IsDumpText request model stimulus dump)
-    (q : IsDumpText request model other dump) → p.trace ≡ q.trace
+    (q : IsDumpText request model other dump) → length stimulus ≤ 2 ^ 62 → length other ≤ 2 ^ 62
+    → p.trace ≡ q.trace

@@ -1,7 +1,7 @@
 -- What is reported on standard error, in one line (this project's profile).
 use Rattle.std.specs.Prelude.{◌≡◌, ◌++◌, ◌⊎◌, ℕ, List, [], Option, None, Some, codes, string_bytes}
 use Rattle.aig_io.specs.Devices.{Past, TookBeginning, took}
-use Rattle.aig_rows.specs.Messages.{fault_text}
+use Rattle.aig_rows.specs.Messages.{cannot_read_text, cannot_write_text, fault_text, out_of_memory_text}
 use Rattle.aig_map.specs.Messages.{map_fault_text}
 use Rattle.aig_step.specs.Messages.{sim_fault_text}
 use Rattle.aig_unroll.specs.Messages.{unroll_fault_text}
@@ -28,7 +28,7 @@ abbrev pub words_line : List ℕ
 words_line = line_of [] (codes "an argument is not UTF-8 text")
 
 abbrev pub memory_line : List ℕ
-memory_line = line_of [] (codes "out of memory")
+memory_line = line_of [] out_of_memory_text
 
 -- what is wrong, in words
 abbrev pub error_text : ToolFault → List ℕ
@@ -36,9 +36,9 @@ error_text (faults.Read fault) = fault_text fault
 error_text (faults.Map fault) = map_fault_text fault
 error_text (faults.Sim fault) = sim_fault_text fault
 error_text (faults.Unroll fault) = unroll_fault_text fault
-error_text faults.Source = codes "cannot read"
-error_text faults.Sink = codes "cannot write"
-error_text faults.OutOfMemory = codes "out of memory"
+error_text faults.Source = cannot_read_text
+error_text faults.Sink = cannot_write_text
+error_text faults.OutOfMemory = out_of_memory_text
 
 -- of a command with one source and one destination, the name of the file at fault, or `-` for a stream
 abbrev pub name_between : Option (List ℕ) → Option (List ℕ) → Party → List ℕ

@@ -1,33 +1,34 @@
--- What came of reading a source to its end, for its past as it was and as it is now.
-use Rattle.std.specs.Prelude.{◌≡◌, ◌⊎◌, ℕ, List}
-use Rattle.aig_io.specs.Devices.{GaveSome, Past}
-use Rattle.aig_io.specs.declared.transfer.ReadError.{ReadError}
+-- What the answer of reading a source to its end says.
+use Rattle.std.specs.Prelude.{◌≡◌, ℕ, List, Result, Ok, Err}
+use Rattle.aig_io.specs.Runs.{AtEnd, Broken, Ending, IsUnbroken}
 use Rattle.aig_io.specs.declared.transfer.ReadError.TheVariants as errors
 use Rattle.aig_rows.specs.declared.fault.ReadFault.{ReadFault}
 use Rattle.aig_text.specs.Reading.{IsFirstFault}
 use Rattle.aig_binary.specs.declared.source_fault.SourceFault.{SourceFault}
 use Rattle.aig_binary.specs.declared.source_fault.SourceFault.TheVariants as source_faults
-pub use Rattle.aig_binary.specs.Sources.{HasRead}
 use Rattle.aig_engines.specs.declared.fault.ToolFault.{ToolFault}
 use Rattle.aig_engines.specs.declared.fault.ToolFault.TheVariants as faults
 use Rattle.aig_engines.specs.File.{first_fault}
 
--- an error of reading as a fault of a tool
-abbrev pub tool_fault_of : ReadError → ToolFault
-tool_fault_of errors.Source = faults.Source
-tool_fault_of errors.OutOfMemory = faults.OutOfMemory
-
 -- why reading a source gave no circuit, as a fault of a tool
 abbrev pub fault_of_source : SourceFault → ToolFault
-fault_of_source (source_faults.Source error) = tool_fault_of error
+fault_of_source (source_faults.Source errors.Source) = faults.Source
+fault_of_source (source_faults.Source errors.OutOfMemory) = faults.OutOfMemory
 fault_of_source (source_faults.File fault) = faults.Read fault
 
--- Why nothing was made of what a source gives: it failed, or memory was refused, and some of its bytes came; or all of
--- them came, and they are refused with this fault.
-abbrev pub NotRead : (ToolFault → List ℕ → Type 0) → ToolFault → (source source_now : Past) → Type 0
-NotRead IsRefused fault source source_now =
-    ((error : ReadError) × (fault ≡ tool_fault_of error) × GaveSome error source source_now)
-    ⊎ HasRead (IsRefused fault) source source_now
+-- Why nothing was made of what came: the source failed; memory was refused; or all came, and is refused with this
+-- fault. No sink is called.
+abbrev pub NotRead : (ToolFault → List ℕ → Type 0) → ToolFault → List ℕ → Ending → Type 0
+NotRead IsRefused faults.Source bytes ending = ending ≡ Broken
+NotRead IsRefused faults.Sink bytes ending = ⊥
+NotRead IsRefused faults.OutOfMemory bytes ending = IsUnbroken ending
+NotRead IsRefused fault bytes ending = (ending ≡ AtEnd) × IsRefused fault bytes
+
+-- all came, and this holds of what was made and of the bytes; or nothing was made
+abbrev pub ReadSays : {A : Type 0} → (A → List ℕ → Type 0) → (ToolFault → List ℕ → Type 0) → Result A ToolFault
+    → List ℕ → Ending → Type 0
+ReadSays Holds IsRefused (Ok made) bytes ending = (ending ≡ AtEnd) × Holds made bytes
+ReadSays Holds IsRefused (Err fault) bytes ending = NotRead IsRefused fault bytes ending
 
 -- the bytes are no file of a circuit within this limit: this is their first fault, unless memory was refused
 abbrev pub IsUnreadable : ℕ → ToolFault → List ℕ → Type 0

@@ -1,23 +1,26 @@
--- The dump that is written for a model and a witness file, and what a fault says there (this project's profile).
-use Rattle.std.specs.Prelude.{◌≡◌, ◌⊎◌, ℕ, List}
-use Rattle.aig_io.specs.Devices.{Past, TookBeginning}
+-- The dump that is written for a model and a witness file, and what the answer says there (this project's profile).
+use Rattle.std.specs.Prelude.{◌≡◌, ℕ, List, Result, Ok, Err}
+use Rattle.aig_io.specs.Runs.{All, AtEnd, Ending, IsCut, NotSent, Taking}
 use Rattle.aig_circuit.specs.declared.circuit.Circuit.{Circuit}
 use Rattle.aig_command.specs.declared.request.Sim.{Sim}
 use Rattle.aig_witness.specs.declared.verdict.Verdict.{Verdict}
 use Rattle.aig_claims.specs.RunDump.{HasNoDump, IsWitnessDump, JudgedWith}
 use Rattle.aig_engines.specs.declared.fault.ToolFault.{ToolFault}
 use Rattle.aig_engines.specs.declared.fault.ToolFault.TheVariants as faults
-use Rattle.aig_engines.specs.WitnessOutcome.{IsWitnessAnswer, OfSteps}
+use Rattle.aig_engines.specs.WitnessOutcome.{IsWitnessAnswer}
 
 -- What is written where a dump is asked for, for these bytes of a model and of a witness file.
 pub record IsWitnessDumpText (request : Sim) (model witness : List ℕ) (verdict : Verdict) (text : List ℕ) : Type 0 where
   pub answer : IsWitnessAnswer request model witness verdict
   pub is_dump : IsWitnessDump answer.found answer.claim verdict text
 
--- what a fault says where a dump was to be written: there is none, and the sink was not called; or the sink took a
--- beginning of it, and failed
-abbrev pub NotDumpedFor : Circuit → ToolFault → (witness witness_now sink sink_now : Past) → Type 0
-NotDumpedFor c fault witness witness_now sink sink_now =
-    (OfSteps (λ sim. HasNoDump c sim witness witness_now) fault × (sink_now ≡ sink))
-    ⊎ ((fault ≡ faults.Sink) × ((verdict : Verdict)
-    × JudgedWith c verdict witness witness_now (λ text. TookBeginning text sink sink_now)))
+-- The file was judged, and the dump for it was taken, or the sink failed on the way; or there is no dump, and nothing
+-- was sent.
+abbrev pub RunDumpSays : Circuit → Result Verdict ToolFault → List ℕ → Ending → List ℕ → Taking → Type 0
+RunDumpSays c (Ok verdict) bytes ending text taking =
+    (ending ≡ AtEnd) × JudgedWith c verdict bytes text × (taking ≡ All)
+RunDumpSays c (Err faults.Sink) bytes ending text taking =
+    (ending ≡ AtEnd) × ((verdict : Verdict) × JudgedWith c verdict bytes text) × IsCut taking
+RunDumpSays c (Err (faults.Sim fault)) bytes ending text taking =
+    HasNoDump c fault bytes ending × (taking ≡ NotSent)
+RunDumpSays c (Err fault) bytes ending text taking = ⊥

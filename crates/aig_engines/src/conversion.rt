@@ -1,11 +1,12 @@
 //! `aigtoaig`: conversion of AIGER files.
-ghost use Rattle.std.specs.Prelude.{◌≡◌, true, IfErr, IfOk, OnOk};
+ghost use Rattle.std.specs.Prelude.{◌≡◌, true, IfErr, IfOk};
 ghost use Rattle.aig_io.specs.Devices.{CanFail};
+ghost use Rattle.aig_io.specs.Runs.{Ran};
 ghost use Rattle.aig_map.specs.Undone.{IsMapFault};
 ghost use Rattle.aig_command.specs.Answer.{IsKeptAlone, name_of};
 ghost use Rattle.aig_engines.specs.Conversion.{changed, IsConversionRefused, IsConversionText, IsImageAs, IsSource};
 ghost use Rattle.aig_engines.specs.Conversion.{IsTextAs, ready_text};
-ghost use Rattle.aig_engines.specs.Outcome.{Done, NotDone};
+ghost use Rattle.aig_engines.specs.Outcome.{Says};
 
 use crate::engine::{Engine, run};
 use crate::fault::ToolFault;
@@ -99,10 +100,8 @@ pub fn run_toaig<R: Source, W: Sink>(
     requires source { CanFail (R.past source.old) }
     requires sink { CanFail (W.past sink.old) }
     requires kept_alone { IsKeptAlone request.now }
-    ensures ok { OnOk result (Done (IsConversionText request.now)
-        (R.past source.old) (R.past source.new) (W.past sink.old) (W.past sink.new)) }
-    ensures err { IfErr result (λ fault. NotDone (IsConversionText request.now) (IsConversionRefused request.now)
-        fault (R.past source.old) (R.past source.new) (W.past sink.old) (W.past sink.new)) }
+    ensures ran { Ran (Says (IsConversionText request.now) (IsConversionRefused request.now) result)
+        (R.past source.old) (R.past source.new) (W.past sink.old) (W.past sink.new) }
 {
     run(alloc, request, source, sink)
 }

@@ -1,10 +1,11 @@
 //! What the commands have in common that read one source and write one destination.
-ghost use Rattle.std.specs.Prelude.{◌≡◌, ◌<◌, ℕ, List, Option, IfErr, IfOk, OnErr, OnOk, length};
+ghost use Rattle.std.specs.Prelude.{◌≡◌, ◌<◌, ℕ, List, Option, IfOk, OnErr, OnOk, length};
 ghost use Rattle.aig_io.specs.Devices.{CanFail, took, TookBeginning};
+ghost use Rattle.aig_io.specs.Runs.{Ran, Read};
 ghost use Rattle.aig_command.specs.Answer.{name_of};
 ghost use Rattle.aig_engines.specs.declared.fault.ToolFault.{ToolFault as Fault};
-ghost use Rattle.aig_engines.specs.Outcome.{Done, NotDone};
-ghost use Rattle.aig_engines.specs.Reading.{HasRead, NotRead};
+ghost use Rattle.aig_engines.specs.Outcome.{Says};
+ghost use Rattle.aig_engines.specs.Reading.{ReadSays};
 
 use crate::fault::ToolFault;
 use aig_core::{Sink, Source};
@@ -48,11 +49,10 @@ pub trait Engine {
     fn read<R: Source>(&self, alloc: Global, source: &mut R) -> Result<Self::Work, ToolFault>
         requires source { CanFail (R.past source.old) }
         requires can_do { can_do self.now }
-        ensures ok { IfOk result (λ work. HasRead (λ bytes. is_text self.now bytes (text self.now work))
-            (R.past source.old) (R.past source.new)) }
-        ensures some { IfOk result (λ work. 0 < length (text self.now work)) }
-        ensures err { IfErr result (λ fault. NotRead (is_refused self.now) fault
-            (R.past source.old) (R.past source.new)) };
+        ensures read { Read
+            (ReadSays (λ work bytes. is_text self.now bytes (text self.now work)) (is_refused self.now) result)
+            (R.past source.old) (R.past source.new) }
+        ensures some { IfOk result (λ work. 0 < length (text self.now work)) };
 
     /// Writes the text. It fails only where the sink fails, which then took a beginning of it.
     fn write<W: Sink>(&self, work: Self::Work, sink: &mut W) -> Result<(), WriteFault>
@@ -71,10 +71,8 @@ pub(crate) fn run<T: Engine, R: Source, W: Sink>(
     requires source { CanFail (R.past source.old) }
     requires sink { CanFail (W.past sink.old) }
     requires can_do { T.can_do request.now }
-    ensures ok { OnOk result (Done (T.is_text request.now)
-        (R.past source.old) (R.past source.new) (W.past sink.old) (W.past sink.new)) }
-    ensures err { IfErr result (λ fault. NotDone (T.is_text request.now) (T.is_refused request.now) fault
-        (R.past source.old) (R.past source.new) (W.past sink.old) (W.past sink.new)) }
+    ensures ran { Ran (Says (T.is_text request.now) (T.is_refused request.now) result)
+        (R.past source.old) (R.past source.new) (W.past sink.old) (W.past sink.new) }
 {
     let work = request.read(alloc, source)?;
     request.write(work, sink)?;

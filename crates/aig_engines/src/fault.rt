@@ -9,16 +9,10 @@ use aig_binary::SourceFault;
 use aig_core::ReadError;
 use aig_order::MapFault;
 use aig_step::SimFault;
-use aig_text::{ReadFault, ReadKind, WriteFault};
+use aig_text::{CANNOT_READ, CANNOT_WRITE, OUT_OF_MEMORY, ReadFault, ReadKind, WriteFault};
 use aig_unroll::UnrollFault;
 use std::error::Error;
 use std::fmt;
-
-pub(crate) const CANNOT_READ: &str = "cannot read";
-
-pub(crate) const CANNOT_WRITE: &str = "cannot write";
-
-pub(crate) const OUT_OF_MEMORY: &str = "out of memory";
 
 /// Why a tool did not do what was asked.
 #[derive(Debug, Drop, PartialEq)]

@@ -1,8 +1,8 @@
 //! Files of either kind.
-ghost use Rattle.std.specs.Prelude.{IfErr, IfOk};
 ghost use Rattle.aig_io.specs.Devices.{CanFail};
+ghost use Rattle.aig_io.specs.Runs.{Read};
 ghost use Rattle.aig_engines.specs.File.{IsFileOf};
-ghost use Rattle.aig_engines.specs.Reading.{HasRead, IsUnreadable, NotRead};
+ghost use Rattle.aig_engines.specs.Reading.{IsUnreadable, ReadSays};
 
 use crate::fault::ToolFault;
 use aig_binary::read_source;
@@ -19,10 +19,8 @@ pub fn read_circuit<R: Source>(
     keep: Keep,
 ) -> Result<Checked, ToolFault>
     requires { CanFail (R.past source.old) }
-    ensures ok { IfOk result (λ found. HasRead (λ bytes. IsFileOf bytes max_var found)
-        (R.past source.old) (R.past source.new)) }
-    ensures err { IfErr result (λ fault. NotRead (IsUnreadable max_var) fault
-        (R.past source.old) (R.past source.new)) }
+    ensures read { Read (ReadSays (λ found bytes. IsFileOf bytes max_var found) (IsUnreadable max_var) result)
+        (R.past source.old) (R.past source.new) }
 {
     Ok(read_source(alloc, source, Limits { max_var }, keep)?)
 }

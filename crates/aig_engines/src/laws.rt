@@ -56,6 +56,7 @@ pub fn files_convert_there_and_back()
 {}
 
 /// Every canonical binary file has a conversion text to ASCII, and that has one to binary.
+#[tactic(auto, using(crate::proofs::TripsExist::binary_there_and_back))]
 pub fn binary_files_convert_there_and_back()
     ensures { BinaryFilesConvertThereAndBack }
 {}
@@ -94,6 +95,7 @@ pub fn verdicts_are_kept()
 
 /// A witness that is confirmed at a step gives the unrolled circuit of the steps up to it inputs for which the bad
 /// state that stands for the claimed one in the last frame is 1.
+#[tactic(auto, using(crate::proofs::WitnessesUnrolled::confirmed_witnesses_set_unrolled_circuits))]
 pub fn confirmed_witnesses_set_unrolled_circuits()
     ensures { ConfirmedWitnessesSetUnrolledCircuits }
 {}

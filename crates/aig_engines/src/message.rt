@@ -10,10 +10,11 @@ ghost use Rattle.aig_engines.specs.Messages.{name_between, shown, simulation_err
 ghost use Rattle.aig_engines.specs.Messages.{usage_text, words_line};
 
 use crate::engine::Engine;
-use crate::fault::{CANNOT_READ, CANNOT_WRITE, OUT_OF_MEMORY, ToolFault};
+use crate::fault::ToolFault;
 use aig_command::{Sim, Usage};
 use aig_core::{Output, Sink};
 use aig_step::SimFault;
+use aig_text::{CANNOT_READ, CANNOT_WRITE, OUT_OF_MEMORY};
 
 /// A file by its name, and a stream by `-`.
 fn name_or_dash(name: &Option<String>) -> &str

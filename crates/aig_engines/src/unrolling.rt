@@ -1,8 +1,8 @@
 //! `aigunroll`: copies of a circuit in time, as one circuit.
-ghost use Rattle.std.specs.Prelude.{IfErr, OnOk};
 ghost use Rattle.aig_io.specs.Devices.{CanFail};
+ghost use Rattle.aig_io.specs.Runs.{Ran};
 ghost use Rattle.aig_command.specs.Answer.{HasFrames, name_of};
-ghost use Rattle.aig_engines.specs.Outcome.{Done, NotDone};
+ghost use Rattle.aig_engines.specs.Outcome.{Says};
 ghost use Rattle.aig_engines.specs.Unrolling.{IsUnrollingRefused, IsUnrollingText, text_as};
 
 use crate::engine::{Engine, run};
@@ -26,10 +26,8 @@ pub fn run_unroll<R: Source, W: Sink>(
     requires source { CanFail (R.past source.old) }
     requires sink { CanFail (W.past sink.old) }
     requires frames { HasFrames request.now }
-    ensures ok { OnOk result (Done (IsUnrollingText request.now)
-        (R.past source.old) (R.past source.new) (W.past sink.old) (W.past sink.new)) }
-    ensures err { IfErr result (λ fault. NotDone (IsUnrollingText request.now) (IsUnrollingRefused request.now)
-        fault (R.past source.old) (R.past source.new) (W.past sink.old) (W.past sink.new)) }
+    ensures ran { Ran (Says (IsUnrollingText request.now) (IsUnrollingRefused request.now) result)
+        (R.past source.old) (R.past source.new) (W.past sink.old) (W.past sink.new) }
 {
     run(alloc, request, source, sink)
 }

@@ -1,10 +1,11 @@
 //! `aigsim --witness`: a witness file, judged for the circuit of a model.
-ghost use Rattle.std.specs.Prelude.{◌≡◌, IfErr, IfOk, OnErr, OnOk, true};
+ghost use Rattle.std.specs.Prelude.{◌≡◌, OnErr, OnOk, true};
 ghost use Rattle.aig_io.specs.Devices.{CanFail, took, TookBeginning};
+ghost use Rattle.aig_io.specs.Runs.{Ran};
 ghost use Rattle.aig_rows.specs.Messages.{message_text};
 ghost use Rattle.aig_command.specs.Answer.{IsWitnessAlone};
-ghost use Rattle.aig_witness.specs.Confirming.{Judged};
-ghost use Rattle.aig_engines.specs.WitnessOutcome.{answer_line, Answered, NotAnswered, NotAnsweredFor};
+ghost use Rattle.aig_engines.specs.Outcome.{RanFor};
+ghost use Rattle.aig_engines.specs.WitnessOutcome.{answer_line, AnswerSays};
 
 use crate::fault::ToolFault;
 use crate::file::read_circuit;
@@ -47,10 +48,8 @@ pub fn judge<R: Source, W: Sink>(
 ) -> Result<Verdict, ToolFault>
     requires witness { CanFail (R.past witness.old) }
     requires output { CanFail (W.past output.old) }
-    ensures ok { IfOk result (λ verdict. Judged found verdict (R.past witness.old) (R.past witness.new)
-        × (W.past output.new ≡ took (answer_line verdict) (W.past output.old))) }
-    ensures err { IfErr result (λ fault. NotAnsweredFor found fault (R.past witness.old) (R.past witness.new)
-        (W.past output.old) (W.past output.new)) }
+    ensures ran { Ran (AnswerSays found result)
+        (R.past witness.old) (R.past witness.new) (W.past output.old) (W.past output.new) }
 {
     let judged = confirm(alloc, &found, witness);
     drop(found);
@@ -75,10 +74,8 @@ pub fn run_witness<M: Source, R: Source, W: Sink>(
     requires output { CanFail (W.past output.old) }
     requires asked { request.now.witness ≡ true }
     requires alone { IsWitnessAlone request.now }
-    ensures ok { IfOk result (λ verdict. Answered request.now verdict (M.past model.old) (M.past model.new)
-        (R.past witness.old) (R.past witness.new) (W.past output.old) (W.past output.new)) }
-    ensures err { IfErr result (λ fault. NotAnswered request.now fault (M.past model.old) (M.past model.new)
-        (R.past witness.old) (R.past witness.new) (W.past output.old) (W.past output.new)) }
+    ensures ran { RanFor request.now (λ found. AnswerSays found result) result (M.past model.old) (M.past model.new)
+        (R.past witness.old) (R.past witness.new) (W.past output.old) (W.past output.new) }
 {
     let found = read_circuit(alloc, model, request.max_var, Keep::Order)?;
     judge(alloc, found, witness, output)

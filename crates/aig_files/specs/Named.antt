@@ -1,7 +1,7 @@
 -- Files with a name as devices, by the files of their system (this project's devices).
 use Rattle.std.specs.Prelude.{◌≡◌, ◌<◌, ◌≤◌, ◌^◌, ◌==◌, ◌++◌, ◌∷◌, ℕ, zero, suc, List, [], length, take}
 use Rattle.std.specs.Prelude.{Bool, true, false, not, Option, None, Some, Result, Ok, Err}
-use Rattle.aig_io.specs.Devices.{Origin, Past}
+use Rattle.aig_io.specs.Devices.{Origin, Past, no_file}
 use Rattle.aig_io.specs.Files.{End, Files, OpenFile, Use, ended, used}
 use Rattle.aig_io.specs.Files.{Left, NotKept, NotMade, NotOpened, ReadFailed, Whole, WriteFailed, Written}
 use Rattle.aig_files.specs.declared.stage.Stage.{Stage}
@@ -36,7 +36,7 @@ bytes_at stages.Failed files = (newest files.uses).bytes
 
 -- the file with this name, over the files that are lent
 abbrev pub named : ℕ → List ℕ → List Use → Origin
-named lender name before = record { lender = lender; name = Some name; before = before }
+named lender name before = record no_file { lender = lender; name = Some name; before = before }
 
 -- the past of a device at this stage
 abbrev pub past_at : ℕ → List ℕ → Stage → Files → ℕ → ℕ → Past

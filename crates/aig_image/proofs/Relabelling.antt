@@ -1,9 +1,3 @@
-pub mod Lists
-pub mod Standing
 pub mod Relabelled
-pub mod Reordered
-pub mod Restored
-pub mod Formed
 pub mod Permuted
-pub mod Exchanged
-pub mod Positions
+pub mod Formed

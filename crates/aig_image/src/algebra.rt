@@ -1,6 +1,8 @@
 //! Laws: facts about the definitions alone, each the contract of a function with an empty body.
-ghost use Rattle.aig_image.specs.Algebra.{RelabellingsCompose, NamesKeptKeepAll, OrderCommutes, ConvertedIsRestored};
-ghost use Rattle.aig_image.specs.Algebra.{RestoredIsConverted, FormIsKept, OrderKeepsForm, ExchangeKeepsForm};
+ghost use Rattle.aig_image.specs.Algebra.{RelabellingsCompose, NamesKeptKeepAll};
+ghost use Rattle.aig_image.specs.Algebra.{OrderCommutes, ConvertedIsRestored};
+ghost use Rattle.aig_image.specs.Algebra.{RestoredIsConverted, FormIsKept};
+ghost use Rattle.aig_image.specs.Algebra.{OrderKeepsForm, ExchangeKeepsForm};
 ghost use Rattle.aig_image.specs.Algebra.{PlacesHavePositions};
 
 /// Two relabellings, one behind the other, are one.

@@ -21,13 +21,11 @@ use std::alloc::Global;
 /// What makes the binary image of a circuit.
 #[derive(Drop)]
 pub struct Renumbering {
-    /// The new numbers of the variables.
     numbers: Numbers,
     /// The gates in the order in which they are taken, if they do not stand in it.
     taken: Option<Listing<Gate>>,
 }
 
-/// The gates at these positions.
 pub(crate) fn take_gates(
     alloc: Global,
     gates: &[Gate],
@@ -43,7 +41,6 @@ pub(crate) fn take_gates(
     Ok(Listing::from_vec(found))
 }
 
-/// The gate with its larger operand first.
 #[inline(always)]
 pub(crate) fn with_larger_first(gate: Gate) -> Gate
     ensures { result ≡ operands_sorted gate }
@@ -82,7 +79,6 @@ fn renumber(numbers: &Numbers, circuit: Circuit) -> Circuit
 }
 
 impl Renumbering {
-    /// By the least ready order of the gates.
     fn by_order(alloc: Global, circuit: &Circuit, order: &Order) -> Result<Self, OutOfMemory>
         requires good { IsWellFormed circuit.now }
         requires least { IsLeastReadyOrder circuit.now order.now.list }
@@ -96,7 +92,7 @@ impl Renumbering {
         })
     }
 
-    /// Of a well-formed circuit. If its gates stand in order already, as in most files, no order is made.
+    /// If the gates stand in order already, as in most files, no order is made.
     fn of_circuit(alloc: Global, circuit: &Circuit) -> Result<Self, OutOfMemory>
         requires { IsWellFormed circuit.now }
         ensures { IfOk result (λ r. IsRenumberingOf circuit.now r) }
@@ -148,7 +144,6 @@ impl Renumbering {
     }
 }
 
-/// The binary image of a circuit that is in binary order but for the operands of gates: they are sorted.
 fn sorted_image(circuit: Circuit) -> Ordered
     requires good { IsWellFormed circuit }
     requires numbered { IsNumberedInOrder circuit }
@@ -160,7 +155,6 @@ fn sorted_image(circuit: Circuit) -> Ordered
     })
 }
 
-/// The binary image of a circuit that is no longer needed, by numbers that are made before it.
 fn renumbered_image(alloc: Global, checked: Checked) -> Result<Ordered, OutOfMemory>
     ensures { IfOk result (λ o. IsBinaryImage checked o) }
 {
@@ -168,8 +162,7 @@ fn renumbered_image(alloc: Global, checked: Checked) -> Result<Ordered, OutOfMem
     Ok(renumbering.image(checked.into_circuit()))
 }
 
-/// The binary image of a circuit that is not in binary order and no longer needed. Where only operands are in the other
-/// order, there is nothing to number.
+/// Where only operands are in the other order, there is nothing to number.
 fn into_image(alloc: Global, checked: Checked) -> Result<Ordered, OutOfMemory>
     ensures { IfOk result (λ o. IsBinaryImage checked o) }
 {
@@ -182,8 +175,9 @@ fn into_image(alloc: Global, checked: Checked) -> Result<Ordered, OutOfMemory>
     }
 }
 
-/// The binary image of a circuit: the same circuit with its variables renumbered, inputs first, then latches, then
-/// gates in the least ready order; the larger operand of each gate comes first. It fails only if an allocation fails.
+/// The binary image of a circuit: the same circuit with its variables renumbered, inputs first,
+/// then latches, then gates in the least ready order; the larger operand of each gate comes first.
+/// It fails only if an allocation fails.
 pub fn binary_image(alloc: Global, checked: &Checked) -> Result<Ordered, OutOfMemory>
     ensures { IfOk result (λ o. IsBinaryImage checked.now o) }
 {
@@ -191,8 +185,8 @@ pub fn binary_image(alloc: Global, checked: &Checked) -> Result<Ordered, OutOfMe
     Ok(renumbering.image(checked.copy(alloc)?.into_circuit()))
 }
 
-/// The binary image of a circuit that is no longer needed: the circuit itself, if it is in binary order already. It
-/// fails only if an allocation fails.
+/// The binary image of a circuit that is no longer needed: the circuit itself, if it is in binary
+/// order already. It fails only if an allocation fails.
 pub fn into_binary(alloc: Global, checked: Checked) -> Result<Ordered, OutOfMemory>
     ensures { IfOk result (λ o. IsBinaryImage checked o) }
 {

@@ -1,4 +1,5 @@
-//! The gates of a binary image, made in one go: where a gate's turn comes, its operands have their new numbers.
+//! The gates of a binary image, made in one go: where a gate's turn comes, its operands have their
+//! new numbers.
 ghost use Rattle.std.specs.Prelude.{◌≡◌, ◌+◌, ◌<◌, IfOk, OnOk};
 ghost use Rattle.std.specs.Option.{IfSome};
 ghost use Rattle.aig_circuit.specs.Wellformed.{IsWellFormed};
@@ -6,7 +7,8 @@ ghost use Rattle.aig_circuit.specs.declared.circuit.TheConstants.{LARGEST};
 ghost use Rattle.aig_tables.specs.VarMap.{with_new};
 ghost use Rattle.aig_topo.specs.Order.{IsLeastReadyOrder};
 ghost use Rattle.aig_image.specs.Image.{IsBinaryImage};
-ghost use Rattle.aig_image.specs.Parts.InTurn.{next_numbered, DefineApart, HasNumber, AreMadeOf, IsMadeInTurn};
+ghost use Rattle.aig_image.specs.Parts.InTurn.{next_numbered, DefineApart};
+ghost use Rattle.aig_image.specs.Parts.InTurn.{HasNumber, AreMadeOf, IsMadeInTurn};
 ghost use Rattle.aig_image.specs.Parts.Numbers.{number_of, first_variables};
 ghost use Rattle.aig_image.specs.Relabelled.{relabelled_literal, FitIntoLiterals};
 
@@ -39,8 +41,7 @@ fn by_new_number(numbers: &Numbers, literal: Lit) -> Option<Lit>
     Some(Lit(2 * number + literal.0 % 2))
 }
 
-/// A gate by new numbers, of which its variable gets the next one, with the larger operand first. None where an operand
-/// has no number yet.
+/// None where an operand has no number yet.
 #[inline(always)]
 fn next_gate(numbers: &mut Numbers, gate: Gate) -> Result<Option<Gate>, AllocError>
     requires room { numbers.old.noted < LARGEST }
@@ -48,7 +49,8 @@ fn next_gate(numbers: &mut Numbers, gate: Gate) -> Result<Option<Gate>, AllocErr
     ensures known { IfOk result (λ some. IfSome some (λ _.
         HasNumber numbers.old gate.left × HasNumber numbers.old gate.right)) }
     ensures gate { IfOk result (λ some. IfSome some (λ g. g ≡ next_numbered numbers.old gate)) }
-    ensures count { IfOk result (λ some. IfSome some (λ _. numbers.new.noted ≡ numbers.old.noted + 1)) }
+    ensures count { IfOk result (λ some.
+        IfSome some (λ _. numbers.new.noted ≡ numbers.old.noted + 1)) }
     ensures numbers { IfOk result (λ some. IfSome some (λ _.
         numbers.new.numbers ≡ with_new numbers.old.numbers gate.var (numbers.old.noted + 1))) }
 {
@@ -63,8 +65,9 @@ fn next_gate(numbers: &mut Numbers, gate: Gate) -> Result<Option<Gate>, AllocErr
     Ok(Some(with_larger_first(Gate { var, left, right })))
 }
 
-/// Makes each of the gates the gate of the image, in the order in which they stand, up to the first one with an operand
-/// that has no number yet. The numbers of the circuit's variables where there is none such.
+/// Makes each of the gates the gate of the image, in the order in which they stand, up to the first
+/// one with an operand that has no number yet. The numbers of the circuit's variables where there
+/// is none such.
 fn number_in_turn(
     alloc: Global,
     circuit: &Circuit,
@@ -104,7 +107,6 @@ impl InTurn {
         }
     }
 
-    /// Of a well-formed circuit by the least ready order of its gates.
     fn by_order(
         alloc: Global,
         circuit: &Circuit,
@@ -118,7 +120,6 @@ impl InTurn {
         InTurn::of_gates(alloc, circuit, taken.into_vec())
     }
 
-    /// Of a well-formed circuit by its gates as they stand.
     fn as_they_stand(alloc: Global, circuit: &Circuit) -> Result<Option<Self>, OutOfMemory>
         requires { IsWellFormed circuit.now }
         ensures { IfOk result (λ some. IfSome some (λ made. IsMadeInTurn circuit.now made)) }
@@ -127,8 +128,8 @@ impl InTurn {
         InTurn::of_gates(alloc, circuit, gates.into_vec())
     }
 
-    /// Of a circuit that was checked, by the order that the check made, or else by its gates as they stand, if each
-    /// stands after those that it uses.
+    /// Of a circuit that was checked, by the order that the check made, or else by its gates as
+    /// they stand, if each stands after those that it uses.
     pub(crate) fn new(alloc: Global, checked: &Checked) -> Result<Option<Self>, OutOfMemory>
         ensures made { IfOk result (λ some. IfSome some (λ made. IsMadeInTurn checked.now made)) }
         ensures well_formed { OnOk result (IsWellFormed checked.now) }
@@ -140,7 +141,7 @@ impl InTurn {
         }
     }
 
-    /// The binary image of the circuit: these gates, and all else in the circuit's own memory.
+    /// All but the gates stays in the circuit's own memory.
     pub(crate) fn image(self, alloc: Global, circuit: Circuit) -> Ordered
         requires good { IsWellFormed circuit }
         requires of_it { IsMadeInTurn circuit self }

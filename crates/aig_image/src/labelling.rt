@@ -1,7 +1,8 @@
 //! Circuits by other variables.
 ghost use Rattle.std.specs.Prelude.{◌≡◌, ℕ, map};
 ghost use Rattle.aig_image.specs.Relabelled.{FitIntoLiterals, relabelled};
-ghost use Rattle.aig_image.specs.Relabelled.{relabelled_literal, relabelled_latch, relabelled_gate, relabelled_justice};
+ghost use Rattle.aig_image.specs.Relabelled.{relabelled_literal, relabelled_latch};
+ghost use Rattle.aig_image.specs.Relabelled.{relabelled_gate, relabelled_justice};
 
 use aig_circuit::{Circuit, Gate, Justice, Latch, Listing, Lit, Var};
 
@@ -71,7 +72,6 @@ impl NamesVariables for Gate {
     }
 }
 
-/// Each item by the labels of its variables, in the same memory.
 fn relabel_all<L: Labels, T: NamesVariables>(labels: &L, items: Listing<T>) -> Listing<T>
     requires { FitIntoLiterals (L.label labels.now) }
     ensures { result ≡ map (T.relabelled (L.label labels.now)) items }
@@ -83,7 +83,6 @@ fn relabel_all<L: Labels, T: NamesVariables>(labels: &L, items: Listing<T>) -> L
     Listing::from_vec(found)
 }
 
-/// Justice properties by the labels of their variables, in the same memory: as many, of the same sizes.
 fn relabel_justice<L: Labels>(labels: &L, justice: Justice) -> Justice
     requires { FitIntoLiterals (L.label labels.now) }
     ensures { result ≡ relabelled_justice (L.label labels.now) justice }

@@ -1,11 +1,13 @@
 //! The new numbers of variables.
-ghost use Rattle.std.specs.Prelude.{◌≡◌, ◌↔◌, ◌⊎◌, ◌+◌, ◌==◌, ◌≤◌, ◌<◌, ◌++◌, ℕ, List, [], length, map, false};
+ghost use Rattle.std.specs.Prelude.{◌≡◌, ◌↔◌, ◌⊎◌, ◌+◌, ◌==◌, ◌≤◌, ◌<◌};
+ghost use Rattle.std.specs.Prelude.{◌++◌, ℕ, List, [], length, map, false};
 ghost use Rattle.std.specs.Prelude.{IfOk, OnOk, IsTrue, if◌then◌else◌};
 ghost use Rattle.std.specs.Option.{IfSome};
 ghost use Rattle.aig_circuit.specs.Literal.{variable_of};
 ghost use Rattle.aig_tables.specs.VarMap.{with_new};
 ghost use Rattle.aig_circuit.specs.declared.circuit.Gate.{Gate as GateRecord};
-ghost use Rattle.aig_image.specs.Parts.Numbers.{number_of, first_variables, variables_with, AreNumbered};
+ghost use Rattle.aig_image.specs.Parts.Numbers.{number_of, first_variables};
+ghost use Rattle.aig_image.specs.Parts.Numbers.{variables_with, AreNumbered};
 ghost use Rattle.aig_image.specs.Relabelled.{FitIntoLiterals};
 ghost use Rattle.aig_image.specs.Parts.InOrder.{StandInOrder};
 
@@ -72,7 +74,6 @@ impl Labels for Numbers {
 }
 
 impl Numbers {
-    /// How many variables have numbers.
     pub(crate) fn count(&self) -> u32
         ensures { result ≡ self.now.noted }
     {
@@ -95,8 +96,8 @@ impl Numbers {
         self.numbers.is_overfull(var)
     }
 
-    /// Reads ahead where the variables of gates from this position on have their places. None is overfull: that is asked
-    /// for the sake of the reads alone.
+    /// Reads ahead where the variables of gates from this position on have their places. None is
+    /// overfull: that is asked for the sake of the reads alone.
     pub(crate) fn is_any_overfull(&self, gates: &[Gate], from: usize) -> bool
         ensures { result ≡ false }
     {
@@ -108,19 +109,18 @@ impl Numbers {
         any
     }
 
-    /// Gives a variable the next number, unless it has one.
     #[inline(always)]
     pub(crate) fn note(&mut self, var: Var) -> Result<(), AllocError>
         requires { self.old.noted < LARGEST }
         ensures count { OnOk result (self.new.noted ≡ self.old.noted + 1) }
-        ensures numbers { OnOk result (self.new.numbers ≡ with_new self.old.numbers var (self.old.noted + 1)) }
+        ensures numbers { OnOk result (self.new.numbers
+            ≡ with_new self.old.numbers var (self.old.noted + 1)) }
     {
         self.noted += 1;
         self.numbers.insert(var, self.noted)?;
         Ok(())
     }
 
-    /// Gives the variables of these the next numbers, in their order.
     fn note_all<T: Defines>(&mut self, items: &[T]) -> Result<(), AllocError>
         requires { self.old.noted + length items.now ≤ LARGEST }
         ensures count { OnOk result (self.new.noted ≡ self.old.noted + length items.now) }
@@ -136,14 +136,14 @@ impl Numbers {
 
     /// Whether a literal is a constant, or its variable has a number.
     fn knows(&self, literal: Lit) -> bool
-        ensures { IsTrue result ↔ ((variable_of literal ≡ 0) ⊎ (0 < number_of self.now (variable_of literal))) }
+        ensures { IsTrue result ↔ ((variable_of literal ≡ 0)
+            ⊎ (0 < number_of self.now (variable_of literal))) }
     {
         let var = literal.var();
         var.0 == 0 || self.number(var) > 0
     }
 
-    /// Gives the variables of gates the next numbers, in their order, up to the first gate with an operand that is not
-    /// known yet. Whether there is none such.
+    /// Goes up to the first gate with an operand that is not known. Answers whether there is none.
     fn note_in_order(&mut self, gates: &[Gate]) -> Result<bool, AllocError>
         requires { self.old.noted + length gates.now ≤ LARGEST }
         ensures { IfOk result (λ all. IsTrue all → (variables : List ℕ)
@@ -163,10 +163,11 @@ impl Numbers {
         Ok(true)
     }
 
-    /// The new numbers of inputs and latches, with room for those of gates too.
+    /// With room for the numbers of gates too.
     pub(crate) fn of_first(alloc: Global, circuit: &Circuit) -> Result<Self, AllocError>
         requires { length circuit.now.inputs + length circuit.now.latches ≤ LARGEST }
-        ensures count { IfOk result (λ n. n.noted ≡ length circuit.now.inputs + length circuit.now.latches) }
+        ensures count { IfOk result (λ n. n.noted
+            ≡ length circuit.now.inputs + length circuit.now.latches) }
         ensures numbers { IfOk result (λ n. AreNumbered n (first_variables circuit.now)) }
     {
         let mut numbers = Numbers {
@@ -178,9 +179,9 @@ impl Numbers {
         Ok(numbers)
     }
 
-    /// The new numbers of a circuit's variables, where its gates are taken in this order.
     pub(crate) fn new(alloc: Global, circuit: &Circuit, taken: &[Gate]) -> Result<Self, AllocError>
-        requires { length circuit.now.inputs + length circuit.now.latches + length taken.now ≤ LARGEST }
+        requires { length circuit.now.inputs + length circuit.now.latches
+            + length taken.now ≤ LARGEST }
         ensures numbers { IfOk result (λ n. AreNumbered n (variables_with circuit.now taken.now)) }
         ensures small { IfOk result (λ n. FitIntoLiterals (number_of n)) }
     {
@@ -189,11 +190,11 @@ impl Numbers {
         Ok(numbers)
     }
 
-    /// The new numbers of a circuit's variables if its gates stand in order, each after those that it uses; otherwise
-    /// None.
-    #[tactic(auto, using(crate::proofs::Numbering::Noted::few))]
+    /// None if the gates do not stand in order, each after those that it uses.
+    #[tactic(auto, using(crate::proofs::Numbering::Kept::few))]
     pub(crate) fn of_ordered(alloc: Global, circuit: &Circuit) -> Result<Option<Self>, AllocError>
-        requires { length circuit.now.inputs + length circuit.now.latches + length circuit.now.gates ≤ LARGEST }
+        requires { length circuit.now.inputs + length circuit.now.latches
+            + length circuit.now.gates ≤ LARGEST }
         ensures numbers { IfOk result (λ some. IfSome some (λ n. AreNumbered n
             (first_variables circuit.now ++ map (λ (g : GateRecord). g.var) circuit.now.gates))) }
         ensures small { IfOk result (λ some. IfSome some (λ n. FitIntoLiterals (number_of n))) }

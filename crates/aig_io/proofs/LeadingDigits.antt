@@ -1,21 +1,17 @@
 -- The zeros before a number in its eight digits.
-use Rattle.std.proofs.Common.{rules}
-use Rattle.std.proofs.Common.{◌≡◌, ◌+◌, ◌-◌, ◌*◌, ◌/◌, ◌%◌, ◌^◌, ◌<◌, ◌≤◌, ℕ, zero, suc, List, [], ◌∷◌, ◌++◌, length}
-use Rattle.std.proofs.Common.{map, take, get_or, arith, refl, sym, ap, ◌∙◌, append_assoc, length-append, eq-zero-or-pos}
-use Rattle.std.proofs.Common.{inl, inr}
-use Rattle.std.proofs.lemmas.Nat.{mod-pow-add, shr-shr, le_bytes_8}
-use Rattle.std.proofs.Math.Nat.{div-div-eq-div-mul, pow-suc}
+use Rattle.std.proofs.Common.{◌≡◌, ◌+◌, ◌-◌, ◌*◌, ◌/◌, ◌%◌, ◌^◌, ◌<◌, ◌≤◌, ◌∷◌, ◌++◌, ◌∙◌, rules, ℕ, zero, suc, List}
+use Rattle.std.proofs.Common.{[], length, map, take, get_or, arith, refl, sym, ap, append_assoc, length-append}
+use Rattle.std.proofs.Common.{eq-zero-or-pos, inl, inr, shr-shr, pow-suc, replicate, decimal, w64, IsAscii}
+use Rattle.std.proofs.lemmas.Nat.{mod-pow-add, le_bytes_8}
+use Rattle.std.proofs.Math.Nat.{div-div-eq-div-mul}
 use Rattle.std.proofs.lemmas.Bool.{cases_lt}
 use Rattle.std.proofs.lemmas.List.{map-append, length-replicate}
 use Rattle.std.proofs.Math.Seq.{take-append-add, take-append_seam}
 use Rattle.std.specs.Int.Count.{count_trailing_zeros}
 use Rattle.std.specs.Simd.Lanes.{number_l}
-use Rattle.std.proofs.Math.ListN.{replicate}
 use Rattle.std.proofs.lemmas.Fmt.{decimal_digit, decimal_step, IsAscii-decimal}
 use Rattle.std.proofs.lemmas.Grind.{replicate_next}
-use Rattle.std.specs.Fmt.{decimal}
-use Rattle.std.specs.Int.{w64, from_le_bytes, to_le_bytes}
-use Rattle.std.specs.Str.{IsAscii}
+use Rattle.std.specs.Int.{from_le_bytes, to_le_bytes}
 use Rattle.aig_io.specs.Digits.{last_digits}
 
 -- ---- zeros of a word

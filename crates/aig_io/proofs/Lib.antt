@@ -1,9 +1,5 @@
 pub mod Took
+pub mod Runs
 pub mod DigitCounts
-pub mod DigitWords
 pub mod LeadingDigits
-pub mod Outgoing
 pub mod Puts
-pub mod Filled
-pub mod Windows
-pub mod Lents

@@ -1,13 +1,77 @@
--- Texts that are put one after another.
-use Rattle.std.proofs.lemmas.Grind.{common_steps}
-use Rattle.std.proofs.Common.{rules}
-use Rattle.std.proofs.Common.{◌≡◌, ◌+◌, ◌<◌, ◌++◌, ℕ, List, [], Bool, true, false, length, take, drop, get_or}
-use Rattle.std.proofs.Common.{take-add, arith, sym, ap, ap₂, subst, ◌∙◌}
+-- Texts that are put, and go out through a block, one after another. A writer of several texts joins their contracts
+-- by these.
+use Rattle.std.proofs.Common.{◌≡◌, ◌+◌, ◌-◌, ◌%◌, ◌<◌, ◌≤◌, ◌++◌, ◌∙◌, ℕ, List, [], arith, length, min, take, rules}
+use Rattle.std.proofs.Common.{refl, sym, ap, append_assoc, Bool, true, false, drop, get_or, take-add, ap₂, subst}
 use Rattle.std.specs.List.{flat_map}
-use Rattle.std.proofs.lemmas.List.{append-nil, take-append-drop}
-use Rattle.aig_io.specs.Devices.{TookBeginning, took}
-use Rattle.aig_io.specs.Output.{Out, Put}
-use Rattle.aig_io.proofs.Outgoing.{beginning_after, beginning_longer, went_out_twice}
+use Rattle.std.proofs.lemmas.Grind.{common_steps}
+use Rattle.std.proofs.lemmas.List.{append-nil, take_min, take-append-le, take-append-drop}
+use Rattle.std.proofs.Math.Seq.{take-append-add}
+use Rattle.std.proofs.Math.Nat.{min-le_right}
+use Rattle.aig_io.specs.declared.block.TheConstants.{ROOM}
+use Rattle.aig_io.specs.Devices.{Past, TookBeginning, failed_once, took}
+use Rattle.aig_io.specs.Output.{WentOut, Out, Put}
+use Rattle.aig_io.proofs.Took.{took_twice}
+
+-- n bytes were put into a block that held some: it was filled, and what is behind it was held once blocks were sent
+pub left_behind : (held count n left : ℕ) → held ≤ ROOM → count ≡ min (ROOM - held) n → count < n
+    → left ≡ (n - count - 1) % ROOM + 1 → left ≡ (held + n - 1) % ROOM + 1
+left_behind held count n left short filled more is = omega arith
+
+-- all of a text is taken where an empty block has room for it
+pub all_filled : (block text rest filled : List ℕ) (count : ℕ) → filled ≡ block ++ take count text
+    → count ≡ min (ROOM - length block) (length text) → text ≡ rest → block ≡ [] → length rest ≤ ROOM
+    → filled ≡ block ++ rest
+all_filled block text rest filled count value many same empty fits = grind (arith, common_steps)
+
+-- Texts that go out through a block, one after another. A writer of several texts joins their contracts by these.
+
+-- what was sent, then what is left, are what was held and both texts
+joined : (h0 h1 h2 s1 s2 xs ys : List ℕ) → h0 ++ xs ≡ s1 ++ h1 → h1 ++ ys ≡ s2 ++ h2
+    → h0 ++ (xs ++ ys) ≡ (s1 ++ s2) ++ h2
+joined h0 h1 h2 s1 s2 xs ys p q = grind (arith, common_steps)
+
+went_out_twice : (a b c : Past) (h0 h1 h2 xs ys : List ℕ) → WentOut a b h0 h1 xs → WentOut b c h1 h2 ys
+    → WentOut a c h0 h2 (xs ++ ys)
+went_out_twice a b c h0 h1 h2 xs ys p q = record {
+  sent = p.sent ++ q.sent;
+  past = took_twice a b c p.sent q.sent p.past q.past;
+  order = joined h0 h1 h2 p.sent q.sent xs ys p.order q.order;
+}
+
+-- what the sink took before, and then the first n bytes of a text
+took_before : (a b c : Past) (sent h : List ℕ) (n : ℕ) → b ≡ took sent a → c ≡ failed_once (took (take n h) b)
+    → c ≡ failed_once (took (take (length sent + n) (sent ++ h)) a)
+took_before a b c sent h n p q =
+    rw take-append-add (q ∙ ap failed_once (took_twice a b (took (take n h) b) sent (take n h) p refl))
+
+pub beginning_after : (a b c : Past) (h0 h1 xs ys : List ℕ) → WentOut a b h0 h1 xs
+    → TookBeginning (h1 ++ ys) b c → TookBeginning (h0 ++ (xs ++ ys)) a c
+beginning_after a b c h0 h1 xs ys p q = record {
+  count = length p.sent + q.count;
+  past = rw (← append_assoc h0 xs ys, p.order, append_assoc) (took_before a b c p.sent (h1 ++ ys) q.count p.past
+      q.past);
+}
+
+-- a beginning of a text is one of each longer text
+beginning_of_more : (a b : Past) (xs ys : List ℕ) → TookBeginning xs a b → TookBeginning (xs ++ ys) a b
+beginning_of_more a b xs ys p =
+    let same : take (min p.count (length xs)) (xs ++ ys) ≡ take p.count xs =
+    take-append-le (min p.count (length xs)) xs ys (min-le_right p.count (length xs)) ∙ take_min p.count xs in
+    record { count = min p.count (length xs); past = p.past ∙ ap (λ (bs : List ℕ). failed_once (took bs a)) (sym same) }
+
+pub beginning_longer : (a b : Past) (h xs ys : List ℕ) → TookBeginning (h ++ xs) a b
+    → TookBeginning (h ++ (xs ++ ys)) a b
+beginning_longer a b h xs ys p = search (rules, append_assoc, beginning_of_more)
+
+-- all is held
+kept : (a : Past) (h xs : List ℕ) → WentOut a a h (h ++ xs) xs
+kept a h xs = record {
+  sent = [];
+  past = ap (λ (bs : List ℕ). record a { bytes = bs }) (sym (append-nil a.bytes));
+  order = refl;
+}
+
+-- Texts that are put one after another.
 
 -- the texts of one item more
 text_of_more : {X : Type 0} (f : X → List ℕ) (xs : List X) (i : ℕ) (d : X) → i < length xs
@@ -32,7 +96,7 @@ module _ {W : Type 0} where
   put_nothing a = held a a [] (ap (λ (bytes : List ℕ). record a { held = bytes }) (sym (append-nil a.held)))
 
   -- a text for which room was made
-  pub put_held : (a b c : Out W) (text : List ℕ) → c ≡ record b { held = b.held ++ text } → Put a b [] → Put a c text
+  put_held : (a b c : Out W) (text : List ℕ) → c ≡ record b { held = b.held ++ text } → Put a b [] → Put a c text
   put_held a b c text e p = put_twice a b c [] text p (held b c text e)
 
   -- the same, where the block alone was changed

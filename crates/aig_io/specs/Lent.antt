@@ -1,16 +1,18 @@
 -- A source over bytes that are lent to it.
-use Rattle.std.specs.Prelude.{◌≡◌, ◌<◌, ℕ, List, [], Some, length, take, unwrap_or}
-use Rattle.aig_io.specs.Devices.{Origin, Past}
+use Rattle.std.specs.Prelude.{◌≡◌, ◌<◌, ℕ, List, length, take}
+use Rattle.std.specs.Coded.{coded_list, coded_ℕ}
+use Rattle.aig_io.specs.Devices.{Origin, Past, no_file}
 
--- where a source of these bytes begins: they stand in the place of a name
+-- a source, and how many bytes it still gives
+pub record Lent : Type 0 where
+  pub past : Past
+  pub left : ℕ
+
+-- where a source of these bytes begins: it stands on them
 abbrev pub lent : List ℕ → Origin
-lent bytes = record { lender = 0; name = Some bytes; before = [] }
+lent bytes = record no_file { stands_on = (coded_list coded_ℕ).code bytes }
 
--- the bytes that such a source is over
-abbrev pub lent_bytes : Origin → List ℕ
-lent_bytes origin = unwrap_or origin.name []
-
--- it gave a beginning of them, and all of them once it answered that it is at its end
+-- it gave a beginning of the bytes that it stands on, and all of them once it answered that it is at its end
 pub record HasGiven (past : Past) : Type 0 where
-  pub front : past.bytes ≡ take (length past.bytes) (lent_bytes past.origin)
-  pub whole : 0 < past.ends → past.bytes ≡ lent_bytes past.origin
+  pub front : (bytes : List ℕ) → past.origin ≡ lent bytes → past.bytes ≡ take (length past.bytes) bytes
+  pub whole : (bytes : List ℕ) → past.origin ≡ lent bytes → 0 < past.ends → past.bytes ≡ bytes

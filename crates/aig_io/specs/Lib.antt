@@ -1,5 +1,6 @@
 pub mod Files
 pub mod Devices
+pub mod Runs
 pub mod Windows
 pub mod Notes
 pub mod Output

@@ -1,7 +1,7 @@
 //! Devices over memory of the program's own: a sink that grows, and a source over bytes that are lent to it.
-ghost use Rattle.std.specs.Prelude.{◌≡◌, ◌-◌, IfOk, length};
+ghost use Rattle.std.specs.Prelude.{◌≡◌, IfOk};
 ghost use Rattle.aig_io.specs.Devices.{no_file, unused};
-ghost use Rattle.aig_io.specs.Lent.{HasGiven, lent, lent_bytes};
+ghost use Rattle.aig_io.specs.Lent.{HasGiven, lent};
 
 use crate::device::{DeviceFault, Sink, Source};
 use crate::record::Record;
@@ -77,18 +77,20 @@ pub struct SliceSource<'a> {
 }
 
 impl<'a> Model for SliceSource<'a> {
-    ghost use Rattle.std.specs.Prelude.{◌≡◌, ◌<◌, ◌≤◌, ◌^◌, length, take};
-    ghost use Rattle.aig_io.specs.Devices.{Past};
-    ghost use Rattle.aig_io.specs.Lent.{lent};
+    ghost use Rattle.std.specs.Prelude.{◌≡◌, ◌-◌, ◌<◌, ◌≤◌, ◌^◌, length, take};
+    ghost use Rattle.aig_io.specs.Lent.{Lent, lent};
     ghost use Rattle.aig_io.specs.Notes.{sum_of};
 
-    ghost Value = { Past };
+    ghost Value = { Lent };
 
     ghost view = { λ s. record {
-      origin = lent s.bytes.now;
-      bytes = take s.at s.bytes.now;
-      ends = sum_of s.ends.notes;
-      failures = 0;
+      past = record {
+        origin = lent s.bytes.now;
+        bytes = take s.at s.bytes.now;
+        ends = sum_of s.ends.notes;
+        failures = 0;
+      };
+      left = length s.bytes.now - s.at;
     } };
 
     ghost invariant = { λ s. (length s.bytes.now ≤ 2 ^ 62) × (s.at ≤ length s.bytes.now)
@@ -98,7 +100,7 @@ impl<'a> Model for SliceSource<'a> {
 impl<'a> SliceSource<'a> {
     /// A source of these bytes. There are not more than 2^62 of them, which no memory holds.
     pub fn new(bytes: &'a [u8]) -> Result<Self, AllocError>
-        ensures { IfOk result (λ source. source ≡ unused (lent bytes.now)) }
+        ensures { IfOk result (λ source. source.past ≡ unused (lent bytes.now)) }
     {
         if bytes.len() > 1 << 62 {
             return Err(AllocError);
@@ -112,16 +114,16 @@ impl<'a> SliceSource<'a> {
 
     /// It gave a beginning of its bytes, and once it answered that it is at its end, all of them.
     pub fn gives_its_bytes(&self)
-        ensures { HasGiven self.now }
+        ensures { HasGiven self.now.past }
     {
         let _bytes = self.bytes;
     }
 }
 
 impl Source for SliceSource<'_> {
-    ghost past = { λ s. s };
+    ghost past = { λ s. s.past };
 
-    ghost bound = { λ s. length (lent_bytes s.origin) - length s.bytes };
+    ghost bound = { λ s. s.left };
 
     fn fetch(&mut self, into: &mut [u8]) -> Result<usize, DeviceFault> {
         let count = into.len().min(self.bytes.len() - self.at);

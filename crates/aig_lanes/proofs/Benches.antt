@@ -1,3 +1,2 @@
-pub mod Rooms
-pub mod ShownTexts
 pub mod Steps
+pub mod ShownTexts

@@ -1,6 +1,4 @@
 pub mod Eights
-pub mod Groups
-pub mod InputBits
 pub mod Sheets
+pub mod InputBits
 pub mod Tables
-pub mod Vectors

@@ -1,14 +1,17 @@
 //! What runs are stepped in side by side, a lane for each.
-ghost use Rattle.std.specs.Prelude.{◌≡◌, ◌+◌, ◌*◌, ◌<◌, ◌≤◌, ◌^◌, ℕ, List, [], IfOk, IsTrue, length, slice_index_or};
+ghost use Rattle.std.specs.Prelude.{◌≡◌, ◌+◌, ◌*◌, ◌<◌, ◌≤◌, ◌^◌, ℕ, List, []};
+ghost use Rattle.std.specs.Prelude.{IfOk, IsTrue, length, slice_index_or};
 ghost use Rattle.std.specs.List.{All};
 ghost use Rattle.aig_lanes.specs.declared.run.Run.{Run as RunRecord};
 ghost use Rattle.aig_lanes.specs.Parts.InputBits.{AreBlocks, HoldsLane, one_step};
 ghost use Rattle.aig_lanes.specs.Parts.Groups.{IsTable, IsWhole};
-ghost use Rattle.aig_lanes.specs.Parts.LaneTexts.{HoldsRun, KeepsRun, LaneStands, ShowsRows, shown_size};
+ghost use Rattle.aig_lanes.specs.Parts.LaneTexts.{HoldsRun, KeepsRun, LaneStands};
+ghost use Rattle.aig_lanes.specs.Parts.LaneTexts.{ShowsRows, shown_size};
 ghost use Rattle.aig_lanes.specs.Parts.Sheets.{SameRoom};
 ghost use Rattle.aig_lanes.specs.Runs.{IsRunOf};
 ghost use Rattle.aig_step.specs.Parts.Lines.{line_size};
-ghost use Rattle.aig_lanes.specs.Parts.Benches.{Fits, HasRoomFor, HasRoomForSteps, HasSameRoom, IsBench};
+ghost use Rattle.aig_lanes.specs.Parts.Benches.{Fits, HasRoomFor, HasRoomForSteps};
+ghost use Rattle.aig_lanes.specs.Parts.Benches.{HasSameRoom, IsBench};
 
 use crate::input_bits::{BlockBits, fill_across, fill_bits, new_bits};
 use crate::input_planes::put_vectors;
@@ -39,8 +42,7 @@ fn begin_steps(
         → LaneStands machine.now run 0 j table.new state.new shown.now sheet.new }
     ensures same { SameRoom sheet.old sheet.new }
 {
-    // That there is a variable where there is a latch is known by this read.
-    let _parts = machine.parts();
+    let _parts = machine.parts(); // for the proof
     shown.begin(is_whole, table, state, sheet);
 }
 
@@ -60,7 +62,8 @@ fn take_step(
     requires shows { ShowsRows machine.now shown.now }
     requires fits { (step + 1) * shown_size shown.now < 2 ^ 64 }
     ensures same { SameRoom sheet.old sheet.new }
-    ensures stands { (j : ℕ) (run : RunRecord) → j < 256 → IsRunOf machine.now run → HoldsLane j run bits.now
+    ensures stands { (j : ℕ) (run : RunRecord) → j < 256 → IsRunOf machine.now run
+        → HoldsLane j run bits.now
         → HoldsRun j run shown.now sheet.old
         → LaneStands machine.now run step j table.old state.old shown.now sheet.old
         → LaneStands machine.now run (step + 1) j table.new state.new shown.now sheet.new }
@@ -71,7 +74,6 @@ fn take_step(
     shown.show(table, state, sheet, step);
 }
 
-/// So many steps of each run that has them.
 fn take_steps(
     machine: &Machine,
     shown: &LaneColumns,
@@ -87,7 +89,8 @@ fn take_steps(
     requires shows { ShowsRows machine.now shown.now }
     requires fits { steps * shown_size shown.now < 2 ^ 64 }
     ensures same { SameRoom sheet.old sheet.new }
-    ensures stands { (j : ℕ) (run : RunRecord) → j < 256 → IsRunOf machine.now run → HoldsLane j run bits.now
+    ensures stands { (j : ℕ) (run : RunRecord) → j < 256 → IsRunOf machine.now run
+        → HoldsLane j run bits.now
         → HoldsRun j run shown.now sheet.old
         → LaneStands machine.now run 0 j table.old state.old shown.now sheet.old
         → LaneStands machine.now run steps j table.new state.new shown.now sheet.new }
@@ -111,9 +114,9 @@ fn longest_of(groups: &[RunGroup]) -> usize
     most
 }
 
-/// Whether as many lines of this size as the longest run has steps can be counted.
 fn can_count(groups: &[RunGroup], line_room: usize) -> bool
-    ensures { IsTrue result → All (All (λ (run : RunRecord). length run.steps * line_room < 2 ^ 64)) groups.now }
+    ensures { IsTrue result
+        → All (All (λ (run : RunRecord). length run.steps * line_room < 2 ^ 64)) groups.now }
 {
     longest_of(groups).checked_mul(line_room).is_some()
 }
@@ -198,7 +201,7 @@ impl Bench {
         Bench::new(alloc, machine, columns, line_room, &groups)
     }
 
-    /// Takes so many steps in all lanes, from the reset state on, with the inputs that there are bits of.
+    /// Takes so many steps in all lanes, from the reset state on, with the inputs that have bits.
     fn step_lanes(&mut self, machine: &Machine, steps: usize)
         requires is { IsBench machine.now self.old }
         requires fits { steps * shown_size self.old.shown < 2 ^ 64 }
@@ -207,7 +210,8 @@ impl Bench {
         ensures lanes { (j : ℕ) (run : RunRecord) → j < 256 → IsRunOf machine.now run
             → HoldsLane j run self.old.bits.items → HoldsRun j run self.old.shown self.old.sheet
             → (length run.steps ≤ steps → KeepsRun machine.now run j self.new.shown self.new.sheet)
-            × (steps ≤ length run.steps → IsTable j (1 + machine.now.max_var) self.new.table.items) }
+            × (steps ≤ length run.steps
+            → IsTable j (1 + machine.now.max_var) self.new.table.items) }
     {
         begin_steps(
             machine,
@@ -254,7 +258,8 @@ impl Bench {
         ensures is { IsBench machine.now self.new }
         ensures same { HasSameRoom self.old self.new }
         ensures keeps { (j : ℕ) → j < length vectors.now.steps
-            → KeepsRun machine.now (one_step (slice_index_or vectors.now.steps j [])) j self.new.shown self.new.sheet }
+            → KeepsRun machine.now (one_step (slice_index_or vectors.now.steps j [])) j
+            self.new.shown self.new.sheet }
     {
         if vectors.len() == 0 {
             return;

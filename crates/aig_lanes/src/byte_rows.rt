@@ -7,8 +7,8 @@ use aig_circuit::OutOfMemory;
 use std::alloc::Global;
 use std::marker::Model;
 
-/// Two bytes for each literal, with a bit for each of eight lanes: whether the literal may be 1 there, and whether it
-/// may be 0.
+/// Two bytes for each literal, with a bit for each of eight lanes: whether the literal may be 1
+/// there, and whether it may be 0.
 #[derive(Drop)]
 pub(crate) struct ByteRows {
     ones: Vec<u8>,
@@ -29,7 +29,8 @@ impl Model for ByteRows {
 /// The character of a lane by the bytes of a literal. The lane has this bit.
 #[inline(always)]
 fn character(ones: u8, zeros: u8, bit: u8) -> u8
-    ensures { (place : ℕ) → bit ≡ 2 ^ place → result ≡ character_by (bit_at ones place) (bit_at zeros place) }
+    ensures { (place : ℕ) → bit ≡ 2 ^ place
+        → result ≡ character_by (bit_at ones place) (bit_at zeros place) }
 {
     if ones & bit == 0 {
         b'0'
@@ -40,7 +41,6 @@ fn character(ones: u8, zeros: u8, bit: u8) -> u8
     }
 }
 
-/// Writes the characters of a lane from a place on.
 #[inline(always)]
 fn write_bits(line: &mut [u8], at: usize, ones: &[u8], zeros: &[u8], place: usize)
     requires lane { place < 8 }
@@ -66,7 +66,6 @@ fn overwrite(bytes: &mut [u8], at: usize, part: &[u8])
 }
 
 impl ByteRows {
-    /// Of so many literals.
     pub(crate) fn new(alloc: Global, count: usize) -> Result<Self, OutOfMemory>
         ensures { IfOk result (λ octet. (place : ℕ) → length (bytes_text place octet) ≡ count) }
     {
@@ -76,7 +75,7 @@ impl ByteRows {
         })
     }
 
-    /// Puts the bytes of the first of these literals, from a place on, where there are not places for all.
+    /// Puts the bytes of the first of these literals, where there are not places for all.
     #[inline(never)]
     fn put_first(&mut self, at: usize, ones: &[u8], zeros: &[u8])
         requires same { length ones.now ≡ length zeros.now }
@@ -110,7 +109,6 @@ impl ByteRows {
         }
     }
 
-    /// Writes the characters that so many literals, from one on, have in a lane, from a place on.
     #[inline(always)]
     #[tactic(auto, using(crate::proofs::Side::Sheets::text_long, crate::proofs::Side::Sheets::rows_with, crate::proofs::Side::Sheets::zip_take, crate::proofs::Side::Sheets::zip_drop))]
     pub(crate) fn write(&self, line: &mut [u8], at: usize, from: usize, count: usize, place: usize)

@@ -1,11 +1,14 @@
-//! The inputs of runs as bits. They are made run by run, where the lines of a stimulus stand one behind the other: a
-//! step of all runs takes a line of each, and those lie far apart.
-ghost use Rattle.std.specs.Prelude.{◌≡◌, ◌+◌, ◌<◌, ◌≤◌, ℕ, IfOk, List, [], length, slice_index_or, slice_set};
+//! The inputs of runs as bits. They are made run by run, where the lines of a stimulus stand one
+//! behind the other: a step of all runs takes a line of each, and those lie far apart.
+ghost use Rattle.std.specs.Prelude.{◌≡◌, ◌+◌, ◌<◌, ◌≤◌, ℕ, IfOk, List, []};
+ghost use Rattle.std.specs.Prelude.{length, slice_index_or, slice_set};
 ghost use Rattle.std.specs.List.{All};
 ghost use Rattle.aig_circuit.specs.declared.value.Val.{Val as Value};
 ghost use Rattle.aig_lanes.specs.declared.run.Run.{Run as RunRecord};
-ghost use Rattle.aig_lanes.specs.Parts.InputBits.{AreBlocks, HasRoom, HasStep, HoldsBlock, HoldsBlocks, HoldsInputs};
-ghost use Rattle.aig_lanes.specs.Parts.InputBits.{HoldsLane, IsWord, SameRooms, TellsOther, one_step, step_of, word_at};
+ghost use Rattle.aig_lanes.specs.Parts.InputBits.{AreBlocks, HasRoom, HasStep};
+ghost use Rattle.aig_lanes.specs.Parts.InputBits.{HoldsBlock, HoldsBlocks, HoldsInputs};
+ghost use Rattle.aig_lanes.specs.Parts.InputBits.{HoldsLane, IsWord, SameRooms, TellsOther};
+ghost use Rattle.aig_lanes.specs.Parts.InputBits.{one_step, step_of, word_at};
 
 use crate::sheets::longest_in;
 use crate::vectors::{RunGroup, Vectors};
@@ -78,7 +81,6 @@ impl Model for LaneBits {
     ghost view = { λ b. b.words.items };
 }
 
-/// Puts the bits of 64 inputs, from one on, for each step of a run.
 fn fill_words(words: &mut [InputWord], run: &Vectors, first: usize)
     requires inputs { All (λ (vector : List Value). first ≤ length vector) run.now.steps }
     requires room { length run.now.steps ≤ length words.old }
@@ -91,7 +93,6 @@ fn fill_words(words: &mut [InputWord], run: &Vectors, first: usize)
 }
 
 impl LaneBits {
-    /// Puts those of a run, from an input on.
     fn fill(&mut self, run: &Vectors, first: usize)
         requires inputs { All (λ (vector : List Value). first ≤ length vector) run.now.steps }
         requires room { length run.now.steps ≤ length self.old }
@@ -101,7 +102,6 @@ impl LaneBits {
         fill_words(&mut self.words, run, first);
     }
 
-    /// Puts those of a first step.
     fn put_first(&mut self, word: InputWord)
         requires { 0 < length self.old }
         ensures { self.new ≡ slice_set self.old 0 word }
@@ -118,15 +118,16 @@ fn fill_lanes(lanes: &mut [LaneBits], runs: &[Vectors], first: usize)
     requires room { HasRoom runs.now lanes.old }
     ensures holds { HoldsBlock first runs.now lanes.new }
     ensures count { length lanes.new ≡ length lanes.old }
-    ensures sizes { (l : ℕ) → length (slice_index_or lanes.new l []) ≡ length (slice_index_or lanes.old l []) }
+    ensures sizes { (l : ℕ) → length (slice_index_or lanes.new l [])
+        ≡ length (slice_index_or lanes.old l []) }
 {
     for lane in 0..runs.len() {
         lanes[lane].fill(&runs[lane], first);
     }
 }
 
-/// Puts those of each step of a run, from an input on, into a lane of its own, and those of the last one into the lanes
-/// that are left.
+/// Puts those of each step of a run, from an input on, into a lane of its own, and those of the
+/// last one into the lanes that are left.
 fn fill_firsts(lanes: &mut [LaneBits], run: &Vectors, first: usize)
     requires some { 0 < length run.now.steps }
     requires inputs { All (λ (vector : List Value). first ≤ length vector) run.now.steps }
@@ -134,7 +135,8 @@ fn fill_firsts(lanes: &mut [LaneBits], run: &Vectors, first: usize)
     ensures holds { (l : ℕ) → l < length lanes.old
         → HoldsInputs first (one_step (step_of run.now l)) (slice_index_or lanes.new l []) }
     ensures count { length lanes.new ≡ length lanes.old }
-    ensures sizes { (l : ℕ) → length (slice_index_or lanes.new l []) ≡ length (slice_index_or lanes.old l []) }
+    ensures sizes { (l : ℕ) → length (slice_index_or lanes.new l [])
+        ≡ length (slice_index_or lanes.old l []) }
 {
     let last = run.len() - 1;
     for lane in 0..lanes.len() {
@@ -159,10 +161,10 @@ impl Model for BlockBits {
     ghost invariant = { λ b. length b.lanes.items ≡ 256 };
 }
 
-/// Room in each lane for as many steps as the longest of its runs has.
 fn new_lanes(alloc: Global, groups: &[RunGroup]) -> Result<Vec<LaneBits>, OutOfMemory>
     ensures count { IfOk result (λ lanes. length lanes.items ≡ 256) }
-    ensures room { IfOk result (λ lanes. All (λ (runs : List RunRecord). HasRoom runs lanes.items) groups.now) }
+    ensures room { IfOk result (λ lanes.
+        All (λ (runs : List RunRecord). HasRoom runs lanes.items) groups.now) }
 {
     let mut lanes = Vec::with_capacity(alloc, 256)?;
     for lane in 0..256usize {
@@ -175,40 +177,40 @@ fn new_lanes(alloc: Global, groups: &[RunGroup]) -> Result<Vec<LaneBits>, OutOfM
 }
 
 impl BlockBits {
-    /// Room for as many steps as the runs of these groups have.
     fn new(alloc: Global, groups: &[RunGroup]) -> Result<Self, OutOfMemory>
-        ensures { IfOk result (λ bits. All (λ (runs : List RunRecord). HasRoom runs bits) groups.now) }
+        ensures { IfOk result (λ bits. All
+            (λ (runs : List RunRecord). HasRoom runs bits) groups.now) }
     {
         Ok(BlockBits {
             lanes: new_lanes(alloc, groups)?,
         })
     }
 
-    /// Puts the inputs of all runs, from one on.
     fn fill(&mut self, runs: &[Vectors], first: usize)
         requires lanes { length runs.now ≤ 256 }
         requires inputs { All (λ (run : RunRecord).
             All (λ (vector : List Value). first ≤ length vector) run.steps) runs.now }
         requires room { HasRoom runs.now self.old }
         ensures holds { HoldsBlock first runs.now self.new }
-        ensures sizes { (l : ℕ) → length (slice_index_or self.new l []) ≡ length (slice_index_or self.old l []) }
+        ensures sizes { (l : ℕ) → length (slice_index_or self.new l [])
+            ≡ length (slice_index_or self.old l []) }
     {
         fill_lanes(&mut self.lanes, runs, first);
     }
 
-    /// Puts the inputs of each step of a run, from one on, into a lane of its own, as `fill_firsts` does.
+    /// Puts the inputs of each step of a run into a lane of its own, as `fill_firsts` does.
     fn fill_across(&mut self, run: &Vectors, first: usize)
         requires some { 0 < length run.now.steps }
         requires inputs { All (λ (vector : List Value). first ≤ length vector) run.now.steps }
         requires room { HasStep self.old }
         ensures holds { (l : ℕ) → l < 256
             → HoldsInputs first (one_step (step_of run.now l)) (slice_index_or self.new l []) }
-        ensures sizes { (l : ℕ) → length (slice_index_or self.new l []) ≡ length (slice_index_or self.old l []) }
+        ensures sizes { (l : ℕ) → length (slice_index_or self.new l [])
+            ≡ length (slice_index_or self.old l []) }
     {
         fill_firsts(&mut self.lanes, run, first);
     }
 
-    /// The bits for a step in a lane, if it has that; none are set where it has not.
     #[inline(always)]
     pub(crate) fn input_word(&self, lane: usize, step: usize) -> InputWord
         requires { lane < 256 }
@@ -229,7 +231,8 @@ pub fn new_bits(
     groups: &[RunGroup],
 ) -> Result<Vec<BlockBits>, OutOfMemory>
     ensures count { IfOk result (λ bits. AreBlocks inputs (length bits.items)) }
-    ensures room { IfOk result (λ bits. All (λ (runs : List RunRecord). All (HasRoom runs) bits.items) groups.now) }
+    ensures room { IfOk result (λ bits. All
+        (λ (runs : List RunRecord). All (HasRoom runs) bits.items) groups.now) }
 {
     let blocks = inputs.div_ceil(64);
     let mut bits = Vec::with_capacity(alloc, blocks)?;
@@ -254,8 +257,8 @@ pub fn fill_bits(bits: &mut [BlockBits], runs: &[Vectors], inputs: usize)
     }
 }
 
-/// Puts the inputs of each step of a run into a lane of its own, as the first step there, and those of the last one
-/// into the lanes that are left.
+/// Puts the inputs of each step of a run into a lane of its own, as the first step there, and those
+/// of the last one into the lanes that are left.
 pub fn fill_across(bits: &mut [BlockBits], run: &Vectors, inputs: usize)
     requires some { 0 < length run.now.steps }
     requires inputs { All (λ (vector : List Value). length vector ≡ inputs) run.now.steps }

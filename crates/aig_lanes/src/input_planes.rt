@@ -1,12 +1,14 @@
 //! Inputs of a step, of which there are bits, put into planes.
-ghost use Rattle.std.specs.Prelude.{◌≡◌, ◌+◌, ◌-◌, ◌*◌, ◌/◌, ◌%◌, ◌^◌, ◌<◌, ◌≤◌, ℕ, List, length, slice_index_or};
+ghost use Rattle.std.specs.Prelude.{◌≡◌, ◌+◌, ◌-◌, ◌*◌, ◌/◌, ◌%◌, ◌^◌, ◌<◌};
+ghost use Rattle.std.specs.Prelude.{◌≤◌, ℕ, List, length, slice_index_or};
 ghost use Rattle.std.specs.Prelude.{slice_set, take};
 ghost use Rattle.std.specs.Int.{bit_at};
 ghost use Rattle.std.specs.List.{All};
 ghost use Rattle.aig_circuit.specs.declared.value.Val.{Val as Value};
 ghost use Rattle.aig_circuit.specs.declared.value.Val.TheVariants.{Zero};
 ghost use Rattle.aig_lanes.specs.declared.input_bits.InputWord.{InputWord as InputWordRecord};
-ghost use Rattle.aig_lanes.specs.Parts.InputBits.{AreBlocks, AreBytes, AreWords, IsWord, byte_in, word_at};
+ghost use Rattle.aig_lanes.specs.Parts.InputBits.{AreBlocks, AreBytes, AreWords};
+ghost use Rattle.aig_lanes.specs.Parts.InputBits.{IsWord, byte_in, word_at};
 ghost use Rattle.aig_lanes.specs.Parts.Lanes.{IsLane, IsPlane, bit_in};
 ghost use Rattle.aig_step.specs.Parts.Tables.{placed};
 ghost use Rattle.aig_step.specs.TraceText.{values_text};
@@ -18,16 +20,18 @@ use aig_circuit::Val;
 use std::simd::Simd;
 use std::simd::prelude::*;
 
-/// Eight inputs in all lanes: a byte for each lane, with a bit for each input. Eight bytes more stand behind them, so
-/// that the same lane of these inputs and of the next do not share a place of the processor's cache.
+/// Eight inputs in all lanes: a byte for each lane, with a bit for each input. Eight bytes more
+/// stand behind them, so that the same lane of these inputs and of the next do not share a place of
+/// the processor's cache.
 type Eight = [u8; 264];
 
-/// The words of eight lanes for a step.
 #[inline(always)]
 fn rows_at(bits: &BlockBits, step: usize, lane: usize) -> ([u64; 8], [u64; 8])
     requires { lane + 8 ≤ 256 }
-    ensures ones { (r : ℕ) → r < 8 → slice_index_or result.0 r 0 ≡ (word_at (lane + r) step bits.now).one }
-    ensures zeros { (r : ℕ) → r < 8 → slice_index_or result.1 r 0 ≡ (word_at (lane + r) step bits.now).zero }
+    ensures ones { (r : ℕ) → r < 8 → slice_index_or result.0 r 0
+        ≡ (word_at (lane + r) step bits.now).one }
+    ensures zeros { (r : ℕ) → r < 8 → slice_index_or result.1 r 0
+        ≡ (word_at (lane + r) step bits.now).zero }
 {
     let mut ones = [0; 8];
     let mut zeros = [0; 8];
@@ -39,7 +43,7 @@ fn rows_at(bits: &BlockBits, step: usize, lane: usize) -> ([u64; 8], [u64; 8])
     (ones, zeros)
 }
 
-/// The eight bytes of eight rows by columns: the first byte of each row, then the second of each, and so on.
+/// Eight rows of eight bytes by columns: the first byte of each row, then the second, and so on.
 #[inline(always)]
 fn columns_of(rows: &[u64; 8]) -> [u8; 64]
     requires { All (λ (row : ℕ). row < 2 ^ 64) rows.now }
@@ -56,7 +60,6 @@ fn columns_of(rows: &[u64; 8]) -> [u8; 64]
         .to_array()
 }
 
-/// Puts 64 inputs of eight lanes, by a word for each lane.
 #[inline(always)]
 fn put_square(rows: &[u64; 8], eights: &mut [Eight], lane: usize)
     requires eight { length eights.old ≡ 8 }
@@ -87,24 +90,24 @@ fn put_squares(bits: &BlockBits, step: usize, ones: &mut [Eight], zeros: &mut [E
     }
 }
 
-/// The bits of 64 lanes, from this one on, whose byte has this bit.
 #[inline(always)]
 fn lanes_with(eight: &Eight, first: usize, place: usize) -> u64
     requires first { first + 64 ≤ 256 }
     requires place { place < 8 }
-    ensures { (k : ℕ) → k < 64 → bit_at result k ≡ bit_at (slice_index_or eight.now (first + k) 0) place }
+    ensures { (k : ℕ) → k < 64 → bit_at result k
+        ≡ bit_at (slice_index_or eight.now (first + k) 0) place }
 {
     (u8x64::from_slice(&eight[first..]) & u8x64::splat(1 << place))
         .simd_ne(u8x64::splat(0))
         .to_bitmask()
 }
 
-/// The plane of the lanes whose byte has this bit.
 #[inline(always)]
 fn plane_with(eight: &Eight, place: usize) -> Plane
     requires { place < 8 }
     ensures plane { IsPlane result }
-    ensures bits { (l : ℕ) → l < 256 → bit_in l result ≡ bit_at (slice_index_or eight.now l 0) place }
+    ensures bits { (l : ℕ) → l < 256 → bit_in l result
+        ≡ bit_at (slice_index_or eight.now l 0) place }
 {
     Simd::from_array([
         lanes_with(eight, 0, place),
@@ -114,7 +117,6 @@ fn plane_with(eight: &Eight, place: usize) -> Plane
     ])
 }
 
-/// Puts so many inputs, from one on, of which these are the bytes, into their planes.
 fn put_planes(ones: &[Eight], zeros: &[Eight], first: usize, count: usize, planes: &mut [Plane])
     requires eight { length ones.now ≡ 8 × length zeros.now ≡ 8 }
     requires count { count ≤ 64 }
@@ -132,7 +134,6 @@ fn put_planes(ones: &[Eight], zeros: &[Eight], first: usize, count: usize, plane
     }
 }
 
-/// Puts so many inputs, from one on, of which these are the bits.
 fn put_block(bits: &BlockBits, step: usize, first: usize, count: usize, planes: &mut [Plane])
     requires count { count ≤ 64 }
     requires room { 2 * (1 + first + count) ≤ length planes.old }

@@ -1,5 +1,6 @@
 //! What steps show, in all lanes.
-ghost use Rattle.std.specs.Prelude.{◌≡◌, ◌+◌, ◌-◌, ◌*◌, ◌/◌, ◌++◌, ◌<◌, ◌≤◌, ◌^◌, ℕ, List, [], IfOk, drop, length, map};
+ghost use Rattle.std.specs.Prelude.{◌≡◌, ◌+◌, ◌-◌, ◌*◌, ◌/◌, ◌++◌, ◌<◌, ◌≤◌};
+ghost use Rattle.std.specs.Prelude.{◌^◌, ℕ, List, [], IfOk, drop, length, map};
 ghost use Rattle.std.specs.Prelude.{IsTrue, slice_index_or, take};
 ghost use Rattle.std.specs.List.{All};
 ghost use Rattle.aig_circuit.specs.declared.circuit.Latch.{Latch as LatchRecord};
@@ -24,9 +25,9 @@ use aig_circuit::{Circuit, Latch, Listing, Lit, OutOfMemory, Reset, Val};
 use aig_step::{Columns, write_text};
 use std::alloc::{AllocError, Global};
 
-/// What steps show. In the lanes of a sheet it stands step behind step: the state, the outputs, and the bad states and
-/// constraints where they are asked for. Behind the last step stands the state that comes after it, so that the next
-/// state of a step is the state of the one behind it.
+/// What steps show. In the lanes of a sheet it stands step behind step: the state, the outputs, and
+/// the bad states and constraints where they are asked for. Behind the last step stands the state
+/// that comes after it, so that the next state of a step is the state of the one behind it.
 #[derive(Drop)]
 pub struct LaneColumns {
     columns: Columns,
@@ -43,13 +44,13 @@ pub struct LaneColumns {
     ghost counted: { outputs + (bad + constraints) + length resets.items ≡ length literals.items },
 }
 
-/// The planes of eight literals from one on, each with that of its negation behind it. Where there are fewer, the last
-/// one stands for those that are not there.
+/// Where there are fewer than eight, the last one stands for those that are not there.
 #[inline(always)]
 fn planes_of_literals(planes: &[Plane], literals: &[Lit], first: usize) -> [Plane; 16]
     requires some { first < length literals.now }
     requires below { All (IsLiteralBelow (length planes.now / 2)) literals.now }
-    ensures { (l k : ℕ) (values : List Value) → k < 8 → first + k < length literals.now → IsLane l planes.now values
+    ensures { (l k : ℕ) (values : List Value) → k < 8 → first + k < length literals.now
+        → IsLane l planes.now values
         → IsPair l (slice_index_or result (2 * k) []) (slice_index_or result (2 * k + 1) [])
         (literal_value (read_from values) (slice_index_or literals.now (first + k) 0)) }
 {
@@ -63,16 +64,18 @@ fn planes_of_literals(planes: &[Plane], literals: &[Lit], first: usize) -> [Plan
     eight
 }
 
-/// Puts literals from a place on. Eight are put at once; what stands behind the last one then is no matter, for what is
-/// put next is put over it.
+/// Eight are put at once; what stands behind the last one is put over by what is put next.
 fn show_literals(literals: &[Lit], planes: &[Plane], sheet: &mut Sheet, at: usize)
     requires fits { at + length literals.now < 2 ^ 64 }
     requires below { All (IsLiteralBelow (length planes.now / 2)) literals.now }
     ensures room { SameRoom sheet.old sheet.new }
-    ensures front { (l : ℕ) → l < 256 → take at (text_in l sheet.new) ≡ take at (text_in l sheet.old) }
-    ensures text { (l : ℕ) (values : List Value) → l < 256 → at + length literals.now ≤ length (text_in l sheet.old)
+    ensures front { (l : ℕ) → l < 256 → take at (text_in l sheet.new)
+        ≡ take at (text_in l sheet.old) }
+    ensures text { (l : ℕ) (values : List Value) → l < 256
+        → at + length literals.now ≤ length (text_in l sheet.old)
         → IsLane l planes.now values → take (at + length literals.now) (text_in l sheet.new)
-        ≡ take at (text_in l sheet.old) ++ values_text (map (literal_value (read_from values)) literals.now) }
+        ≡ take at (text_in l sheet.old) ++ values_text
+        (map (literal_value (read_from values)) literals.now) }
 {
     for eight in 0..literals.len().div_ceil(8) {
         let first = 8 * eight;
@@ -80,7 +83,6 @@ fn show_literals(literals: &[Lit], planes: &[Plane], sheet: &mut Sheet, at: usiz
     }
 }
 
-/// Of bad states or constraints, those that are asked for.
 fn if_asked_for(columns: Columns, literals: &[Lit]) -> &[Lit]
     ensures { result.now ≡ asked_of columns literals.now }
 {
@@ -90,7 +92,6 @@ fn if_asked_for(columns: Columns, literals: &[Lit]) -> &[Lit]
     }
 }
 
-/// The literal that has the value of a reset before the first step.
 fn reset_literal(reset: Reset) -> Lit
     ensures { result ≡ literal_by reset }
 {
@@ -101,7 +102,6 @@ fn reset_literal(reset: Reset) -> Lit
     }
 }
 
-/// The literals that have the values of the resets before the first step.
 fn reset_literals(alloc: Global, latches: &[Latch]) -> Result<Vec<Lit>, OutOfMemory>
     ensures { IfOk result (λ literals. literals.items ≡ literals_by latches.now) }
 {
@@ -112,7 +112,6 @@ fn reset_literals(alloc: Global, latches: &[Latch]) -> Result<Vec<Lit>, OutOfMem
     Ok(literals)
 }
 
-/// What a step shows beside states.
 fn literals_beside_states(
     alloc: Global,
     parts: &Circuit,
@@ -127,7 +126,6 @@ fn literals_beside_states(
     Ok(literals)
 }
 
-/// Adds the literals of next states.
 fn add_next(literals: &mut Vec<Lit>, latches: &[Latch]) -> Result<(), OutOfMemory>
     ensures { IfOk result (λ _.
         literals.new.items ≡ literals.old.items ++ map (λ (l : LatchRecord). l.next) latches.now) }
@@ -169,17 +167,20 @@ impl LaneColumns {
         Sheet::new(alloc, self.literals.len(), self.resets.len(), groups)
     }
 
-    /// Before the first step the state by the resets is put. In a table that has values in each lane, the variables but
-    /// the constant and the first keep them: those of inputs, latches and gates are put at each step.
+    /// Before the first step the state by the resets is put. In a table that has values in each
+    /// lane, the variables but the constant and the first keep them: those of inputs, latches and
+    /// gates are put at each step.
     pub fn begin(&self, is_whole: bool, table: &mut [Plane], state: &mut [Plane], sheet: &mut Sheet)
         requires whole { IsTrue is_whole → IsWhole table.old }
         requires constant { 2 ≤ length table.old }
         requires state { length state.old ≡ 2 * length self.now.resets.items }
         requires below { All (IsLiteralBelow (length table.old / 2)) self.now.resets.items }
         ensures room { SameRoom sheet.old sheet.new }
-        ensures table { (l variables : ℕ) → l < 256 → length table.old ≡ 2 * variables → Begun l variables table.new }
+        ensures table { (l variables : ℕ) → l < 256 → length table.old ≡ 2 * variables
+            → Begun l variables table.new }
         ensures text { (l : ℕ) (values : List Value) → l < 256 → IsLane l table.new values
-            → end_of self.now 0 ≤ length (text_in l sheet.old) → take (end_of self.now 0) (text_in l sheet.new)
+            → end_of self.now 0 ≤ length (text_in l sheet.old)
+            → take (end_of self.now 0) (text_in l sheet.new)
             ≡ values_text (map (literal_value (read_from values)) self.now.resets.items) }
         ensures state { (l : ℕ) (values : List Value) → l < 256 → IsLane l table.new values
             → IsLane l state.new (map (literal_value (read_from values)) self.now.resets.items) }
@@ -197,15 +198,18 @@ impl LaneColumns {
         requires below { All (IsLiteralBelow (length table.now / 2)) self.now.literals.items }
         ensures room { SameRoom sheet.old sheet.new }
         ensures front { (l : ℕ) → l < 256
-            → take (end_of self.now step) (text_in l sheet.new) ≡ take (end_of self.now step) (text_in l sheet.old) }
+            → take (end_of self.now step) (text_in l sheet.new)
+            ≡ take (end_of self.now step) (text_in l sheet.old) }
         ensures text { (l : ℕ) (values : List Value) → l < 256
             → end_of self.now (step + 1) ≤ length (text_in l sheet.old) → IsLane l table.now values
             → take (end_of self.now (step + 1)) (text_in l sheet.new)
             ≡ take (end_of self.now step) (text_in l sheet.old)
             ++ values_text (map (literal_value (read_from values)) self.now.literals.items) }
-        ensures state { (l : ℕ) (values before : List Value) → IsLane l table.now values → IsLane l state.old before
+        ensures state { (l : ℕ) (values before : List Value) → IsLane l table.now values
+            → IsLane l state.old before
             → IsLane l state.new (map (literal_value (read_from values))
-            (drop (length self.now.literals.items - length self.now.resets.items) self.now.literals.items)) }
+            (drop (length self.now.literals.items - length self.now.resets.items)
+            self.now.literals.items)) }
     {
         let at = step * self.literals.len() + self.resets.len();
         show_literals(&self.literals, table, sheet, at);
@@ -215,8 +219,8 @@ impl LaneColumns {
         put_literals(next, table, state);
     }
 
-    /// Writes the columns of bad states and constraints of a step in a lane, where they are asked for and stand at this
-    /// place, and answers where they end.
+    /// Writes the columns of bad states and constraints of a step in a lane, where they are asked
+    /// for and stand at this place, and answers where they end.
     #[inline(always)]
     fn write_properties(
         &self,
@@ -227,12 +231,14 @@ impl LaneColumns {
         lane: usize,
     ) -> usize
         requires lane { lane < 256 }
-        requires has { from + (self.now.bad + self.now.constraints) ≤ length (text_in lane sheet.now) }
+        requires has { from + (self.now.bad + self.now.constraints)
+            ≤ length (text_in lane sheet.now) }
         requires fits { from + (self.now.bad + self.now.constraints) < 2 ^ 64 }
         requires room { at + self.now.bad + self.now.constraints + 2 ≤ length line.old }
         ensures end { result ≤ at + self.now.bad + self.now.constraints + 2 }
         ensures text { take result line.new ≡ take at line.old
-            ++ shown_properties self.now.columns from self.now.bad self.now.constraints (text_in lane sheet.now) }
+            ++ shown_properties self.now.columns from self.now.bad self.now.constraints
+            (text_in lane sheet.now) }
     {
         match self.columns {
             Columns::Plain => at,
@@ -243,7 +249,8 @@ impl LaneColumns {
         }
     }
 
-    /// Writes the line of a step in a lane with these inputs, from a place on, and answers where it ends.
+    /// Writes the line of a step in a lane with these inputs, from a place on, and answers where it
+    /// ends.
     #[inline(always)]
     pub fn write(
         &self,
@@ -290,7 +297,8 @@ impl LaneColumns {
         requires has { end_of self.now (step + 1) ≤ length (text_in lane sheet.now) }
         requires room { shown_size self.now ≤ length line.old }
         ensures { IfOk result (λ full. (row : RowRecord)
-            → RowStands self.now step given.now (text_in lane sheet.now) row → self.now.columns ≡ Properties
+            → RowStands self.now step given.now (text_in lane sheet.now) row
+            → self.now.columns ≡ Properties
             → row_of full ≡ row) }
     {
         let latches = self.resets.len();

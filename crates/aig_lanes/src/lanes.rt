@@ -1,5 +1,6 @@
 //! Tables of values for runs side by side: each literal has a plane, with a bit for each run.
-ghost use Rattle.std.specs.Prelude.{◌≡◌, ◌+◌, ◌-◌, ◌*◌, ◌/◌, ◌<◌, ◌≤◌, ℕ, List, length, map, slice_set, if◌then◌else◌};
+ghost use Rattle.std.specs.Prelude.{◌≡◌, ◌+◌, ◌-◌, ◌*◌, ◌/◌, ◌<◌, ◌≤◌, ℕ, List};
+ghost use Rattle.std.specs.Prelude.{length, map, slice_set, if◌then◌else◌};
 ghost use Rattle.std.specs.List.{All};
 ghost use Rattle.aig_circuit.specs.declared.value.Val.{Val as Value};
 ghost use Rattle.aig_circuit.specs.declared.value.Val.TheVariants.{Zero};
@@ -7,13 +8,13 @@ ghost use Rattle.aig_circuit.specs.Values.{value_and, value_not};
 ghost use Rattle.aig_meaning.specs.Meaning.{literal_value};
 ghost use Rattle.aig_lanes.specs.Parts.Groups.{Assigned};
 ghost use Rattle.aig_lanes.specs.Parts.Lanes.{IsLane, IsPair, may_be_one};
-ghost use Rattle.aig_step.specs.Parts.Tables.{IsLiteralBelow, IsPairBelow, evaluated, placed, read_from};
+ghost use Rattle.aig_step.specs.Parts.Tables.{IsLiteralBelow, IsPairBelow};
+ghost use Rattle.aig_step.specs.Parts.Tables.{evaluated, placed, read_from};
 
 use crate::planes::{Plane, plane_of};
 use aig_circuit::{Lit, Val};
 use aig_step::{Machine, Pair};
 
-/// Whether a literal with this value may be 1, and whether its negation may be.
 #[inline(always)]
 fn bits_of(value: Val) -> (bool, bool)
     ensures one { (if result.0 then 1 else 0) ≡ may_be_one value }
@@ -26,7 +27,6 @@ fn bits_of(value: Val) -> (bool, bool)
     }
 }
 
-/// The planes of a literal and of its negation.
 #[inline(always)]
 pub(crate) fn planes_of(planes: &[Plane], literal: Lit) -> (Plane, Plane)
     requires { IsLiteralBelow (length planes.now / 2) literal }
@@ -39,18 +39,16 @@ pub(crate) fn planes_of(planes: &[Plane], literal: Lit) -> (Plane, Plane)
     )
 }
 
-/// Puts both planes of a variable.
 #[inline(always)]
 pub(crate) fn put_pair(planes: &mut [Plane], variable: usize, one: Plane, zero: Plane)
     requires { 2 * variable + 1 < length planes.old }
-    ensures { (l : ℕ) (values : List Value) (x : Value) → IsLane l planes.old values → IsPair l one zero x
-        → IsLane l planes.new (slice_set values variable x) }
+    ensures { (l : ℕ) (values : List Value) (x : Value) → IsLane l planes.old values
+        → IsPair l one zero x → IsLane l planes.new (slice_set values variable x) }
 {
     planes[2 * variable] = one;
     planes[2 * variable + 1] = zero;
 }
 
-/// Puts a value in all lanes.
 pub(crate) fn put_all(planes: &mut [Plane], variable: usize, value: Val)
     requires { 2 * variable + 1 < length planes.old }
     ensures { (l : ℕ) (values : List Value) → l < 256 → IsLane l planes.old values
@@ -63,7 +61,8 @@ pub(crate) fn put_all(planes: &mut [Plane], variable: usize, value: Val)
 /// Puts the values that stand in another table, in each lane, from this variable on.
 pub(crate) fn place_lanes(planes: &mut [Plane], first: usize, given: &[Plane])
     requires { 2 * first + length given.now ≤ length planes.old }
-    ensures { (l : ℕ) (values before : List Value) → IsLane l planes.old values → IsLane l given.now before
+    ensures { (l : ℕ) (values before : List Value) → IsLane l planes.old values
+        → IsLane l given.now before
         → IsLane l planes.new (placed first before values) }
 {
     for i in 0..given.len() / 2 {
@@ -71,11 +70,11 @@ pub(crate) fn place_lanes(planes: &mut [Plane], first: usize, given: &[Plane])
     }
 }
 
-/// Puts the values of literals into a table of their own, in each lane.
 pub(crate) fn put_literals(literals: &[Lit], planes: &[Plane], state: &mut [Plane])
     requires room { length state.old ≡ 2 * length literals.now }
     requires below { All (IsLiteralBelow (length planes.now / 2)) literals.now }
-    ensures { (l : ℕ) (values before : List Value) → IsLane l planes.now values → IsLane l state.old before
+    ensures { (l : ℕ) (values before : List Value) → IsLane l planes.now values
+        → IsLane l state.old before
         → IsLane l state.new (map (literal_value (read_from values)) literals.now) }
 {
     for i in 0..literals.len() {
@@ -84,7 +83,6 @@ pub(crate) fn put_literals(literals: &[Lit], planes: &[Plane], state: &mut [Plan
     }
 }
 
-/// The planes of a gate with these operands.
 #[inline(always)]
 fn planes_of_gate(planes: &[Plane], pair: Pair) -> (Plane, Plane)
     requires { IsPairBelow (length planes.now / 2) pair }
@@ -97,12 +95,13 @@ fn planes_of_gate(planes: &[Plane], pair: Pair) -> (Plane, Plane)
     (left & right, not_left | not_right)
 }
 
-/// Puts the value of each gate, in each lane. The variables of the gates are the last ones of the table.
+/// The variables of the gates are the last ones of the table.
 pub(crate) fn evaluate_lanes(pairs: &[Pair], planes: &mut [Plane])
     requires room { 2 * length pairs.now ≤ length planes.old }
     requires below { All (IsPairBelow (length planes.old / 2)) pairs.now }
     ensures { (l : ℕ) (values : List Value) → IsLane l planes.old values
-        → IsLane l planes.new (evaluated (length planes.old / 2 - length pairs.now) pairs.now values) }
+        → IsLane l planes.new (evaluated
+        (length planes.old / 2 - length pairs.now) pairs.now values) }
 {
     let mut variable = planes.len() / 2 - pairs.len();
     for pair in pairs {
@@ -112,7 +111,8 @@ pub(crate) fn evaluate_lanes(pairs: &[Pair], planes: &mut [Plane])
     }
 }
 
-/// Fills a table with the values of a step in each lane, where it has those of the constant and of the inputs.
+/// Fills a table with the values of a step in each lane, where it has those of the constant and of
+/// the inputs.
 pub fn assign_lanes(machine: &Machine, state: &[Plane], table: &mut [Plane])
     requires each_latch { length state.now ≡ 2 * length machine.now.latches }
     requires room { length table.old ≡ 2 * (1 + machine.now.max_var) }
@@ -121,8 +121,7 @@ pub fn assign_lanes(machine: &Machine, state: &[Plane], table: &mut [Plane])
         → Assigned machine.now l before given table.new }
 {
     let parts = machine.parts();
-    // That there are not too many inputs to count one more is known by this read.
-    let _largest = parts.max_var;
+    let _largest = parts.max_var; // for the proof
     let pairs = machine.pairs();
     place_lanes(table, 1 + parts.inputs.len(), state);
     evaluate_lanes(pairs, table);

@@ -1,7 +1,8 @@
 //! Steps of 256 runs side by side, a lane for each.
 //!
-//! Others call `Bench`, which steps the runs of a group, or a step in each lane; `Vectors` and `RunGroup`, which are its
-//! inputs; and `LaneColumns`, `Sheet` and `ShownLine` for the lines of the steps.
+//! Others call `Bench`, which steps the runs of a group, or a step in each lane; `Vectors` and
+//! `RunGroup`, which are its inputs; and `LaneColumns`, `Sheet` and `ShownLine` for the lines of
+//! the steps.
 //!
 //! The definitions that matter most are `IsBench`, `IsRunOf` and `IsTraceOf`.
 #![tactic(auto)]

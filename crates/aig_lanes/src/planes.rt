@@ -7,7 +7,6 @@ use std::simd::Simd;
 /// A bit for each lane.
 pub type Plane = Simd<u64, 4>;
 
-/// The plane with this bit in all lanes.
 pub(crate) fn plane_of(bit: bool) -> Plane
     ensures plane { IsPlane result }
     ensures bits { (l : ℕ) → l < 256 → bit_in l result ≡ (if bit then 1 else 0) }

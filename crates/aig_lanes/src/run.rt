@@ -37,7 +37,8 @@ pub struct Trace {
 }
 
 impl Run {
-    /// Whether each vector of inputs has as many values as the circuit has inputs. A run of no steps fits any circuit.
+    /// Whether each vector of inputs has as many values as the circuit has inputs. A run of no
+    /// steps fits any circuit.
     pub fn fits(&self, checked: &Checked) -> bool
         ensures { IsTrue result ↔ IsRunOf checked.now self.now }
     {

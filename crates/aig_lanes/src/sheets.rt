@@ -1,11 +1,13 @@
 //! Sheets: what literals are in all lanes.
-ghost use Rattle.std.specs.Prelude.{◌≡◌, ◌+◌, ◌*◌, ◌/◌, ◌++◌, ◌<◌, ◌≤◌, ℕ, List, [], IfOk, codes, length};
+ghost use Rattle.std.specs.Prelude.{◌≡◌, ◌+◌, ◌*◌, ◌/◌, ◌++◌, ◌<◌, ◌≤◌};
+ghost use Rattle.std.specs.Prelude.{ℕ, List, [], IfOk, codes, length};
 ghost use Rattle.std.specs.Prelude.{slice_index_or, take};
 ghost use Rattle.std.specs.List.{All};
 ghost use Rattle.aig_circuit.specs.declared.value.Val.{Val as Value};
 ghost use Rattle.aig_lanes.specs.declared.run.Run.{Run as RunRecord};
 ghost use Rattle.aig_lanes.specs.Parts.Lanes.{bit_in};
-ghost use Rattle.aig_lanes.specs.Parts.Sheets.{BytesText, HoldsSteps, IsSheet, bytes_text, character_by, eight_at};
+ghost use Rattle.aig_lanes.specs.Parts.Sheets.{BytesText, HoldsSteps, IsSheet};
+ghost use Rattle.aig_lanes.specs.Parts.Sheets.{bytes_text, character_by, eight_at};
 ghost use Rattle.aig_lanes.specs.Parts.Sheets.{overwritten, part, text_in};
 ghost use Rattle.aig_step.specs.TraceText.{character_of, values_text};
 
@@ -17,7 +19,7 @@ use aig_circuit::{Listing, OutOfMemory, Val};
 use std::alloc::{AllocError, Global};
 use std::marker::Model;
 
-/// How many steps the longest of the runs has whose lanes are these eight, or this number if that is more.
+/// How many steps the longest run in these eight lanes has, or this number if that is more.
 fn longer_of(runs: &[Vectors], octet: usize, least: usize) -> usize
     requires { octet < 32 }
     ensures least { least ≤ result }
@@ -33,11 +35,10 @@ fn longer_of(runs: &[Vectors], octet: usize, least: usize) -> usize
     longest
 }
 
-/// How many steps the longest run has whose lane is one of these eight.
 pub(crate) fn longest_in(groups: &[RunGroup], octet: usize) -> usize
     requires { octet < 32 }
-    ensures { All (λ (runs : List RunRecord). (l : ℕ) (d : RunRecord) → l / 8 ≡ octet → l < length runs
-        → length (slice_index_or runs l d).steps ≤ result) groups.now }
+    ensures { All (λ (runs : List RunRecord). (l : ℕ) (d : RunRecord) → l / 8 ≡ octet
+        → l < length runs → length (slice_index_or runs l d).steps ≤ result) groups.now }
 {
     let mut longest = 0;
     for group in groups {
@@ -46,8 +47,6 @@ pub(crate) fn longest_in(groups: &[RunGroup], octet: usize) -> usize
     longest
 }
 
-/// Rows of bytes for all lanes, each of so many literals for each step of the longest run in its lanes, and of so many
-/// more.
 fn new_byte_rows(
     alloc: Global,
     width: usize,
@@ -55,7 +54,8 @@ fn new_byte_rows(
     groups: &[RunGroup],
 ) -> Result<Vec<ByteRows>, OutOfMemory>
     ensures is { IfOk result (λ byte_rows. IsSheet byte_rows.items) }
-    ensures room { IfOk result (λ byte_rows. All (HoldsSteps width more byte_rows.items) groups.now) }
+    ensures room { IfOk result (λ byte_rows.
+        All (HoldsSteps width more byte_rows.items) groups.now) }
 {
     let mut byte_rows = Vec::with_capacity(alloc, 32)?;
     for octet in 0..32usize {
@@ -70,11 +70,12 @@ fn new_byte_rows(
     Ok(byte_rows)
 }
 
-/// Puts the bytes of eight literals for each eight of lanes, from a place on, as far as there are places.
+/// Puts the bytes of eight literals for each eight of lanes, as far as there are places.
 #[inline(always)]
 fn put_bytes(byte_rows: &mut [ByteRows], at: usize, ones: &[u8; 256], zeros: &[u8; 256])
     requires { length byte_rows.old ≡ 32 }
-    ensures text { (k j : ℕ) (d : BytesText) → k < 32 → bytes_text j (slice_index_or byte_rows.new k d)
+    ensures text { (k j : ℕ) (d : BytesText) → k < 32
+        → bytes_text j (slice_index_or byte_rows.new k d)
         ≡ overwritten at (bytes_text j (eight_at k ones.now zeros.now))
         (bytes_text j (slice_index_or byte_rows.old k d)) }
     ensures size { length byte_rows.new ≡ 32 }
@@ -87,7 +88,6 @@ fn put_bytes(byte_rows: &mut [ByteRows], at: usize, ones: &[u8; 256], zeros: &[u
     }
 }
 
-/// The value that a character stands for.
 fn value_by(character: u8) -> Val
     ensures { (v : Value) → character ≡ character_of v → result ≡ v }
 {
@@ -100,7 +100,8 @@ fn value_by(character: u8) -> Val
 
 /// The values that characters stand for.
 fn values_by(alloc: Global, text: &[u8]) -> Result<Listing<Val>, AllocError>
-    ensures { IfOk result (λ values. (shown : List Value) → text.now ≡ values_text shown → values ≡ shown) }
+    ensures { IfOk result (λ values. (shown : List Value) → text.now ≡ values_text shown
+        → values ≡ shown) }
 {
     let mut values = Vec::with_capacity(alloc, text.len())?;
     for character in text {
@@ -127,7 +128,6 @@ impl Model for Sheet {
 }
 
 impl Sheet {
-    /// Room for so many literals for each step of these groups, and for so many more.
     pub(crate) fn new(
         alloc: Global,
         width: usize,
@@ -141,15 +141,15 @@ impl Sheet {
         })
     }
 
-    /// Puts eight literals, from a place on, in each lane as far as it has places. Behind the plane of each stands that
-    /// of its negation.
+    /// Behind the plane of each literal stands that of its negation.
     #[inline(always)]
     pub(crate) fn put(&mut self, at: usize, planes: &[Plane; 16])
         ensures text { (l k : ℕ) → l < 256 → k < 8 → at + k < length (text_in l self.old)
             → slice_index_or (text_in l self.new) (at + k) 0
             ≡ character_by (bit_in l (slice_index_or planes.now (2 * k) []))
             (bit_in l (slice_index_or planes.now (2 * k + 1) [])) }
-        ensures front { (l : ℕ) → l < 256 → take at (text_in l self.new) ≡ take at (text_in l self.old) }
+        ensures front { (l : ℕ) → l < 256
+            → take at (text_in l self.new) ≡ take at (text_in l self.old) }
         ensures long { (l : ℕ) → length (text_in l self.new) ≡ length (text_in l self.old) }
     {
         put_bytes(
@@ -160,8 +160,8 @@ impl Sheet {
         );
     }
 
-    /// Writes the characters that so many literals, from one on, have in a lane, from a place on, and answers where
-    /// they end.
+    /// Writes the characters that so many literals, from one on, have in a lane, from a place on,
+    /// and answers where they end.
     #[inline(always)]
     pub(crate) fn write(
         &self,
@@ -176,13 +176,13 @@ impl Sheet {
         requires room { at + count ≤ length line.old }
         ensures end { result ≡ at + count }
         ensures size { length line.new ≡ length line.old }
-        ensures text { take result line.new ≡ take at line.old ++ part from count (text_in lane self.now) }
+        ensures text { take result line.new
+            ≡ take at line.old ++ part from count (text_in lane self.now) }
     {
         self.byte_rows[lane / 8].write(line, at, from, count, lane % 8);
         at + count
     }
 
-    /// Writes a space and such characters, as `write` writes those.
     #[inline(always)]
     pub(crate) fn write_column(
         &self,
@@ -204,7 +204,7 @@ impl Sheet {
         self.write(line, at + 1, from, count, lane)
     }
 
-    /// The values that so many literals, from one on, have in a lane. Their characters are written to a line first.
+    /// Their characters are written to a line first.
     pub(crate) fn values(
         &self,
         alloc: Global,

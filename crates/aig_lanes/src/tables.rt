@@ -13,14 +13,14 @@ use std::alloc::Global;
 pub fn new_table(alloc: Global, variables: usize) -> Result<Vec<Plane>, OutOfMemory>
     requires { variables < 2 ^ 62 }
     ensures size { IfOk result (λ table. length table.items ≡ 2 * variables) }
-    ensures lanes { IfOk result (λ table. (l : ℕ) → l < 256 → IsLane l table.items (replicate variables X)) }
+    ensures lanes { IfOk result (λ table. (l : ℕ) → l < 256
+        → IsLane l table.items (replicate variables X)) }
 {
     let mut table = Vec::new(alloc);
     table.resize(2 * variables, plane_of(true))?;
     Ok(table)
 }
 
-/// Puts x into all lanes of a table.
 pub(crate) fn fill_table(table: &mut [Plane])
     ensures size { length table.new ≡ length table.old }
     ensures lanes { (l variables : ℕ) → l < 256 → length table.old ≡ 2 * variables
@@ -40,13 +40,14 @@ fn make_whole(table: &mut [Plane], is_whole: bool)
     }
 }
 
-/// Makes a table that for the first step: the constant is 0, and variable 1 is x, if there is one. Where variables have
-/// values in each lane, the others keep them.
+/// Makes a table that for the first step: the constant is 0, and variable 1 is x, if there is one.
+/// Where variables have values in each lane, the others keep them.
 pub(crate) fn begin_table(table: &mut [Plane], is_whole: bool)
     requires whole { IsTrue is_whole → IsWhole table.old }
     requires constant { 2 ≤ length table.old }
     ensures size { length table.new ≡ length table.old }
-    ensures begun { (l variables : ℕ) → l < 256 → length table.old ≡ 2 * variables → Begun l variables table.new }
+    ensures begun { (l variables : ℕ) → l < 256 → length table.old ≡ 2 * variables
+        → Begun l variables table.new }
 {
     make_whole(table, is_whole);
     put_all(table, 0, Val::Zero);

@@ -1,5 +1,7 @@
-//! Planes of eight literals, transposed: the bytes of eight literals for the same eight lanes stand side by side.
-ghost use Rattle.std.specs.Prelude.{◌≡◌, ◌+◌, ◌*◌, ◌/◌, ◌%◌, ◌<◌, ◌==◌, ℕ, [], if◌then◌else◌, slice_index_or};
+//! Planes of eight literals, transposed: the bytes of eight literals for the same eight lanes stand
+//! side by side.
+ghost use Rattle.std.specs.Prelude.{◌≡◌, ◌+◌, ◌*◌, ◌/◌, ◌%◌, ◌<◌, ◌==◌, ℕ};
+ghost use Rattle.std.specs.Prelude.{[], if◌then◌else◌, slice_index_or};
 ghost use Rattle.std.specs.Int.{bit_at};
 ghost use Rattle.aig_lanes.specs.Parts.Lanes.{bit_in};
 ghost use Rattle.aig_lanes.specs.Parts.Sheets.{byte_at};
@@ -7,7 +9,6 @@ ghost use Rattle.aig_lanes.specs.Parts.Sheets.{byte_at};
 use crate::planes::Plane;
 use std::simd::prelude::*;
 
-/// The bytes of a plane, each with the bits of eight lanes.
 #[inline(always)]
 fn bytes_of(plane: Plane) -> u8x32
     ensures { (octet j : ℕ) → octet < 32 → j < 8
@@ -35,9 +36,11 @@ fn rows_of(planes: &[Plane; 16], first: usize) -> [u8x32; 8]
 #[inline(always)]
 fn in_turn(one: u8x32, other: u8x32) -> (u8x32, u8x32)
     ensures first { (m : ℕ) → m < 32
-        → slice_index_or result.0 m 0 ≡ slice_index_or (if m % 2 == 0 then one else other) (m / 2) 0 }
+        → slice_index_or result.0 m 0 ≡ slice_index_or
+        (if m % 2 == 0 then one else other) (m / 2) 0 }
     ensures second { (m : ℕ) → m < 32
-        → slice_index_or result.1 m 0 ≡ slice_index_or (if m % 2 == 0 then one else other) (16 + m / 2) 0 }
+        → slice_index_or result.1 m 0 ≡ slice_index_or (if m % 2 == 0 then one else other)
+        (16 + m / 2) 0 }
 {
     one.interleave(other)
 }
@@ -56,7 +59,6 @@ fn weave(rows: [u8x32; 8]) -> [u8x32; 8]
     between
 }
 
-/// The bytes of eight rows, one row behind the other.
 #[inline(always)]
 fn flat(rows: [u8x32; 8]) -> [u8; 256]
     ensures { (m : ℕ) → m < 256 → slice_index_or result m 0 ≡ byte_at m rows }
@@ -68,9 +70,10 @@ fn flat(rows: [u8x32; 8]) -> [u8; 256]
     bytes
 }
 
-/// The bytes of every other plane from this one on: eight for the first eight lanes, one of each plane, then eight for
-/// the next eight lanes, and so on. A weaving moves the last bit of a byte's place to the front of the place. So three
-/// of them bring the number of the plane, which was before the number of the byte in it, behind that.
+/// The bytes of every other plane from this one on: eight for the first eight lanes, one of each
+/// plane, then eight for the next eight lanes, and so on. A weaving moves the last bit of a byte's
+/// place to the front of the place. So three of them bring the number of the plane, which was
+/// before the number of the byte in it, behind that.
 #[inline(always)]
 pub(crate) fn transpose(planes: &[Plane; 16], first: usize) -> [u8; 256]
     requires { first < 2 }

@@ -65,8 +65,10 @@ impl<'a> Vectors<'a> {
 
 /// How many steps the longest run has.
 pub fn longest(runs: &[Vectors]) -> usize
-    ensures most { (j : ℕ) (d : RunRecord) → j < length runs.now → length (slice_index_or runs.now j d).steps ≤ result }
-    ensures least { (size bound : ℕ) → 0 < bound → All (λ (run : RunRecord). length run.steps * size < bound) runs.now
+    ensures most { (j : ℕ) (d : RunRecord) → j < length runs.now
+        → length (slice_index_or runs.now j d).steps ≤ result }
+    ensures least { (size bound : ℕ) → 0 < bound
+        → All (λ (run : RunRecord). length run.steps * size < bound) runs.now
         → result * size < bound }
 {
     let mut longest = 0;

@@ -4,7 +4,7 @@ use Rattle.aig_circuit.specs.declared.circuit.Circuit.{Circuit}
 use Rattle.aig_command.specs.declared.request.Sim.{Sim}
 use Rattle.aig_step.specs.Outcome.{first_bad_line}
 use Rattle.aig_step.specs.TraceText.{IsTraceText}
-use Rattle.aig_dump.proofs.MemoryDumps.{IsDumpOf}
+use Rattle.aig_dump.specs.InMemory.{IsDumpFor}
 use Rattle.aig_engines.specs.File.{IsFileOf}
 use Rattle.aig_engines.specs.Simulation.{IsWrittenText, columns_of}
 
@@ -23,12 +23,12 @@ module _ {V E : Type 0} (items : V → List ℕ) (r : Result V E) (request : Sim
       go (Err e) none is = tt
 
   pub written_dump : request.vcd ≡ true → IsFileOf model request.max_var found
-      → IfOk r (λ v. first_bad_line found stimulus true ≡ None) → IfOk r (λ v. IsDumpOf found stimulus (items v))
+      → IfOk r (λ v. first_bad_line found stimulus true ≡ None) → IfOk r (λ v. IsDumpFor found stimulus (items v))
       → IfOk r (λ v. IsWrittenText request model stimulus (items v))
   written_dump vcd read good dumped = go r good dumped
     where
       go : (q : Result V E) → IfOk q (λ v. first_bad_line found stimulus true ≡ None)
-          → IfOk q (λ v. IsDumpOf found stimulus (items v))
+          → IfOk q (λ v. IsDumpFor found stimulus (items v))
           → IfOk q (λ v. IsWrittenText request model stimulus (items v))
       go (Ok v) none is =
           rw vcd (record {

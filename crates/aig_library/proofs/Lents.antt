@@ -1,48 +1,75 @@
 -- What came of the bytes of a caller, once a call is over.
-use Rattle.std.proofs.Common.{◌≡◌, ◌⊎◌, ℕ, List, inl, inr, subst, ap, ◌∙◌, Err, IfErr, IfOk, Ok, Result}
-use Rattle.aig_io.specs.Devices.{Past, unused}
-use Rattle.aig_io.specs.declared.transfer.ReadError.TheVariants as errors
+use Rattle.std.proofs.Common.{◌≡◌, ◌⊎◌, ◌∙◌, ℕ, List, None, inl, inr, ap, refl, subst, true}
+use Rattle.std.proofs.Common.{Err, IfErr, IfOk, Ok, OnOk, Result}
+use Rattle.aig_io.specs.Devices.{Origin, Past, unused}
+use Rattle.aig_io.specs.Lent.{HasGiven, lent}
+use Rattle.aig_io.specs.Runs.{Ran, Read}
 use Rattle.aig_circuit.specs.declared.circuit.Circuit.{Circuit}
 use Rattle.aig_step.specs.declared.fault.SimFault.{SimFault}
+use Rattle.aig_step.specs.declared.fault.SimFault.TheVariants as sim_faults
 use Rattle.aig_step.specs.declared.trace.Columns.{Columns}
-use Rattle.aig_batch.specs.Batched.{NotBatched}
+use Rattle.aig_step.specs.Outcome.{first_bad_line}
+use Rattle.aig_step.specs.TraceText.{IsTraceText}
+use Rattle.aig_batch.specs.Batched.{BatchSays}
 use Rattle.aig_dump.specs.InMemory.{IsBadStimulus, WantsMemory}
-use Rattle.aig_io.specs.Lent.{HasGiven, lent}
 use Rattle.aig_dump.proofs.Lents as lents
 use Rattle.aig_engines.specs.declared.fault.ToolFault.{ToolFault}
-use Rattle.aig_engines.specs.Reading.{HasRead, NotRead}
+use Rattle.aig_engines.specs.declared.fault.ToolFault.TheVariants as faults
+use Rattle.aig_engines.specs.Reading.{ReadSays}
 use Rattle.aig_library.specs.Answers.{Answers}
 use Rattle.aig_library.specs.Outcome.{IsPlaced, fault_outcome, out_of_memory, sim_outcome}
 use Rattle.aig_library.specs.declared.outcome.Outcome.{Outcome}
 
+module _ (input : List ℕ) (now : Past) (given : HasGiven now) where
+  -- what was made was made of all of the input
+  pub whole : {A : Type 0} (Holds : A → List ℕ → Type 0) (IsRefused : ToolFault → List ℕ → Type 0)
+      (r : Result A ToolFault) → Read (ReadSays Holds IsRefused r) (unused (lent input)) now
+      → IfOk r (λ made. Holds made input)
+  whole Holds IsRefused (Ok made) read =
+      subst (Holds made) (lents.all_read input now given read.bytes (rw read.says.0 at read.came)) read.says.1
+  whole Holds IsRefused (Err fault) read = tt
+
+  -- nothing was made of it: it is refused, or memory was
+  pub not_read : {A : Type 0} (Holds : A → List ℕ → Type 0) (IsRefused : ToolFault → List ℕ → Type 0)
+      (r : Result A ToolFault) → Read (ReadSays Holds IsRefused r) (unused (lent input)) now
+      → IfErr r (λ fault. IsRefused fault input ⊎ (fault_outcome fault ≡ out_of_memory))
+  not_read Holds IsRefused (Ok made) read = tt
+  not_read Holds IsRefused (Err faults.Source) read = inr refl
+  not_read Holds IsRefused (Err faults.Sink) read = absurd read.says
+  not_read Holds IsRefused (Err faults.OutOfMemory) read = inr refl
+  not_read Holds IsRefused (Err fault) read =
+      let bytes = lents.all_read input now given read.bytes (rw read.says.0 at read.came) in
+      inl (subst (IsRefused fault) bytes read.says.1)
+
+  pub batched : (c : Circuit) (columns : Columns) (r : Result (Unit {0}) SimFault) (origin : Origin) (sink_now : Past)
+      → Ran (BatchSays c columns r) (unused (lent input)) now (unused origin) sink_now
+      → OnOk r ((first_bad_line c input true ≡ None) × IsTraceText c columns input true sink_now.bytes)
+  batched c columns (Ok done) origin sink_now ran =
+      let sent = ran.says in
+      let says = sent.says in
+      let read = lents.all_read input now given ran.bytes (rw says.0 at ran.came) in
+      let text : sink_now.bytes ≡ sent.text = ap (λ (p : Past). p.bytes) (rw says.1 at sent.sent) in
+      rw text (subst (λ bytes. (first_bad_line c bytes true ≡ None) × IsTraceText c columns bytes true sent.text) read
+      (says.2.first, says.2.is_text))
+  batched c columns (Err fault) origin sink_now ran = tt
+
+  pub not_batched : (c : Circuit) (columns : Columns) (r : Result (Unit {0}) SimFault) (sink sink_now : Past)
+      → Ran (BatchSays c columns r) (unused (lent input)) now sink sink_now
+      → IfErr r (λ fault. IsBadStimulus c input fault ⊎ (sim_outcome fault ≡ out_of_memory))
+  not_batched c columns (Ok done) sink sink_now ran = tt
+  not_batched c columns (Err (sim_faults.BadStimulus line)) sink sink_now ran =
+      let says = ran.says.says.0 in
+      inl (line, refl, lents.bad_line input now given c ran.bytes ran.ending line says.0 ran.came says.1)
+  not_batched c columns (Err (sim_faults.BadWitness line)) sink sink_now ran = absurd ran.says.says.0
+  not_batched c columns (Err sim_faults.OutOfMemory) sink sink_now ran = inr refl
+  not_batched c columns (Err sim_faults.ReadFailed) sink sink_now ran = inr refl
+  not_batched c columns (Err sim_faults.WriteFailed) sink sink_now ran = inr refl
+
 -- a fault that blames no line tells that memory was refused
-told : (fault : SimFault) → WantsMemory fault → sim_outcome fault ≡ out_of_memory
+pub told : (fault : SimFault) → WantsMemory fault → sim_outcome fault ≡ out_of_memory
 told fault (inl is) = ap sim_outcome is
 told fault (inr (inl is)) = ap sim_outcome is
 told fault (inr (inr is)) = ap sim_outcome is
-
-module _ (input : List ℕ) (now : Past) (given : HasGiven now) where
-  pub whole : (Holds : List ℕ → Type 0) → HasRead Holds (unused (lent input)) now → Holds input
-  whole Holds read = subst Holds (lents.all_read input now given read.bytes read.gave) read.holds
-
-  -- nothing was made of it: it is refused, or memory was
-  pub not_read : (IsRefused : ToolFault → List ℕ → Type 0) (fault : ToolFault)
-      → NotRead IsRefused fault (unused (lent input)) now
-      → IsRefused fault input ⊎ (fault_outcome fault ≡ out_of_memory)
-  not_read IsRefused fault (inl (errors.Source, is, some)) = inr (ap fault_outcome is)
-  not_read IsRefused fault (inl (errors.OutOfMemory, is, some)) = inr (ap fault_outcome is)
-  not_read IsRefused fault (inr read) = inl (whole (IsRefused fault) read)
-
-  pub not_batched : (c : Circuit) (columns : Columns) (fault : SimFault) (sink sink_now : Past)
-      → NotBatched c columns fault (unused (lent input)) now sink sink_now
-      → IsBadStimulus c input fault ⊎ (sim_outcome fault ≡ out_of_memory)
-  not_batched c columns fault sink sink_now said =
-      go (lents.not_batched input now given c columns fault sink sink_now said)
-    where
-      go : IsBadStimulus c input fault ⊎ WantsMemory fault
-          → IsBadStimulus c input fault ⊎ (sim_outcome fault ≡ out_of_memory)
-      go (inl bad) = inl bad
-      go (inr memory) = inr (told fault memory)
 
 -- what is answered once it is known whether there is a text
 pub answered : {V : Type 0} (items : V → List ℕ) (CanDo : Type 0) (IsText : List ℕ → Type 0)

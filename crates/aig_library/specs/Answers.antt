@@ -3,18 +3,20 @@ use Rattle.std.specs.Prelude.{◌≡◌, ◌≤◌, ◌⊎◌, ℕ, List}
 use Rattle.aig_circuit.specs.declared.circuit.Circuit.{Circuit}
 use Rattle.aig_command.specs.Aiger.{largest_index}
 use Rattle.aig_command.specs.declared.request.Sim.{Sim}
+use Rattle.aig_step.specs.declared.fault.SimFault.{SimFault}
 use Rattle.aig_witness.specs.declared.verdict.Verdict.{Verdict}
 use Rattle.aig_witness.specs.declared.verdict.Verdict.TheVariants.{Confirmed, NotConfirmed}
 use Rattle.aig_dump.specs.InMemory.{IsBadStimulus, IsBadWitness}
 use Rattle.aig_engines.specs.declared.fault.ToolFault.{ToolFault}
+use Rattle.aig_engines.specs.declared.fault.ToolFault.TheVariants as faults
 use Rattle.aig_engines.specs.File.{IsFileOf}
 use Rattle.aig_engines.specs.Reading.{IsUnreadable}
 use Rattle.aig_engines.specs.WitnessDump.{IsWitnessDumpText}
-use Rattle.aig_engines.specs.WitnessOutcome.{IsWitnessAnswer, OfSteps}
+use Rattle.aig_engines.specs.WitnessOutcome.{IsWitnessAnswer}
 use Rattle.aig_library.specs.Asked.{simulation}
+use Rattle.aig_library.specs.Numbers as numbers
 use Rattle.aig_library.specs.Outcome.{IsPlaced, IsPlacedAs, ending, fault_outcome, out_of_memory}
 use Rattle.aig_library.specs.declared.outcome.Outcome.{Outcome}
-use Rattle.aig_library.specs.declared.outcome.TheConstants.{BAD_OPTIONS, DONE, NOT_CONFIRMED}
 
 -- there is a text, and it is put into the output where there is room for it
 pub record Made (IsText : List ℕ → Type 0) (before after : List ℕ) (outcome : Outcome) : Type 0 where
@@ -36,30 +38,34 @@ NotMade IsFault outcome = Refused IsFault outcome ⊎ (outcome ≡ out_of_memory
 -- a text the output is as it was.
 abbrev pub Answers : Type 0 → (List ℕ → Type 0) → (ToolFault → Type 0) → (before after : List ℕ) → Outcome → Type 0
 Answers CanDo IsText IsFault before after outcome =
-    ((¬ CanDo) × (after ≡ before) × (outcome ≡ ending BAD_OPTIONS 0 0))
+    ((¬ CanDo) × (after ≡ before) × (outcome ≡ ending numbers.bad_options 0 0))
     ⊎ (CanDo × (Made IsText before after outcome ⊎ ((after ≡ before) × NotMade IsFault outcome)))
+
+-- a fault of the steps, of which this holds
+abbrev pub StepsFault : (SimFault → Type 0) → ToolFault → Type 0
+StepsFault Holds fault = (sim : SimFault) × (fault ≡ faults.Sim sim) × Holds sim
 
 -- The model has no trace of the stimulus for this reason: it is no file of a circuit, or a line of the stimulus is bad.
 abbrev pub IsSimulationRefused : Sim → (model stimulus : List ℕ) → ToolFault → Type 0
 IsSimulationRefused request model stimulus fault =
     IsUnreadable request.max_var fault model
-    ⊎ ((found : Circuit) × IsFileOf model request.max_var found × OfSteps (IsBadStimulus found stimulus) fault)
+    ⊎ ((found : Circuit) × IsFileOf model request.max_var found × StepsFault (IsBadStimulus found stimulus) fault)
 
 -- A witness file has no verdict for this reason.
 abbrev pub IsWitnessRefused : Sim → (model witness : List ℕ) → ToolFault → Type 0
 IsWitnessRefused request model witness fault =
     IsUnreadable request.max_var fault model
-    ⊎ ((found : Circuit) × IsFileOf model request.max_var found × OfSteps (IsBadWitness found witness) fault)
+    ⊎ ((found : Circuit) × IsFileOf model request.max_var found × StepsFault (IsBadWitness found witness) fault)
 
 -- the outcome of a verdict, with a text of so many bytes
 abbrev pub verdict_outcome : Verdict → (length : ℕ) → Outcome
-verdict_outcome (Confirmed step) length = ending DONE step length
-verdict_outcome NotConfirmed length = ending NOT_CONFIRMED 0 length
+verdict_outcome (Confirmed step) length = ending numbers.done step length
+verdict_outcome NotConfirmed length = ending numbers.not_confirmed 0 length
 
 -- What is answered where a witness file is judged.
 abbrev pub WitnessAnswers : (max_var : ℕ) (model witness : List ℕ) → Outcome → Type 0
 WitnessAnswers max_var model witness outcome =
-    ((¬ (max_var ≤ largest_index)) × (outcome ≡ ending BAD_OPTIONS 0 0))
+    ((¬ (max_var ≤ largest_index)) × (outcome ≡ ending numbers.bad_options 0 0))
     ⊎ ((max_var ≤ largest_index)
     × (((verdict : Verdict) × IsWitnessAnswer (simulation 0 max_var) model witness verdict
     × (outcome ≡ verdict_outcome verdict 0))
@@ -76,7 +82,7 @@ pub record Dumped (request : Sim) (model witness before after : List ℕ) (outco
 -- a dump the output is as it was.
 abbrev pub DumpAnswers : (max_var : ℕ) (model witness before after : List ℕ) → Outcome → Type 0
 DumpAnswers max_var model witness before after outcome =
-    ((¬ (max_var ≤ largest_index)) × (after ≡ before) × (outcome ≡ ending BAD_OPTIONS 0 0))
+    ((¬ (max_var ≤ largest_index)) × (after ≡ before) × (outcome ≡ ending numbers.bad_options 0 0))
     ⊎ ((max_var ≤ largest_index)
     × (Dumped (simulation 0 max_var) model witness before after outcome
     ⊎ ((after ≡ before) × NotMade (IsWitnessRefused (simulation 0 max_var) model witness) outcome)))

@@ -5,7 +5,7 @@ use Rattle.aig_command.specs.Answer.{HasFrames, IsDumpAlone, IsKeptAlone}
 use Rattle.aig_command.specs.declared.request.Sim.{Sim}
 use Rattle.aig_command.specs.declared.request.ToAig.{ToAig}
 use Rattle.aig_command.specs.declared.request.Unroll.{Unroll}
-use Rattle.aig_library.specs.declared.asked.TheConstants.{ASCII, KEEP_MAP, PROPERTIES, STRIP, UNDO_MAP, VCD}
+use Rattle.aig_library.specs.Numbers as numbers
 
 -- the option is among the options
 abbrev pub has : ℕ → ℕ → Bool
@@ -17,10 +17,10 @@ OnlyHas options known = bit_or options known ≡ known
 
 abbrev pub conversion : (options max_var : ℕ) → ToAig
 conversion options max_var = record {
-  ascii = has options ASCII;
-  strip = has options STRIP;
-  keep_map = has options KEEP_MAP;
-  undo_map = has options UNDO_MAP;
+  ascii = has options numbers.ascii;
+  strip = has options numbers.strip;
+  keep_map = has options numbers.keep_map;
+  undo_map = has options numbers.undo_map;
   max_var = max_var;
   source = None;
   destination = None;
@@ -29,7 +29,7 @@ conversion options max_var = record {
 abbrev pub unrolling : (options frames max_var : ℕ) → Unroll
 unrolling options frames max_var = record {
   frames = frames;
-  ascii = has options ASCII;
+  ascii = has options numbers.ascii;
   max_var = max_var;
   source = None;
   destination = None;
@@ -38,9 +38,9 @@ unrolling options frames max_var = record {
 abbrev pub simulation : (options max_var : ℕ) → Sim
 simulation options max_var = record {
   batch = true;
-  properties = has options PROPERTIES;
+  properties = has options numbers.properties;
   witness = false;
-  vcd = has options VCD;
+  vcd = has options numbers.vcd;
   max_var = max_var;
   model = None;
   stimulus = None;
@@ -50,13 +50,14 @@ simulation options max_var = record {
 -- binary and alone, there are as many frames as can be unrolled, and a dump is asked for without the properties.
 abbrev pub CanConvert : (options max_var : ℕ) → Type 0
 CanConvert options max_var =
-    OnlyHas options (ASCII + STRIP + KEEP_MAP + UNDO_MAP) × (max_var ≤ largest_index)
+    OnlyHas options (numbers.ascii + numbers.strip + numbers.keep_map + numbers.undo_map) × (max_var ≤ largest_index)
     × IsKeptAlone (conversion options max_var)
 
 abbrev pub CanUnroll : (options frames max_var : ℕ) → Type 0
 CanUnroll options frames max_var =
-    OnlyHas options ASCII × (max_var ≤ largest_index) × HasFrames (unrolling options frames max_var)
+    OnlyHas options numbers.ascii × (max_var ≤ largest_index) × HasFrames (unrolling options frames max_var)
 
 abbrev pub CanSimulate : (options max_var : ℕ) → Type 0
 CanSimulate options max_var =
-    OnlyHas options (PROPERTIES + VCD) × (max_var ≤ largest_index) × IsDumpAlone (simulation options max_var)
+    OnlyHas options (numbers.properties + numbers.vcd) × (max_var ≤ largest_index)
+    × IsDumpAlone (simulation options max_var)

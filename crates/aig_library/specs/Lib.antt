@@ -1,4 +1,6 @@
+pub mod Numbers
 pub mod Outcome
 pub mod Message
+pub mod Laws
 pub mod Asked
 pub mod Answers

@@ -13,41 +13,40 @@ use Rattle.aig_unroll.specs.declared.fault.UnrollFault.{UnrollFault}
 use Rattle.aig_unroll.specs.declared.fault.UnrollFault.TheVariants as unroll_faults
 use Rattle.aig_engines.specs.declared.fault.ToolFault.{ToolFault}
 use Rattle.aig_engines.specs.declared.fault.ToolFault.TheVariants as faults
-use Rattle.aig_library.specs.declared.kind.TheConstants as numbers
+use Rattle.aig_library.specs.Numbers as numbers
 use Rattle.aig_library.specs.declared.outcome.Outcome.{Outcome}
-use Rattle.aig_library.specs.declared.outcome.TheConstants.{DONE, GATE, LINE, MAP_LINE, OUT_OF_MEMORY, REFUSED}
-use Rattle.aig_library.specs.declared.outcome.TheConstants.{TOO_SHORT, WHOLE}
 
 -- a call ended so, without a fault
 abbrev pub ending : (status number length : ℕ) → Outcome
 ending status number length =
-    record { status = status; kind = 0; place = WHOLE; subject = 0; number = number; length = length }
+    record { status = status; kind = 0; place = numbers.whole; subject = 0; number = number; length = length }
 
 -- memory was refused
 abbrev pub out_of_memory : Outcome
-out_of_memory = ending OUT_OF_MEMORY 0 0
+out_of_memory = ending numbers.out_of_memory 0 0
 
 -- a fault of this kind, at this place, which names this variable or literal
 abbrev pub refusal : (kind place number subject : ℕ) → Outcome
 refusal kind place number subject =
-    record { status = REFUSED; kind = kind; place = place; subject = subject; number = number; length = 0 }
+    record { status = numbers.refused; kind = kind; place = place; subject = subject; number = number; length = 0 }
 
+-- what is wrong, by the number of the header
 abbrev pub kind_of : ReadKind → ℕ
-kind_of kinds.NotAiger = numbers.NOT_AIGER
-kind_of kinds.BadHeader = numbers.BAD_HEADER
-kind_of kinds.TooLarge = numbers.TOO_LARGE
-kind_of kinds.BadLine = numbers.BAD_LINE
-kind_of kinds.NotVariable = numbers.NOT_VARIABLE
-kind_of kinds.LiteralRange = numbers.LITERAL_RANGE
-kind_of kinds.BadReset = numbers.BAD_RESET
-kind_of kinds.Truncated = numbers.TRUNCATED
-kind_of kinds.BadDelta = numbers.BAD_DELTA
-kind_of kinds.BadSymbol = numbers.BAD_SYMBOL
-kind_of kinds.SymbolRange = numbers.SYMBOL_RANGE
-kind_of kinds.SymbolTwice = numbers.SYMBOL_TWICE
-kind_of (kinds.Redefined variable) = numbers.REDEFINED
-kind_of (kinds.Undefined literal) = numbers.UNDEFINED
-kind_of (kinds.Cyclic literal) = numbers.CYCLIC
+kind_of kinds.NotAiger = 1
+kind_of kinds.BadHeader = 2
+kind_of kinds.TooLarge = 3
+kind_of kinds.BadLine = 4
+kind_of kinds.NotVariable = 5
+kind_of kinds.LiteralRange = 6
+kind_of kinds.BadReset = 7
+kind_of kinds.Truncated = 8
+kind_of kinds.BadDelta = 9
+kind_of kinds.BadSymbol = 10
+kind_of kinds.SymbolRange = 11
+kind_of kinds.SymbolTwice = 12
+kind_of (kinds.Redefined variable) = 13
+kind_of (kinds.Undefined literal) = 14
+kind_of (kinds.Cyclic literal) = 15
 kind_of kinds.OutOfMemory = 0
 
 abbrev pub subject_of : ReadKind → ℕ
@@ -57,9 +56,9 @@ subject_of (kinds.Cyclic literal) = literal
 subject_of _ = 0
 
 abbrev pub place_of : Place → ℕ
-place_of places.Whole = WHOLE
-place_of (places.Line number) = LINE
-place_of (places.Gate number) = GATE
+place_of places.Whole = numbers.whole
+place_of (places.Line number) = numbers.line
+place_of (places.Gate number) = numbers.gate
 
 abbrev pub place_number : Place → ℕ
 place_number places.Whole = 0
@@ -75,22 +74,22 @@ abbrev pub read_outcome : ReadFault → Outcome
 read_outcome fault = outcome_at fault.place fault.kind
 
 abbrev pub map_outcome : MapFault → Outcome
-map_outcome map_faults.NotOrdered = refusal numbers.NOT_ORDERED WHOLE 0 0
-map_outcome map_faults.Missing = refusal numbers.NO_MAP WHOLE 0 0
-map_outcome (map_faults.Malformed line) = refusal numbers.BAD_MAP_LINE MAP_LINE line 0
-map_outcome map_faults.Mismatch = refusal numbers.MAP_MISMATCH WHOLE 0 0
-map_outcome map_faults.Forged = refusal numbers.MAP_FORGED WHOLE 0 0
+map_outcome map_faults.NotOrdered = refusal 16 numbers.whole 0 0
+map_outcome map_faults.Missing = refusal 17 numbers.whole 0 0
+map_outcome (map_faults.Malformed line) = refusal 18 numbers.map_line line 0
+map_outcome map_faults.Mismatch = refusal 19 numbers.whole 0 0
+map_outcome map_faults.Forged = refusal 20 numbers.whole 0 0
 map_outcome map_faults.OutOfMemory = out_of_memory
 
 abbrev pub unroll_outcome : UnrollFault → Outcome
-unroll_outcome unroll_faults.Unsupported = refusal numbers.NOT_UNROLLABLE WHOLE 0 0
-unroll_outcome unroll_faults.TooLarge = refusal numbers.TOO_LARGE_UNROLLED WHOLE 0 0
+unroll_outcome unroll_faults.Unsupported = refusal 21 numbers.whole 0 0
+unroll_outcome unroll_faults.TooLarge = refusal 22 numbers.whole 0 0
 unroll_outcome unroll_faults.OutOfMemory = out_of_memory
 
 -- a source in memory does not fail, and a sink in memory fails where memory is refused
 abbrev pub sim_outcome : SimFault → Outcome
-sim_outcome (sim_faults.BadStimulus line) = refusal numbers.BAD_STIMULUS LINE line 0
-sim_outcome (sim_faults.BadWitness line) = refusal numbers.BAD_WITNESS LINE line 0
+sim_outcome (sim_faults.BadStimulus line) = refusal 23 numbers.line line 0
+sim_outcome (sim_faults.BadWitness line) = refusal 24 numbers.line line 0
 sim_outcome sim_faults.OutOfMemory = out_of_memory
 sim_outcome sim_faults.ReadFailed = out_of_memory
 sim_outcome sim_faults.WriteFailed = out_of_memory
@@ -110,7 +109,7 @@ fault_outcome faults.OutOfMemory = out_of_memory
 abbrev pub IsPlacedAs : (ℕ → Outcome) → (text before after : List ℕ) → Outcome → Type 0
 IsPlacedAs done text before after outcome =
     ((after ≡ text ++ drop (length text) before) × (outcome ≡ done (length text)))
-    ⊎ ((length before < length text) × (after ≡ before) × (outcome ≡ ending TOO_SHORT 0 (length text)))
+    ⊎ ((length before < length text) × (after ≡ before) × (outcome ≡ ending numbers.too_short 0 (length text)))
 
 abbrev pub IsPlaced : (text before after : List ℕ) → Outcome → Type 0
-IsPlaced = IsPlacedAs (ending DONE 0)
+IsPlaced = IsPlacedAs (ending numbers.done 0)

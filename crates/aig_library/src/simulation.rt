@@ -34,7 +34,6 @@ pub(crate) fn circuit_of(alloc: Global, max_var: u32, model: &[u8]) -> Result<Ch
 }
 
 /// The trace text of a stimulus.
-#[tactic(auto, using(crate::proofs::Lents::not_batched))]
 fn trace(
     alloc: Global,
     columns: Columns,

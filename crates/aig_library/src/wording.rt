@@ -1,101 +1,110 @@
-//! The words for an outcome.
-ghost use Rattle.std.specs.Prelude.{◌≡◌, ◌⊎◌, IfOk, string_bytes};
-ghost use Rattle.aig_library.specs.Message.{IsWritten, fault_told, kind_told, message_text, place_told};
+//! The words for an outcome. They need no memory: a block has room for all of them.
+ghost use Rattle.std.specs.Prelude.{◌≡◌, ◌≤◌, ◌+◌, ◌++◌, [], length};
+ghost use Rattle.aig_io.specs.declared.block.TheConstants.{ROOM};
+ghost use Rattle.aig_library.specs.Message.{IsWritten, around, kind_words, message_text, place_words};
 
 use crate::kind;
-use crate::outcome::{GATE, LINE, OUT_OF_MEMORY, Outcome, REFUSED};
-use aig_core::{Lit, Var};
-use aig_engines::ToolFault;
-use aig_order::MapFault;
-use aig_step::SimFault;
-use aig_text::{Place, ReadFault, ReadKind};
-use aig_unroll::UnrollFault;
-use std::alloc::{AllocError, Global};
+use crate::outcome::{GATE, LINE, MAP_LINE, OUT_OF_MEMORY, Outcome, REFUSED};
+use aig_core::Block;
+use itoa::Buffer;
+use std::fmt::Write;
 
-/// The place that these numbers tell.
-fn place_told(place: u32, number: u64) -> Place
-    ensures { result ≡ place_told place number }
+/// Puts a text, for which there is room.
+fn put(words: &mut Block, text: &str)
+    requires { length words.old + length text.now ≤ ROOM }
+    ensures value { words.new ≡ words.old ++ text.now }
+    ensures short { length words.new ≤ length words.old + length text.now }
+{
+    let _fits = words.write_str(text);
+}
+
+/// Puts a number between two texts, for which there is room.
+fn put_around(words: &mut Block, before: &str, number: u64, behind: &str)
+    requires { length words.old + length before.now + length behind.now + 20 ≤ ROOM }
+    ensures value { words.new ≡ words.old ++ around before.now number behind.now }
+    ensures short { length words.new ≤ length words.old + length before.now + length behind.now + 20 }
+{
+    let mut digits = Buffer::new();
+    put(words, before);
+    put(words, digits.format(number));
+    put(words, behind);
+}
+
+/// Puts where an input is wrong.
+fn put_place(words: &mut Block, place: u32, number: u64)
+    requires { words.old ≡ [] }
+    ensures value { words.new ≡ place_words place number }
+    ensures short { length words.new ≤ 31 }
 {
     match place {
-        LINE => Place::Line(number),
-        GATE => Place::Gate(number),
-        _ => Place::Whole,
+        LINE => put_around(words, "line ", number, ": "),
+        GATE => put_around(words, "gate ", number, ": "),
+        MAP_LINE => put_around(words, "map line ", number, ": "),
+        _ => {}
     }
 }
 
-/// What is wrong with a text, by these numbers.
-fn kind_told(kind: u32, subject: u32) -> Option<ReadKind>
-    ensures { result ≡ kind_told kind subject }
+/// Puts what is wrong there.
+fn put_kind(words: &mut Block, kind: u32, subject: u64)
+    requires { length words.old ≤ 31 }
+    ensures value { words.new ≡ words.old ++ kind_words kind subject }
+    ensures short { length words.new ≤ 80 }
 {
-    Some(match kind {
-        kind::NOT_AIGER => ReadKind::NotAiger,
-        kind::BAD_HEADER => ReadKind::BadHeader,
-        kind::TOO_LARGE => ReadKind::TooLarge,
-        kind::BAD_LINE => ReadKind::BadLine,
-        kind::NOT_VARIABLE => ReadKind::NotVariable,
-        kind::LITERAL_RANGE => ReadKind::LiteralRange,
-        kind::BAD_RESET => ReadKind::BadReset,
-        kind::TRUNCATED => ReadKind::Truncated,
-        kind::BAD_DELTA => ReadKind::BadDelta,
-        kind::BAD_SYMBOL => ReadKind::BadSymbol,
-        kind::SYMBOL_RANGE => ReadKind::SymbolRange,
-        kind::SYMBOL_TWICE => ReadKind::SymbolTwice,
-        kind::REDEFINED => ReadKind::Redefined(Var(subject)),
-        kind::UNDEFINED => ReadKind::Undefined(Lit(subject)),
-        kind::CYCLIC => ReadKind::Cyclic(Lit(subject)),
-        _ => return None,
-    })
+    match kind {
+        kind::NOT_AIGER => put(words, "not an AIGER file"),
+        kind::BAD_HEADER => put(words, "bad header"),
+        kind::TOO_LARGE => put(words, "number above the limit"),
+        kind::BAD_LINE | kind::BAD_MAP_LINE => put(words, "bad line"),
+        kind::NOT_VARIABLE => put(words, "not a variable"),
+        kind::LITERAL_RANGE => put(words, "literal out of range"),
+        kind::BAD_RESET => put(words, "bad reset"),
+        kind::TRUNCATED => put(words, "file ends too early"),
+        kind::BAD_DELTA => put(words, "bad delta"),
+        kind::BAD_SYMBOL => put(words, "bad symbol line"),
+        kind::SYMBOL_RANGE => put(words, "symbol position out of range"),
+        kind::SYMBOL_TWICE => put(words, "symbol given twice"),
+        kind::REDEFINED => put_around(words, "variable ", subject, " defined twice"),
+        kind::UNDEFINED => put_around(words, "literal ", subject, " not defined"),
+        kind::CYCLIC => put_around(words, "gate ", subject, " depends on a cycle"),
+        kind::NOT_ORDERED => put(words, "not in binary order"),
+        kind::NO_MAP => put(words, "no map"),
+        kind::MAP_MISMATCH => put(words, "map counts differ"),
+        kind::MAP_FORGED => put(words, "map does not belong to this circuit"),
+        kind::NOT_UNROLLABLE => put(words, "justice or fairness cannot be unrolled"),
+        kind::TOO_LARGE_UNROLLED => put(words, "too large to unroll"),
+        kind::BAD_STIMULUS => put(words, "bad stimulus line"),
+        kind::BAD_WITNESS => put(words, "bad witness line"),
+        _ => {}
+    }
 }
 
-/// The fault that an outcome tells.
-fn fault_told(outcome: &Outcome) -> Option<ToolFault>
-    ensures { result ≡ fault_told outcome.now }
+/// Puts the words for an outcome.
+fn put_words(words: &mut Block, outcome: &Outcome)
+    requires { words.old ≡ [] }
+    ensures value { words.new ≡ message_text outcome.now }
+    ensures short { length words.new ≤ 80 }
 {
-    match outcome.kind {
-        kind::NOT_ORDERED => Some(ToolFault::Map(MapFault::NotOrdered)),
-        kind::NO_MAP => Some(ToolFault::Map(MapFault::Missing)),
-        kind::BAD_MAP_LINE => Some(ToolFault::Map(MapFault::Malformed(outcome.number))),
-        kind::MAP_MISMATCH => Some(ToolFault::Map(MapFault::Mismatch)),
-        kind::MAP_FORGED => Some(ToolFault::Map(MapFault::Forged)),
-        kind::NOT_UNROLLABLE => Some(ToolFault::Unroll(UnrollFault::Unsupported)),
-        kind::TOO_LARGE_UNROLLED => Some(ToolFault::Unroll(UnrollFault::TooLarge)),
-        kind::BAD_STIMULUS => Some(ToolFault::Sim(SimFault::BadStimulus(outcome.number))),
-        kind::BAD_WITNESS => Some(ToolFault::Sim(SimFault::BadWitness(outcome.number))),
-        _ => {
-            let kind = kind_told(outcome.kind, outcome.subject)?;
-            let place = place_told(outcome.place, outcome.number);
-            Some(ToolFault::Read(ReadFault { place, kind }))
+    match outcome.status {
+        OUT_OF_MEMORY => put(words, "out of memory"),
+        REFUSED => {
+            put_place(words, outcome.place, outcome.number);
+            put_kind(words, outcome.kind, u64::from(outcome.subject));
         }
+        _ => {}
     }
-}
-
-/// The words for an outcome.
-fn words(alloc: Global, outcome: &Outcome) -> Result<String, AllocError>
-    ensures { IfOk result (λ text. string_bytes text ≡ message_text outcome.now) }
-{
-    if outcome.status == OUT_OF_MEMORY {
-        return ToolFault::OutOfMemory.to_string(alloc);
-    }
-    if outcome.status == REFUSED {
-        if let Some(fault) = fault_told(outcome) {
-            return fault.to_string(alloc);
-        }
-    }
-    Ok(String::new(alloc))
 }
 
 /// Puts the words for an outcome at the front of the output, where there is room for them, and answers how many bytes
-/// they have. There are none, and the answer is 0, where the status tells of no fault, or memory is refused.
-pub fn message(alloc: Global, outcome: &Outcome, output: &mut [u8]) -> usize
-    ensures { IsWritten (message_text outcome.now) output.old output.new result
-        ⊎ ((result ≡ 0) × (output.new ≡ output.old)) }
+/// they have. There are none, and the answer is 0, where the status tells of no fault.
+pub fn message(outcome: &Outcome, output: &mut [u8]) -> usize
+    ensures written { IsWritten (message_text outcome.now) output.old output.new result }
+    ensures short { result ≤ 80 }
 {
-    let Ok(text) = words(alloc, outcome) else {
-        return 0;
-    };
-    let length = text.len();
-    if length <= output.len() {
-        output[..length].copy_from_slice(text.as_bytes());
+    let mut words = Block::new();
+    put_words(&mut words, outcome);
+    let text = words.as_slice();
+    if text.len() <= output.len() {
+        output[..text.len()].copy_from_slice(text);
     }
-    length
+    text.len()
 }

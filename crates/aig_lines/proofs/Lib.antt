@@ -1,4 +1,5 @@
-pub mod LineBytes
+pub mod Cutting
+pub mod Pieces
+pub mod Taken
 pub mod Feeds
 pub mod Tells
-pub mod Sources

@@ -1,28 +1,18 @@
--- To feed bytes is to tell their lines.
-use Rattle.std.proofs.Common.{◌≡◌, ◌≢◌, ◌+◌, ◌||◌, ℕ, suc, List, [], ◌∷◌, ◌++◌, Bool, true, false, not, filter, length}
-use Rattle.std.proofs.Common.{refl, sym, ap, subst, ◌∙◌, append_assoc, append-nil, add-one, arith}
-use Rattle.std.proofs.Common.{inl, inr, if◌then◌else◌}
-use Rattle.std.proofs.lemmas.Bool.{ne_eqb}
+-- To feed bytes is to tell their lines, from the first byte of a source on.
+use Rattle.std.proofs.Common.{◌≡◌, ◌≢◌, ◌+◌, ◌||◌, ◌∷◌, ◌++◌, ◌∙◌, if◌then◌else◌, ◌<◌, ℕ, suc, List, [], Bool, true}
+use Rattle.std.proofs.Common.{false, not, filter, length, refl, sym, ap, subst, append_assoc, append-nil, add-one}
+use Rattle.std.proofs.Common.{arith, inl, inr, Ok, take, ne_eqb}
 use Rattle.std.proofs.lemmas.Bool.Decides.{eqb_tells}
-use Rattle.aig_rows.specs.Lines.{Line, begun_by, line, lines_of}
-use Rattle.aig_lines.specs.Fed.{Feeder, HasTold, IsFed}
-use Rattle.aig_lines.specs.Feeding.{Feeding, Told, Turn, ended_if, fed, fed_byte, feeding, heard, line_ended}
-use Rattle.aig_lines.specs.Feeding.{outcome, told, told_to}
-use Rattle.aig_lines.specs.Texts.{HasNoLineFeed, judged_lines, without_return}
-use Rattle.aig_lines.proofs.Feeds.{at_byte, at_line_feed, fed_refused}
-
--- the lines of bytes that begin one
-pub lines_end : (begun rest : List ℕ) → HasNoLineFeed begun
-    → lines_of (begun ++ 10 ∷ rest) ≡ line begun true ∷ lines_of rest
-unfolding lines_of
-lines_end [] rest none = refl
-lines_end (b ∷ bs) rest none = rw (ne_eqb b 10 none.0) (ap (begun_by b) (lines_end bs rest none.1))
-
--- bytes that no line feed ends
-pub last_line : (b : ℕ) (bs : List ℕ) → HasNoLineFeed (b ∷ bs) → lines_of (b ∷ bs) ≡ line (b ∷ bs) false ∷ []
-unfolding lines_of
-last_line b [] none = rw (ne_eqb b 10 none.0) refl
-last_line b (c ∷ bs) none = rw (ne_eqb b 10 none.0) (ap (begun_by b) (last_line c bs none.1))
+use Rattle.aig_io.specs.declared.device.DeviceFault.{DeviceFault}
+use Rattle.aig_io.specs.Devices.{Past, after_fetch, gave, took}
+use Rattle.aig_io.proofs.Took.{gave_next, took_none, took_twice}
+use Rattle.aig_lines.specs.Lines.{HasNoLineFeed, Line, lines_of}
+use Rattle.aig_lines.specs.Fed.{Feeder, HasTold, IsFed, FedSource, IsUnfed, ToldSource}
+use Rattle.aig_lines.specs.Feeding.{Feeding, Told, Turn, ended_if, fed, fed_byte, feeding, heard, line_ended, outcome}
+use Rattle.aig_lines.specs.Feeding.{told, told_to, ended}
+use Rattle.aig_lines.specs.Texts.{judged_lines, without_return}
+use Rattle.aig_lines.proofs.Pieces.{ended_piece, last_piece}
+use Rattle.aig_lines.proofs.Feeds.{at_byte, at_line_feed, fed_refused, fed_nothing, flipped}
 
 -- a line with one more byte
 pub one_more : (begun : List ℕ) (b : ℕ) → HasNoLineFeed begun → b ≢ 10 → HasNoLineFeed (begun ++ b ∷ [])
@@ -71,28 +61,28 @@ module _ {S : Type 0} (step : S → List ℕ → Turn S) where
   last_turn s false number = refl
 
   -- no more bytes came
-  at_end : (over : Bool) (limit number : ℕ) (s : S) (begun : List ℕ) → HasNoLineFeed begun
+  told_at_end : (over : Bool) (limit number : ℕ) (s : S) (begun : List ℕ) → HasNoLineFeed begun
       → outcome (ended_if step over
       (record { limit = limit; state = s; begun = begun; number = number; refused = false }))
       ≡ told step limit s number (judged_lines begun over)
   unfolding lines_of
-  at_end true limit number s [] none = refl
-  at_end false limit number s [] none = refl
-  at_end true limit number s (b ∷ bs) none =
+  told_at_end true limit number s [] none = refl
+  told_at_end false limit number s [] none = refl
+  told_at_end true limit number s (b ∷ bs) none =
       let some : length (b ∷ bs) ≢ 0 = omega arith in
       let f : Feeding S = record { limit = limit; state = s; begun = b ∷ bs; number = number; refused = false } in
       ap (λ (t : Bool). outcome (if t then f else line_ended step f (b ∷ bs))) (ne_eqb (length (b ∷ bs)) 0 some)
       ∙ last_turn (heard step limit s (b ∷ bs)).state (heard step limit s (b ∷ bs)).goes_on number
-      ∙ ap (λ (ls : List Line). told step limit s number (judged true ls)) (sym (last_line b bs none))
-  at_end false limit number s (b ∷ bs) none =
-      ap (λ (ls : List Line). told step limit s number (judged false ls)) (sym (last_line b bs none))
+      ∙ ap (λ (ls : List Line). told step limit s number (judged true ls)) (sym (last_piece b bs none))
+  told_at_end false limit number s (b ∷ bs) none =
+      ap (λ (ls : List Line). told step limit s number (judged false ls)) (sym (last_piece b bs none))
 
   told_is : (bytes : List ℕ) (over : Bool) (f : Feeding S) → f.refused ≡ false → HasNoLineFeed f.begun
       → outcome (ended_if step over (fed step f bytes))
       ≡ told step f.limit f.state f.number (judged_lines (f.begun ++ bytes) over)
   told_is [] over f going none =
       ap (λ (b : Bool). outcome (ended_if step over (record f { refused = b }))) going
-      ∙ at_end over f.limit f.number f.state f.begun none
+      ∙ told_at_end over f.limit f.number f.state f.begun none
       ∙ ap (λ (t : List ℕ). told step f.limit f.state f.number (judged_lines t over)) (sym (append-nil f.begun))
   told_is (b ∷ bs) over f going none =
       let close : Feeding S → Told S = λ h. outcome (ended_if step over (fed step h bs)) in
@@ -103,7 +93,7 @@ module _ {S : Type 0} (step : S → List ℕ → Turn S) where
             ap (λ (c : ℕ). close (fed_byte step f c)) feed.1
             ∙ ap close (at_line_feed step f going)
             ∙ behind_turn over f.limit f.number t.state t.goes_on bs (told_is bs over)
-            ∙ ap lines (sym (lines_end f.begun bs none))
+            ∙ ap lines (sym (ended_piece f.begun bs none))
             ∙ ap (λ (c : ℕ). lines (lines_of (f.begun ++ c ∷ bs))) (sym feed.1))
         | inr other ↦
             (ap close (at_byte step f b going other.1)
@@ -124,3 +114,61 @@ module _ {S : Type 0} (step : S → List ℕ → Turn S) where
   has_told IsAt f t over limit s bytes stands =
       subst (HasTold IsAt f t) (bytes_told over limit s bytes)
       (record { taker = stands.taker; number = stands.number; refused = stands.refused })
+
+-- What came of a source, from the first byte on.
+
+-- it answered that it is at its end
+abbrev pub at_end : Past → Past
+at_end past = record past { ends = past.ends + 1 }
+
+module _ {T S : Type 0} (step : S → List ℕ → Turn S) (IsAt : T → S → Type 0) (limit : ℕ) (s : S) where
+  -- bytes that came were fed
+  pub record Reached (source now : Past) (f : Feeder) (t : T) : Type 0 where
+    pub bytes : List ℕ
+    pub past : now ≡ took bytes source
+    pub stands : IsFed IsAt f t (fed step (feeding limit s) bytes)
+
+  pub reached_none : (f : Feeder) (t : T) (source : Past) → IsUnfed f → f.limit ≡ limit → IsAt t s
+      → Reached source source f t
+  reached_none f t source unfed as_long at = record {
+    bytes = [];
+    past = took_none source;
+    stands = subst (λ (n : ℕ). IsFed IsAt f t (feeding n s)) as_long (fed_nothing IsAt f t s unfed at);
+  }
+
+  -- more bytes came
+  pub reached_more : (f g : Feeder) (t u : T) (source now later : Past) (into chunk : List ℕ) (n : ℕ)
+      → Reached source now f t → later ≡ after_fetch {E = DeviceFault} into (Ok n) now → 0 < n → chunk ≡ take n into
+      → ((at : Feeding S) → IsFed IsAt f t at → IsFed IsAt g u (fed step at chunk)) → Reached source later g u
+  reached_more f g t u source now later into chunk n r came some front more = record {
+    bytes = r.bytes ++ chunk;
+    past = took_twice source now later r.bytes chunk r.past (rw front (came ∙ gave_next into n now some));
+    stands = subst (IsFed IsAt g u) (sym (fed_twice step (feeding limit s) r.bytes chunk))
+        (more (fed step (feeding limit s) r.bytes) r.stands);
+  }
+
+  -- nothing more comes
+  pub told_source : (f g : Feeder) (t u : T) (source now from later : Past) (over is_refused : Bool)
+      → (r : Reached source now f t) → later ≡ gave r.bytes over from → g.refused ≡ is_refused
+      → ((at : Feeding S) → IsFed IsAt f t at → IsFed IsAt g u (ended_if step over at))
+      → ToldSource step IsAt limit s from later over is_refused g u
+  told_source f g t u source now from later over is_refused r past refused more = record {
+    bytes = r.bytes;
+    past = past;
+    stands = has_told step IsAt g u over limit s r.bytes (more (fed step (feeding limit s) r.bytes) r.stands);
+    refused = refused;
+  }
+
+  -- the end was fed too
+  pub told_end : (f g : Feeder) (t u : T) (source now later : Past) (good : Bool)
+      → Reached source now f t → later ≡ at_end now → good ≡ not g.refused
+      → ((at : Feeding S) → IsFed IsAt f t at → IsFed IsAt g u (ended step at))
+      → FedSource step IsAt limit s source later (Ok good) g u
+  told_end f g t u source now later true r past is more =
+      told_source f g t u source now source later true false r (past ∙ ap at_end r.past)
+      (flipped g.refused true true is refl) more
+  told_end f g t u source now later false r past is more = (
+    true,
+    told_source f g t u source now source later true true r (past ∙ ap at_end r.past)
+        (flipped g.refused false false is refl) more,
+  )

@@ -1,8 +1,8 @@
 -- What becomes of the lines of a text, and of bytes that come in pieces: two functions, `told` and `fed`. One law says
 -- that they are one.
-use Rattle.std.specs.Prelude.{◌+◌, ◌==◌, ◌++◌, ℕ, suc, List, [], ◌∷◌, Bool, true, false, not, fold}
+use Rattle.std.specs.Prelude.{◌≡◌, ◌+◌, ◌==◌, ◌++◌, ℕ, suc, List, [], ◌∷◌, Bool, true, false, not, fold}
 use Rattle.std.specs.Prelude.{if◌then◌else◌, length, nat_le}
-use Rattle.aig_rows.specs.Lines.{Line}
+use Rattle.aig_lines.specs.Lines.{Line}
 use Rattle.aig_lines.specs.Texts.{text_of, without_return}
 
 -- what a taker of lines is after a line, and whether it goes on
@@ -12,6 +12,10 @@ pub record Turn (S : Type 0) : Type 0 where
 
 abbrev pub turn : {S : Type 0} → S → Bool → Turn S
 turn s goes_on = record { state = s; goes_on = goes_on }
+
+-- a taker stands where its turn led, and answers whether it goes on
+abbrev pub TookTurn : {T S : Type 0} → (T → S → Type 0) → T → Bool → Turn S → Type 0
+TookTurn IsAt taker answer t = IsAt taker t.state × (answer ≡ t.goes_on)
 
 -- a line of this text: one that is longer than the limit is refused, and the taker does not see it
 abbrev pub heard : {S : Type 0} → (S → List ℕ → Turn S) → ℕ → S → List ℕ → Turn S

@@ -1,3 +1,5 @@
+pub mod Lines
+pub mod Laws
 pub mod Texts
 pub mod Keeping
 pub mod Feeding

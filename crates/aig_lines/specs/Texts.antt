@@ -1,7 +1,6 @@
 -- The texts of lines, and which lines of bytes are judged (this project's profile).
-use Rattle.std.specs.Prelude.{◌≢◌, ◌==◌, ◌&&◌, ◌||◌, ℕ, List, [], ◌∷◌, Bool, filter, if◌then◌else◌, length, nat_eq}
-use Rattle.std.specs.List.{AllByRecursion}
-use Rattle.aig_rows.specs.Lines.{Line, lines_of}
+use Rattle.std.specs.Prelude.{◌==◌, ◌&&◌, ◌||◌, ℕ, List, [], ◌∷◌, Bool, filter, if◌then◌else◌, length, nat_eq}
+use Rattle.aig_lines.specs.Lines.{Line, lines_of}
 
 -- the text without a carriage return at its end
 abbrev pub without_return : List ℕ → List ℕ
@@ -16,7 +15,3 @@ text_of l = if l.ended then without_return l.text else l.text
 -- may come.
 abbrev pub judged_lines : List ℕ → Bool → List Line
 judged_lines bytes ended = filter (λ (l : Line). l.ended || ended) (lines_of bytes)
-
--- no byte is a line feed
-abbrev pub HasNoLineFeed : List ℕ → Type 0
-HasNoLineFeed bytes = AllByRecursion (λ (b : ℕ). b ≢ 10) bytes

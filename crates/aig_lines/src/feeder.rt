@@ -1,7 +1,7 @@
 //! Bytes that come in pieces, handed on line by line.
 ghost use Rattle.std.specs.Prelude.{◌≡◌, ◌+◌, ◌-◌, ◌^◌, ◌<◌, ◌≤◌, ◌++◌, [], IfOk, length, not, if◌then◌else◌};
 ghost use Rattle.aig_lines.specs.Fed.{IsFed, IsUnfed};
-ghost use Rattle.aig_lines.specs.Feeding.{Feeding, ended, fed, heard, line_ended};
+ghost use Rattle.aig_lines.specs.Feeding.{Feeding, TookTurn, ended, fed, heard, line_ended};
 ghost use Rattle.aig_lines.specs.Texts.{without_return};
 ghost use Rattle.memchr.specs.Find.{IsFirstByte, is_byte};
 
@@ -14,7 +14,7 @@ use std::marker::Model;
 /// What takes the lines of a text.
 pub trait LineTaker {
     ghost use Rattle.std.specs.Prelude.{◌≡◌, ◌+◌, ◌-◌, ◌^◌, ◌<◌, ◌≤◌, ℕ, List, if◌then◌else◌};
-    ghost use Rattle.aig_lines.specs.Feeding.{Turn};
+    ghost use Rattle.aig_lines.specs.Feeding.{TookTurn, Turn};
 
     /// What it comes to, as a value.
     ghost State: { Type 0 };
@@ -31,8 +31,8 @@ pub trait LineTaker {
     /// Takes a line of this text, and answers whether it goes on.
     fn take(&mut self, text: &[u8]) -> bool
         requires { counted self.old < 2 ^ 64 - 1 }
-        ensures at { (s : Self.State) → Self.IsAt self.old s → Self.IsAt self.new (Self.step s text.now).state }
-        ensures goes { (s : Self.State) → Self.IsAt self.old s → result ≡ (Self.step s text.now).goes_on }
+        ensures took { (s : Self.State) → Self.IsAt self.old s
+            → TookTurn Self.IsAt self.new result (Self.step s text.now) }
         ensures counted { counted self.new ≤ counted self.old + (if result then 1 else 0) };
 }
 
@@ -77,9 +77,8 @@ fn first_line_feed(bytes: &[u8]) -> Option<usize>
 #[inline(always)]
 fn hand_on<T: LineTaker>(taker: &mut T, limit: usize, text: &[u8]) -> bool
     requires { T.counted taker.old < 2 ^ 64 - 1 }
-    ensures at { (s : T.State) → T.IsAt taker.old s
-        → T.IsAt taker.new (heard T.step limit s text.now).state }
-    ensures goes { (s : T.State) → T.IsAt taker.old s → result ≡ (heard T.step limit s text.now).goes_on }
+    ensures took { (s : T.State) → T.IsAt taker.old s
+        → TookTurn T.IsAt taker.new result (heard T.step limit s text.now) }
     ensures counted { T.counted taker.new ≤ T.counted taker.old + (if result then 1 else 0) }
 {
     text.len() <= limit && taker.take(text)

@@ -2,8 +2,14 @@
 ghost use Rattle.std.specs.Prelude.{◌≡◌, ◌++◌, ℕ, Bool, List};
 ghost use Rattle.aig_lines.specs.Feeding.{Feeding, ended_if, fed, feeding, outcome, told};
 ghost use Rattle.aig_lines.specs.Texts.{judged_lines};
+ghost use Rattle.aig_lines.specs.Laws.{LinesAreThePieces};
 
 use crate::feeder::LineTaker;
+
+/// The lines of a text, joined, are the text; no line holds a line feed, and only the last may lack its own.
+pub fn lines_are_the_pieces()
+    ensures { LinesAreThePieces }
+{}
 
 /// It makes no difference where bytes are cut.
 pub fn fed_in_pieces<T: LineTaker>()

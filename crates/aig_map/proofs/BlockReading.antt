@@ -1,4 +1,2 @@
 pub mod Lines
-pub mod Entries
-pub mod FirstLine
 pub mod Block

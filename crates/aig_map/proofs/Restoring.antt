@@ -1,4 +1,3 @@
 pub mod Source
-pub mod Again
 pub mod Recovered
 pub mod AtPositions

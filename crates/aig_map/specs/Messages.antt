@@ -1,5 +1,6 @@
 -- The words in which it is reported that a circuit has no undone one (this project's profile).
 use Rattle.std.specs.Prelude.{◌++◌, ℕ, List, codes, decimal}
+use Rattle.aig_rows.specs.Messages.{out_of_memory_text}
 use Rattle.aig_map.specs.declared.fault.MapFault.{MapFault}
 use Rattle.aig_map.specs.declared.fault.MapFault.TheVariants as faults
 
@@ -9,4 +10,4 @@ map_fault_text faults.Missing = codes "no map"
 map_fault_text (faults.Malformed line) = codes "map line " ++ (decimal line ++ codes ": bad line")
 map_fault_text faults.Mismatch = codes "map counts differ"
 map_fault_text faults.Forged = codes "map does not belong to this circuit"
-map_fault_text faults.OutOfMemory = codes "out of memory"
+map_fault_text faults.OutOfMemory = out_of_memory_text

@@ -1,4 +1,5 @@
-//! What else than the places of gates must be right in a block, for it to be the one of the mapped image.
+//! What else than the places of gates must be right in a block, for it to be the one of the mapped
+//! image.
 ghost use Rattle.std.specs.Prelude.{◌↔◌, IsTrue};
 ghost use Rattle.aig_map.specs.Parts.Confirmed.{TellsComment};
 

@@ -1,8 +1,8 @@
 //! Map blocks: what a conversion to binary order changed, as text at the front of a comment.
 //!
-//! `aig_order` calls `map_comment` and `new_map_comment`, which make the comment with a block; `read_block`, which
-//! reads one; and `source_variables`, `positions_by_place`, `into_recorded`, `make_undone`, `tells_comment` and
-//! `tells_order`, of which undoing is made.
+//! `aig_order` calls `map_comment` and `new_map_comment`, which make the comment with a block;
+//! `read_block`, which reads one; and `source_variables`, `positions_by_place`, `into_recorded`,
+//! `make_undone`, `tells_comment` and `tells_order`, of which undoing is made.
 //!
 //! The definitions that matter most are `block_text`, `IsMappedImage` and `IsUndoneFrom`.
 #![tactic(auto)]

@@ -3,9 +3,11 @@ ghost use Rattle.std.specs.Prelude.{◌≡◌, ◌+◌, ◌^◌, ◌<◌, ◌≤
 ghost use Rattle.std.specs.Option.{unwrap_or};
 ghost use Rattle.aig_circuit.specs.declared.circuit.TheConstants.{LARGEST as largest_index};
 ghost use Rattle.aig_rows.specs.Outcomes.{Gives, GivesOrFails};
-ghost use Rattle.aig_map.specs.MapSpelling.{after_text, first_line_at, gate_at, is_variable, last_number_at};
+ghost use Rattle.aig_map.specs.MapSpelling.{after_text, first_line_at, gate_at};
+ghost use Rattle.aig_map.specs.MapSpelling.{is_variable, last_number_at};
 ghost use Rattle.aig_map.specs.MapSpelling.{variable_at};
-ghost use Rattle.aig_map.specs.MapReading.{entries_at, counts_match, counted_line, rest_of_block, block_reading};
+ghost use Rattle.aig_map.specs.MapReading.{entries_at, counts_match, counted_line};
+ghost use Rattle.aig_map.specs.MapReading.{rest_of_block, block_reading};
 ghost use Rattle.aig_map.specs.Parts.MapOutcomes.{GivesOrMemory};
 
 use crate::fault::MapFault;
@@ -14,7 +16,6 @@ use aig_core::{Circuit, LARGEST, Listing, Var};
 use aig_text::canonical_number;
 use std::alloc::Global;
 
-/// Whether a variable may have this index.
 #[inline(always)]
 fn is_variable(max_var: u64, index: u64) -> bool
     ensures { result ≡ is_variable max_var index }
@@ -22,15 +23,13 @@ fn is_variable(max_var: u64, index: u64) -> bool
     1 <= index && index <= max_var
 }
 
-/// What follows a text at the front.
 fn after_text<'a>(bytes: &'a [u8], text: &[u8]) -> Option<&'a [u8]>
     ensures { Gives (λ x. x.now) result (after_text text.now bytes.now) }
 {
     bytes.strip_prefix(text)
 }
 
-/// The last number of a line, and what follows the line. Whether operands were exchanged is told by one digit in every
-/// good line, which is read by its two bytes.
+/// Whether operands were exchanged is one digit in every good line, read by its two bytes.
 #[inline(always)]
 #[tactic(auto, using(crate::proofs::BlockReading::Lines::flag_is_read))]
 fn line_end_number(bytes: &[u8]) -> Option<(u64, &[u8])>
@@ -45,7 +44,7 @@ fn line_end_number(bytes: &[u8]) -> Option<(u64, &[u8])>
 
 /// What one line of a block holds, after the first line.
 trait BlockEntry: Drop {
-    /// The entry on the line at the front, given the largest index and the count of such lines; also what follows it.
+    /// The entry on the line at the front, by the largest index and the count, and what follows it.
     ghost entry: { ℕ → ℕ → List ℕ → Option (Self × List ℕ) };
 
     /// Reads the line at the front; also what follows it.
@@ -101,7 +100,8 @@ fn entries<'a, T: BlockEntry>(
     requires max_var { max_var ≤ largest_index }
     requires count { count ≤ largest_index }
     requires line { line + count < 2 ^ 64 }
-    ensures { GivesOrMemory (λ x. (x.0, x.1.now)) result (entries_at (T.entry max_var count) line count bytes.now) }
+    ensures { GivesOrMemory (λ x. (x.0, x.1.now)) result
+        (entries_at (T.entry max_var count) line count bytes.now) }
 {
     let mut found = Listing::new(alloc);
     let mut rest = bytes;
@@ -117,7 +117,6 @@ fn entries<'a, T: BlockEntry>(
     Ok((found, rest))
 }
 
-/// Reads the first line behind its word; also what follows it.
 #[tactic(auto, unfolding(crate::specs::MapSpelling::first_line_at))]
 fn first_line(bytes: &[u8]) -> Option<(FirstLine, &[u8])>
     ensures line { Gives (λ x. (x.0, x.1.now)) result (first_line_at bytes.now) }
@@ -142,7 +141,6 @@ fn first_line(bytes: &[u8]) -> Option<(FirstLine, &[u8])>
     Some((first, rest))
 }
 
-/// Whether the counts are those of the circuit, and the largest index is not below their sum.
 fn counts_match(image: &Circuit, front: FirstLine) -> bool
     requires { front.max_var ≤ largest_index }
     ensures { result ≡ counts_match image.now front }
@@ -156,7 +154,6 @@ fn counts_match(image: &Circuit, front: FirstLine) -> bool
         && inputs.saturating_add(latches).saturating_add(gates) <= front.max_var
 }
 
-/// The bytes of the comment, none where there is no such section.
 fn comment_bytes(image: &Circuit) -> &[u8]
     ensures { result.now ≡ unwrap_or image.now.comment [] }
 {
@@ -166,7 +163,6 @@ fn comment_bytes(image: &Circuit) -> &[u8]
     }
 }
 
-/// The first line, where it counts what the circuit has, and what follows the line.
 #[tactic(auto, unfolding(crate::specs::MapReading::counted_line))]
 fn counted_line(image: &Circuit) -> Result<(FirstLine, &[u8]), MapFault>
     ensures line { GivesOrFails (λ x. (x.0, x.1.now)) result (counted_line image.now) }
@@ -186,7 +182,6 @@ fn counted_line(image: &Circuit) -> Result<(FirstLine, &[u8]), MapFault>
     }
 }
 
-/// The block behind its first line, and what follows it.
 #[tactic(auto, unfolding(crate::specs::MapReading::rest_of_block))]
 fn rest_of_block<'a>(
     alloc: Global,

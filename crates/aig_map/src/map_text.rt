@@ -32,7 +32,6 @@ const GATE_LINE: usize = 24;
 /// How many bytes the first and the last line have at most.
 const OTHER_LINES: usize = 66;
 
-/// Puts the first line.
 fn put_first_line<W: Sink>(output: &mut Output<W>, circuit: &Circuit)
     ensures { Put output.old output.new (first_line_text (counted_row circuit.now)) }
 {
@@ -47,17 +46,16 @@ fn put_first_line<W: Sink>(output: &mut Output<W>, circuit: &Circuit)
     put_numbers(output, VERSION, &others);
 }
 
-/// Puts a line for each of these, with the variable that it defines.
 fn put_variables<T: Defines, W: Sink>(output: &mut Output<W>, items: &[T])
-    ensures { Put output.old output.new (flat_map (λ x. numbers_text (variable_row (T.variable x))) items.now) }
+    ensures { Put output.old output.new (flat_map
+        (λ x. numbers_text (variable_row (T.variable x))) items.now) }
 {
     for item in items {
         put_numbers(output, u64::from(item.variable().0), &[]);
     }
 }
 
-/// What the block records of a gate that had this variable and became another; the first gate of the image has the
-/// variable `first`.
+/// The first gate of the image has the variable `first`.
 #[inline(always)]
 fn record_of(first: u32, var: Var, new: &Gate) -> MappedGate
     ensures { result ≡ recorded_by first var new.now }
@@ -69,7 +67,6 @@ fn record_of(first: u32, var: Var, new: &Gate) -> MappedGate
     }
 }
 
-/// What the block records of a gate; the first gate of the image has the variable `first`.
 #[inline(always)]
 fn mapped_gate<L: Labels>(labels: &L, first: u32, gate: &Gate) -> MappedGate
     requires { FitIntoLiterals (L.label labels.now) }
@@ -78,7 +75,6 @@ fn mapped_gate<L: Labels>(labels: &L, first: u32, gate: &Gate) -> MappedGate
     record_of(first, gate.var, &gate.relabel(labels))
 }
 
-/// Puts the line of a gate.
 #[inline(always)]
 fn put_gate<W: Sink>(output: &mut Output<W>, gate: MappedGate)
     ensures { Put output.old output.new (numbers_text (gate_row gate)) }
@@ -87,7 +83,6 @@ fn put_gate<W: Sink>(output: &mut Output<W>, gate: MappedGate)
     put_numbers(output, u64::from(gate.var.0), &others);
 }
 
-/// Puts the lines of the gates, where the first one has this label.
 #[inline(never)]
 fn put_gates<L: Labels, W: Sink>(output: &mut Output<W>, labels: &L, first: u32, gates: &[Gate])
     requires { FitIntoLiterals (L.label labels.now) }
@@ -99,7 +94,6 @@ fn put_gates<L: Labels, W: Sink>(output: &mut Output<W>, labels: &L, first: u32,
     }
 }
 
-/// Puts the map block of a circuit whose variables get these labels.
 fn put_block<L: Labels, W: Sink>(output: &mut Output<W>, labels: &L, circuit: &Circuit)
     requires small { FitIntoLiterals (L.label labels.now) }
     requires fits { length circuit.now.inputs + length circuit.now.latches ≤ LARGEST }
@@ -113,11 +107,13 @@ fn put_block<L: Labels, W: Sink>(output: &mut Output<W>, labels: &L, circuit: &C
     output.put(b"aigmap end\n");
 }
 
-/// Puts the comment of the mapped image of such a circuit: the map block, and then what its own comment holds.
+/// Puts the comment of the mapped image of such a circuit: the map block, and then what its own
+/// comment holds.
 fn put_comment<L: Labels, W: Sink>(output: &mut Output<W>, labels: &L, circuit: &Circuit)
     requires small { FitIntoLiterals (L.label labels.now) }
     requires fits { length circuit.now.inputs + length circuit.now.latches ≤ LARGEST }
-    ensures { Put output.old output.new (mapped_comment (block_by (L.label labels.now) circuit.now) circuit.now) }
+    ensures { Put output.old output.new (mapped_comment
+        (block_by (L.label labels.now) circuit.now) circuit.now) }
 {
     put_block(output, labels, circuit);
     if let Some(comment) = &circuit.comment {
@@ -125,7 +121,6 @@ fn put_comment<L: Labels, W: Sink>(output: &mut Output<W>, labels: &L, circuit: 
     }
 }
 
-/// Writes that comment to a sink.
 fn write_comment<L: Labels, W: Sink>(
     labels: &L,
     circuit: &Circuit,
@@ -135,7 +130,8 @@ fn write_comment<L: Labels, W: Sink>(
     requires fits { length circuit.now.inputs + length circuit.now.latches ≤ LARGEST }
     requires unfailed { CanFail (W.past sink.old) }
     ensures { OnOk result (W.past sink.new
-        ≡ took (mapped_comment (block_by (L.label labels.now) circuit.now) circuit.now) (W.past sink.old)) }
+        ≡ took (mapped_comment (block_by (L.label labels.now) circuit.now) circuit.now)
+        (W.past sink.old)) }
 {
     let mut output = Output::new(sink);
     put_comment(&mut output, labels, circuit);
@@ -154,7 +150,6 @@ pub struct KeptVariables {
     pub gates: Vec<Var>,
 }
 
-/// The variables of gates.
 fn gate_variables(alloc: Global, gates: &[Gate]) -> Result<Vec<Var>, OutOfMemory>
     ensures { IfOk result (λ r. r.items ≡ map (λ (g : GateRecord). g.var) gates.now) }
 {
@@ -176,12 +171,12 @@ pub fn keep_variables(alloc: Global, circuit: &Circuit) -> Result<KeptVariables,
     })
 }
 
-/// Puts the lines of gates that had these variables and became others.
 #[inline(never)]
 fn put_new_gates<W: Sink>(output: &mut Output<W>, first: u32, variables: &[Var], gates: &[Gate])
     requires { length variables.now ≡ length gates.now }
     ensures { (f : ℕ → ℕ) (old : List GateRecord) → AreRelabelled f old variables.now gates.now
-        → Put output.old output.new (flat_map (λ g. numbers_text (gate_row (mapped_gate f first g))) old) }
+        → Put output.old output.new (flat_map
+        (λ g. numbers_text (gate_row (mapped_gate f first g))) old) }
 {
     for (at, gate) in gates.iter().enumerate() {
         put_gate(output, record_of(first, variables[at], gate));
@@ -192,7 +187,8 @@ fn put_new_gates<W: Sink>(output: &mut Output<W>, first: u32, variables: &[Var],
 fn put_new_block<W: Sink>(output: &mut Output<W>, variables: &KeptVariables, circuit: &Circuit)
     requires many { length variables.now.gates.items ≡ length circuit.now.gates }
     requires fits { length circuit.now.inputs + length circuit.now.latches ≤ LARGEST }
-    ensures { (f : ℕ → ℕ) (c : CircuitRecord) → AreVariablesOf variables.now c → circuit.now ≡ relabelled f c
+    ensures { (f : ℕ → ℕ) (c : CircuitRecord) → AreVariablesOf variables.now c
+        → circuit.now ≡ relabelled f c
         → Put output.old output.new (block_text (block_by f c)) }
 {
     let first = (1 + circuit.inputs.len() + circuit.latches.len()) as u32;
@@ -208,11 +204,11 @@ fn put_new_block<W: Sink>(output: &mut Output<W>, variables: &KeptVariables, cir
     output.put(b"aigmap end\n");
 }
 
-/// Puts the comment of its mapped image.
 fn put_new_comment<W: Sink>(output: &mut Output<W>, variables: &KeptVariables, circuit: &Circuit)
     requires many { length variables.now.gates.items ≡ length circuit.now.gates }
     requires fits { length circuit.now.inputs + length circuit.now.latches ≤ LARGEST }
-    ensures { (f : ℕ → ℕ) (c : CircuitRecord) → AreVariablesOf variables.now c → circuit.now ≡ relabelled f c
+    ensures { (f : ℕ → ℕ) (c : CircuitRecord) → AreVariablesOf variables.now c
+        → circuit.now ≡ relabelled f c
         → Put output.old output.new (mapped_comment (block_by f c) circuit.now) }
 {
     put_new_block(output, variables, circuit);
@@ -221,7 +217,6 @@ fn put_new_comment<W: Sink>(output: &mut Output<W>, variables: &KeptVariables, c
     }
 }
 
-/// Writes that comment to a sink.
 fn write_new_comment<W: Sink>(
     variables: &KeptVariables,
     circuit: &Circuit,
@@ -230,8 +225,10 @@ fn write_new_comment<W: Sink>(
     requires many { length variables.now.gates.items ≡ length circuit.now.gates }
     requires fits { length circuit.now.inputs + length circuit.now.latches ≤ LARGEST }
     requires unfailed { CanFail (W.past sink.old) }
-    ensures { (f : ℕ → ℕ) (c : CircuitRecord) → AreVariablesOf variables.now c → circuit.now ≡ relabelled f c
-        → OnOk result (W.past sink.new ≡ took (mapped_comment (block_by f c) circuit.now) (W.past sink.old)) }
+    ensures { (f : ℕ → ℕ) (c : CircuitRecord) → AreVariablesOf variables.now c
+        → circuit.now ≡ relabelled f c
+        → OnOk result (W.past sink.new ≡ took (mapped_comment (block_by f c) circuit.now)
+        (W.past sink.old)) }
 {
     let mut output = Output::new(sink);
     put_new_comment(&mut output, variables, circuit);
@@ -239,8 +236,8 @@ fn write_new_comment<W: Sink>(
     sent
 }
 
-/// How many bytes the comment of a mapped image has at most. Room for them is reserved at once; the system gives no
-/// memory for what is not filled.
+/// How many bytes the comment of a mapped image has at most. Room for them is reserved at once; the
+/// system gives no memory for what is not filled.
 fn most_bytes(circuit: &Circuit) -> usize {
     let variables = circuit.inputs.len().saturating_add(circuit.latches.len());
     let comment = match &circuit.comment {
@@ -253,8 +250,8 @@ fn most_bytes(circuit: &Circuit) -> usize {
         .saturating_add(comment)
 }
 
-/// The comment of the mapped image of a circuit whose variables get these labels: the map block, and then what the
-/// circuit's own comment holds.
+/// The comment of the mapped image of a circuit whose variables get these labels: the map block,
+/// and then what the circuit's own comment holds.
 pub fn map_comment<L: Labels>(
     alloc: Global,
     labels: &L,
@@ -262,7 +259,8 @@ pub fn map_comment<L: Labels>(
 ) -> Result<Listing<u8>, OutOfMemory>
     requires small { FitIntoLiterals (L.label labels.now) }
     requires fits { length circuit.now.inputs + length circuit.now.latches ≤ LARGEST }
-    ensures { IfOk result (λ r. r ≡ mapped_comment (block_by (L.label labels.now) circuit.now) circuit.now) }
+    ensures { IfOk result (λ r. r ≡ mapped_comment
+        (block_by (L.label labels.now) circuit.now) circuit.now) }
 {
     let mut kept = VecSink::with_room(alloc, most_bytes(circuit))?;
     match write_comment(labels, circuit, &mut kept) {
@@ -280,7 +278,8 @@ pub fn new_map_comment(
 ) -> Result<Listing<u8>, OutOfMemory>
     requires many { length variables.now.gates.items ≡ length circuit.now.gates }
     requires fits { length circuit.now.inputs + length circuit.now.latches ≤ LARGEST }
-    ensures { (f : ℕ → ℕ) (c : CircuitRecord) → AreVariablesOf variables.now c → circuit.now ≡ relabelled f c
+    ensures { (f : ℕ → ℕ) (c : CircuitRecord) → AreVariablesOf variables.now c
+        → circuit.now ≡ relabelled f c
         → IfOk result (λ r. r ≡ mapped_comment (block_by f c) circuit.now) }
 {
     let mut kept = VecSink::with_room(alloc, most_bytes(circuit))?;

@@ -7,7 +7,8 @@ use crate::map_block::{MapBlock, MappedGate};
 use aig_core::OutOfMemory;
 use std::alloc::Global;
 
-/// What a block records beside variables and places. It takes a byte for each gate, where the block takes twelve.
+/// What a block records beside variables and places. It takes a byte for each gate, where the block
+/// takes twelve.
 #[derive(Drop)]
 pub struct Recorded {
     /// The largest variable index of the source.
@@ -18,7 +19,6 @@ pub struct Recorded {
     pub exchanged: Vec<bool>,
 }
 
-/// Whether the operands of each gate changed places.
 fn exchanges(alloc: Global, gates: &[MappedGate]) -> Result<Vec<bool>, OutOfMemory>
     ensures { IfOk result (λ r. r.items ≡ exchanges_recorded gates.now) }
 {
@@ -29,8 +29,8 @@ fn exchanges(alloc: Global, gates: &[MappedGate]) -> Result<Vec<bool>, OutOfMemo
     Ok(found)
 }
 
-/// Takes out of a block what it records beside variables and places. The block is let go, so that it takes no memory
-/// while the source is made.
+/// Takes out of a block what it records beside variables and places. The block is let go, so that
+/// it takes no memory while the source is made.
 pub fn into_recorded(alloc: Global, block: MapBlock) -> Result<Recorded, OutOfMemory>
     ensures { IfOk result (λ r. IsTakenOutOf block r) }
 {

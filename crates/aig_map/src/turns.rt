@@ -1,6 +1,7 @@
-//! Whether the places in a block are the order in which conversion takes the gates of its source. No order is made for
-//! it.
-ghost use Rattle.std.specs.Prelude.{◌≡◌, ◌<◌, ◌≤◌, ◌↔◌, ℕ, List, Option, length, map, IfOk, IsTrue, MatchOption};
+//! Whether the places in a block are the order in which conversion takes the gates of its source.
+//! No order is made for it.
+ghost use Rattle.std.specs.Prelude.{◌≡◌, ◌<◌, ◌≤◌, ◌↔◌, ℕ, List, Option};
+ghost use Rattle.std.specs.Prelude.{length, map, IfOk, IsTrue, MatchOption};
 ghost use Rattle.std.specs.List.{AllByRecursion};
 ghost use Rattle.std.specs.Option.{IfSome};
 ghost use Rattle.aig_circuit.specs.declared.circuit.TheConstants.{LARGEST};
@@ -9,7 +10,8 @@ ghost use Rattle.aig_circuit.specs.Wellformed.{AreDistinct, defined_variables};
 ghost use Rattle.aig_map.specs.declared.map_block.MappedGate.{MappedGate as MappedGateRecord};
 ghost use Rattle.aig_map.specs.Undone.{undone};
 ghost use Rattle.aig_map.specs.Parts.Tables.{block_read, IsFit};
-ghost use Rattle.aig_map.specs.Parts.Turns.{positions, ready_from, AreLinks, AreTakenInTurn, IsClear};
+ghost use Rattle.aig_map.specs.Parts.Turns.{positions, ready_from, AreLinks};
+ghost use Rattle.aig_map.specs.Parts.Turns.{AreTakenInTurn, IsClear};
 
 use crate::map_block::MappedGate;
 use aig_core::{Circuit, Gate, OutOfMemory};
@@ -19,7 +21,8 @@ use std::alloc::Global;
 pub fn positions_by_place(alloc: Global, gates: &[MappedGate]) -> Result<Vec<u32>, OutOfMemory>
     requires few { length gates.now ≤ LARGEST }
     requires once { AreDistinct (map (λ (g : MappedGateRecord). g.place) gates.now) }
-    requires there { AllByRecursion (λ (g : MappedGateRecord). g.place < length gates.now) gates.now }
+    requires there { AllByRecursion
+        (λ (g : MappedGateRecord). g.place < length gates.now) gates.now }
     ensures { IfOk result (λ r. r.items ≡ positions gates.now) }
 {
     let mut found = vec![in alloc; 0; gates.len()]?;
@@ -36,15 +39,17 @@ fn ready_from(first: u32, gate: Gate) -> u32
     (gate.left.var().0 + 1).saturating_sub(first)
 }
 
-/// The link of the place behind those that have one. There is none where a position is above the one there, from the
-/// first place on that its gate may have. Going back by links passes over positions that were compared before.
+/// The link of the place behind those that have one. There is none where a position is above the
+/// one there, from the first place on that its gate may have. Going back by links passes over
+/// positions that were compared before.
 fn link(places: &[u32], links: &[u32], ready: u32) -> Option<u32>
     requires few { length places.now ≤ LARGEST }
     requires there { length links.now < length places.now }
     requires are { AreLinks places.now links.now }
     ensures back { IfSome result (λ at. at ≤ length links.now) }
     ensures clear { IfSome result (λ at. IsClear places.now at (length links.now)) }
-    ensures ready { MatchOption result (¬ IsClear places.now ready (length links.now)) (λ at. at ≤ ready) }
+    ensures ready { MatchOption result (¬ IsClear places.now ready (length links.now))
+        (λ at. at ≤ ready) }
 {
     let place = links.len();
     let position = places[place];
@@ -67,7 +72,8 @@ pub(crate) fn are_taken_in_turn(
 ) -> Result<bool, OutOfMemory>
     requires few { length places.now ≤ LARGEST }
     requires many { length places.now ≡ length gates.now }
-    ensures { IfOk result (λ recorded. IsTrue recorded ↔ AreTakenInTurn first gates.now places.now) }
+    ensures { IfOk result (λ recorded. IsTrue recorded
+        ↔ AreTakenInTurn first gates.now places.now) }
 {
     let mut links = Vec::with_capacity(alloc, gates.len())?;
     for gate in gates {
@@ -79,14 +85,15 @@ pub(crate) fn are_taken_in_turn(
     Ok(true)
 }
 
-/// Whether the places in a block are the order in which conversion takes the gates of its source, if the source defines
-/// no variable twice; by the positions in the source, place by place.
+/// Whether the places in a block are the order in which conversion takes the gates of its source,
+/// if the source defines no variable twice; by the positions in the source, place by place.
 pub fn tells_order(alloc: Global, places: &[u32], image: &Circuit) -> Result<bool, OutOfMemory>
     requires fit { IsFit (block_read image.now) image.now }
     requires are { places.now ≡ positions (block_read image.now).gates }
     ensures { (comment : Option (List ℕ))
         → AreDistinct (defined_variables (undone (block_read image.now) comment image.now))
-        → IfOk result (λ recorded. IsTrue recorded ↔ IsLeastReadyOrder (undone (block_read image.now) comment image.now)
+        → IfOk result (λ recorded. IsTrue recorded
+        ↔ IsLeastReadyOrder (undone (block_read image.now) comment image.now)
         (positions (block_read image.now).gates)) }
 {
     let first = 1 + image.inputs.len() as u32 + image.latches.len() as u32;

@@ -1,5 +1,6 @@
 //! The undone circuit: what a circuit was before its conversion, by a map block.
-ghost use Rattle.std.specs.Prelude.{◌≡◌, ◌<◌, ◌≤◌, ◌⊎◌, ◌↔◌, ◌++◌, true, ℕ, Some, None, List, length, map, take, drop};
+ghost use Rattle.std.specs.Prelude.{◌≡◌, ◌<◌, ◌≤◌, ◌⊎◌, ◌↔◌, ◌++◌, true, ℕ};
+ghost use Rattle.std.specs.Prelude.{Some, None, List, length, map, take, drop};
 ghost use Rattle.std.specs.Prelude.{replicate, if◌then◌else◌, IfOk, IfErr, IsTrue, OnOk};
 ghost use Rattle.std.specs.Bool.{OnTrue, OnFalse};
 ghost use Rattle.std.specs.List.{AllByRecursion};
@@ -8,7 +9,8 @@ ghost use Rattle.aig_circuit.specs.Wellformed.{AreDistinct};
 ghost use Rattle.aig_image.specs.Relabelled.{FitIntoLiterals, relabelled_gate};
 ghost use Rattle.aig_image.specs.Renumbering.{source_variable};
 ghost use Rattle.aig_image.specs.Reordered.{exchanged_by, exchanged_if, taken};
-ghost use Rattle.aig_map.specs.declared.fault.MapFault.TheVariants.{Forged as IsForged, OutOfMemory as IsOutOfMemory};
+ghost use Rattle.aig_map.specs.declared.fault.MapFault.TheVariants.{Forged as IsForged};
+ghost use Rattle.aig_map.specs.declared.fault.MapFault.TheVariants.{OutOfMemory as IsOutOfMemory};
 ghost use Rattle.aig_map.specs.declared.map_block.MappedGate.{MappedGate as MappedGateRecord};
 ghost use Rattle.aig_map.specs.MapReading.{IsWithinBounds};
 ghost use Rattle.aig_map.specs.Parts.Placed.{table_of, with_gates};
@@ -27,8 +29,7 @@ use aig_core::{
 use aig_image::{Labels, NamesVariables, relabel};
 use std::alloc::Global;
 
-/// Puts the variable of each gate at its place, up to the first gate whose place has a variable. Returns whether none
-/// has.
+/// Stops at the first gate whose place has a variable, and returns whether there is none.
 fn fill_places(placed: &mut [Var], gates: &[MappedGate]) -> bool
     requires { AllByRecursion (λ (g : MappedGateRecord). g.place < length placed.old) gates.now }
     ensures all { OnTrue result (with_gates placed.old gates.now ≡ Some placed.new) }
@@ -45,12 +46,13 @@ fn fill_places(placed: &mut [Var], gates: &[MappedGate]) -> bool
     true
 }
 
-/// Puts the variable of each gate at its place, behind the first variables, so many. Returns whether no two gates have
-/// one place.
+/// Puts the variable of each gate at its place, behind the first variables, so many. Returns
+/// whether no two gates have one place.
 fn place_gates(variables: &mut [Var], first: usize, gates: &[MappedGate]) -> bool
     requires within { first ≤ length variables.old }
     requires none { drop first variables.old ≡ replicate (length gates.now) 0 }
-    requires there { AllByRecursion (λ (g : MappedGateRecord). g.place < length gates.now) gates.now }
+    requires there { AllByRecursion
+        (λ (g : MappedGateRecord). g.place < length gates.now) gates.now }
     ensures all { OnTrue result ((table : List ℕ) × (table_of gates.now ≡ Some table)
         × (variables.new ≡ take first variables.old ++ table)) }
     ensures twice { OnFalse result (table_of gates.now ≡ None) }
@@ -86,9 +88,11 @@ impl Labels for SourceVariables {
 pub fn source_variables(alloc: Global, block: &MapBlock) -> Result<SourceVariables, MapFault>
     requires bounds { IsWithinBounds block.now }
     ensures ok { IfOk result (λ r. r.variables.items ≡ source_variables block.now) }
-    ensures places { IfOk result (λ _. AreDistinct (map (λ (g : MappedGateRecord). g.place) block.now.gates)) }
+    ensures places { IfOk result (λ _. AreDistinct
+        (map (λ (g : MappedGateRecord). g.place) block.now.gates)) }
     ensures err { IfErr result (λ e. (e ≡ IsOutOfMemory)
-        ⊎ ((e ≡ IsForged) × (¬ AreDistinct (map (λ (g : MappedGateRecord). g.place) block.now.gates)))) }
+        ⊎ ((e ≡ IsForged)
+        × (¬ AreDistinct (map (λ (g : MappedGateRecord). g.place) block.now.gates)))) }
 {
     let first = block.inputs.len() + block.latches.len();
     let count = first + block.gates.len();
@@ -103,8 +107,7 @@ pub fn source_variables(alloc: Global, block: &MapBlock) -> Result<SourceVariabl
     }
 }
 
-/// Puts each gate of the image, by the variables of the source, at its position there. It goes in the order of the
-/// image, where variables of operands mostly lie near one another.
+/// It goes in the order of the image, where variables of operands mostly lie near one another.
 #[inline(never)]
 fn put_at_positions(found: &mut [Gate], variables: &SourceVariables, gates: &[Gate], places: &[u32])
     requires fit { FitIntoLiterals (source_variable variables.now.variables.items) }
@@ -120,7 +123,6 @@ fn put_at_positions(found: &mut [Gate], variables: &SourceVariables, gates: &[Ga
     }
 }
 
-/// The gate with its operands exchanged, if so.
 #[inline(always)]
 fn exchanged_if(exchanged: bool, gate: Gate) -> Gate
     ensures { result ≡ exchanged_if exchanged gate }
@@ -132,7 +134,6 @@ fn exchanged_if(exchanged: bool, gate: Gate) -> Gate
     }
 }
 
-/// Whether operands are exchanged that are equal.
 #[inline(always)]
 fn exchanges_equal(exchanged: bool, gate: &Gate) -> bool
     ensures { IsTrue result ↔ ((exchanged ≡ true) × (gate.now.left ≡ gate.now.right)) }
@@ -140,10 +141,9 @@ fn exchanges_equal(exchanged: bool, gate: &Gate) -> bool
     gate.left.0 == gate.right.0 && exchanged
 }
 
-/// Exchanges the operands of the gates that are recorded as exchanged, up to the first one with equal operands. Returns
-/// whether there is none.
+/// Stops at the first gate to exchange that has equal operands. Returns whether there is none.
 #[inline(never)]
-#[tactic(auto, using(crate::proofs::Confirming::Exchanges::not_all_differ, crate::proofs::Confirming::Exchanges::one_more_exchanged, crate::proofs::Confirming::Exchanges::one_more_differs))]
+#[tactic(auto, using(crate::proofs::Sources::Refused::not_all_differ, crate::proofs::Sources::Refused::one_more_exchanged, crate::proofs::Sources::Refused::one_more_differs))]
 fn exchange_recorded(found: &mut [Gate], exchanged: &[bool]) -> bool
     requires { length exchanged.now ≡ length found.old }
     ensures all { OnTrue result (found.new ≡ exchanged_by exchanged.now found.old) }
@@ -159,7 +159,6 @@ fn exchange_recorded(found: &mut [Gate], exchanged: &[bool]) -> bool
     true
 }
 
-/// The gates of the image by the variables of the source and at their positions there.
 fn gates_at_positions(
     alloc: Global,
     variables: &SourceVariables,
@@ -170,7 +169,8 @@ fn gates_at_positions(
     requires many { length places.now ≡ length gates.now }
     requires there { AllByRecursion (λ at. at < length gates.now) places.now }
     requires once { AreDistinct places.now }
-    ensures { IfOk result (λ r. ArePut (source_variable variables.now.variables.items) gates.now places.now r.items) }
+    ensures { IfOk result (λ r.
+        ArePut (source_variable variables.now.variables.items) gates.now places.now r.items) }
 {
     let none = Gate {
         var: Var(0),
@@ -182,7 +182,6 @@ fn gates_at_positions(
     Ok(found)
 }
 
-/// The gates of the source, unless the operands of one are equal and recorded as exchanged.
 #[tactic(auto, using(std::proofs::lemmas::List::take_all, std::proofs::lemmas::List::drop_all))]
 fn source_gates(
     alloc: Global,
@@ -199,7 +198,8 @@ fn source_gates(
     ensures ok { IfOk result (λ r. (found : List GateRecord)
         × ArePut (source_variable variables.now.variables.items) gates.now places.now found
         × DifferWhereExchanged found exchanged.now × (r ≡ exchanged_by exchanged.now found)) }
-    ensures err { IfErr result (λ e. (e ≡ IsOutOfMemory) ⊎ ((e ≡ IsForged) × ((found : List GateRecord)
+    ensures err { IfErr result (λ e. (e ≡ IsOutOfMemory)
+        ⊎ ((e ≡ IsForged) × ((found : List GateRecord)
         × ArePut (source_variable variables.now.variables.items) gates.now places.now found
         × (¬ DifferWhereExchanged found exchanged.now)))) }
 {
@@ -211,7 +211,6 @@ fn source_gates(
     }
 }
 
-/// The comment behind a block, where there was a comment section.
 fn source_comment(
     alloc: Global,
     has_comment: bool,
@@ -234,7 +233,6 @@ struct Literals {
     fairness: Listing<Lit>,
 }
 
-/// These sections of the image, in memory of their own.
 fn copy_literals(alloc: Global, image: &Circuit) -> Result<Literals, OutOfMemory>
     ensures { IfOk result (λ r. (r.outputs ≡ image.now.outputs) × (r.bad ≡ image.now.bad)
         × (r.constraints ≡ image.now.constraints) × (r.fairness ≡ image.now.fairness)) }
@@ -247,8 +245,6 @@ fn copy_literals(alloc: Global, image: &Circuit) -> Result<Literals, OutOfMemory
     })
 }
 
-/// The inputs and the latches of the image, in memory of their own. What is there is dropped by name where memory is
-/// refused, since a proof goes through all that goes out of scope by itself.
 fn copy_defined(
     alloc: Global,
     image: &Circuit,
@@ -258,13 +254,12 @@ fn copy_defined(
 {
     let inputs = image.inputs.copy(alloc)?;
     let Ok(latches) = image.latches.copy(alloc) else {
-        drop(inputs);
+        drop(inputs); // for the proof
         return Err(OutOfMemory);
     };
     Ok((inputs, latches))
 }
 
-/// The justice properties and the symbols of the image, and the comment that is recorded, in memory of their own.
 fn copy_rest(
     alloc: Global,
     has_comment: bool,
@@ -273,22 +268,22 @@ fn copy_rest(
 ) -> Result<(Justice, Symbols, Option<Listing<u8>>), OutOfMemory>
     ensures justice { IfOk result (λ made. made.0 ≡ image.now.justice) }
     ensures symbols { IfOk result (λ made. made.1 ≡ image.now.symbols) }
-    ensures comment { IfOk result (λ made. made.2 ≡ (if has_comment then Some comment.now else None)) }
+    ensures comment { IfOk result (λ made. made.2
+        ≡ (if has_comment then Some comment.now else None)) }
 {
     let justice = copy_justice(alloc, &image.justice)?;
     let Ok(symbols) = copy_symbols(alloc, &image.symbols) else {
-        drop(justice);
+        drop(justice); // for the proof
         return Err(OutOfMemory);
     };
     let Ok(comment) = source_comment(alloc, has_comment, comment) else {
-        drop(justice);
-        drop(symbols);
+        drop(justice); // for the proof
+        drop(symbols); // for the proof
         return Err(OutOfMemory);
     };
     Ok((justice, symbols, comment))
 }
 
-/// The circuit by the numbers of the image and without gates, with what a block records of the rest.
 fn without_gates(
     alloc: Global,
     recorded: &Recorded,
@@ -300,12 +295,12 @@ fn without_gates(
 {
     let literals = copy_literals(alloc, image)?;
     let Ok(defined) = copy_defined(alloc, image) else {
-        drop(literals);
+        drop(literals); // for the proof
         return Err(OutOfMemory);
     };
     let Ok(rest) = copy_rest(alloc, recorded.has_comment, comment, image) else {
-        drop(literals);
-        drop(defined);
+        drop(literals); // for the proof
+        drop(defined); // for the proof
         return Err(OutOfMemory);
     };
     let (inputs, latches) = defined;
@@ -325,8 +320,9 @@ fn without_gates(
     })
 }
 
-/// The circuit with the variables and the orders of gates and operands that a block records; this comment follows the
-/// block. It is forged where the operands of a gate are equal and recorded as exchanged.
+/// The circuit with the variables and the orders of gates and operands that a block records; this
+/// comment follows the block. It is forged where the operands of a gate are equal and recorded as
+/// exchanged.
 pub fn make_undone(
     alloc: Global,
     variables: &SourceVariables,

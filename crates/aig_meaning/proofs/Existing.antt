@@ -1,10 +1,7 @@
 -- A well-formed circuit has a step assignment: the inputs and latches have what is given, the gates what follows from
 -- it, by recursion on the rank. With that no other agrees on all variables, this is the law of one step assignment.
-use Rattle.std.proofs.Common.{rules}
-use Rattle.std.proofs.Common.{◌≡◌, ◌<◌, ℕ, zero, suc, List, [], ◌∷◌, ◌++◌, length, map, get_or, cond, eqb, refl, sym}
-use Rattle.std.proofs.Common.{ap, ap₂, subst, ◌∙◌, inl, inr, ⊎_elim, arith}
-use Rattle.std.specs.List.{Contains}
-use Rattle.std.proofs.lemmas.Bool.{ne_eqb}
+use Rattle.std.proofs.Common.{◌≡◌, ◌<◌, ◌∷◌, ◌++◌, ◌∙◌, rules, ℕ, zero, suc, List, [], length, map, get_or, cond, eqb}
+use Rattle.std.proofs.Common.{refl, sym, ap, ap₂, subst, inl, inr, ⊎_elim, arith, Contains, ne_eqb}
 use Rattle.std.proofs.lemmas.Bool.Decides.{Decides-eqb}
 use Rattle.std.proofs.lemmas.List.{length-map}
 use Rattle.aig_circuit.specs.declared.circuit.Latch.{Latch}
@@ -15,14 +12,14 @@ use Rattle.aig_circuit.specs.declared.value.Val.TheVariants.{Zero}
 use Rattle.aig_circuit.specs.Literal.{variable_of}
 use Rattle.aig_circuit.specs.Values.{value_and}
 use Rattle.aig_circuit.specs.Wellformed.{IsAmong, AreDistinct, IsWellFormed, defined_variables, operands}
-use Rattle.aig_circuit.proofs.Checking.Fitting.{each}
+use Rattle.aig_circuit.proofs.Checking.{each}
 use Rattle.aig_topo.proofs.Ordering.Cyclic.{among_last}
 use Rattle.aig_topo.proofs.Ordering.LeastReady.{among_or_not}
 use Rattle.aig_topo.proofs.Ordering.Ranked.{distinct_back}
 use Rattle.aig_meaning.specs.Meaning.{Holds, IsStepAssignment, latch_variables, literal_value}
 use Rattle.aig_meaning.specs.Laws.{OneStepAssignment}
-use Rattle.aig_meaning.proofs.Lists.{distinct_front, distinct_apart, map_same, gate_named, variables_of}
-use Rattle.aig_meaning.proofs.Agreeing.{assignments_agree, same_literal}
+use Rattle.aig_meaning.proofs.Related.{distinct_front, distinct_apart, map_same, gate_named, variables_of}
+use Rattle.aig_meaning.proofs.Related.{assignments_agree, same_literal}
 use Rattle.aig_topo.proofs.Ordering.Counted.{among_first as among_front}
 
 -- the value that stands where the variable does, and else another

@@ -1,9 +1,3 @@
-pub mod Lists
-pub mod Known
 pub mod Related
-pub mod Agreeing
-pub mod Staying
 pub mod Existing
-pub mod Rows
 pub mod Traces
-pub mod Same

@@ -1,20 +1,118 @@
--- What holds between the values that two assignments give to inputs and latches holds between all their values, where
--- `not` and `and` keep it.
-use Rattle.std.proofs.Common.{rules}
-use Rattle.std.proofs.Common.{◌≡◌, ◌<◌, ◌+◌, ℕ, zero, suc, List, [], ◌∷◌, ◌++◌, map}
-use Rattle.std.proofs.Common.{refl, sym, subst, inl, inr, ⊎_elim, arith}
-use Rattle.std.specs.List.{AllZip, Contains}
+-- What holds between the values of two assignments, list by list, where `not` and `and` keep it.
+use Rattle.std.proofs.Common.{◌≡◌, ◌<◌, ◌∷◌, ◌++◌, ◌+◌, ◌%◌, ◌∙◌, ℕ, zero, suc, List, [], length, map, get_or, refl}
+use Rattle.std.proofs.Common.{ap₂, subst, inl, inr, ⊎_elim, arith, rules, sym, ap, eqb, cond}
+use Rattle.std.specs.List.{AllZip, AllByRecursion, Contains, flat_map, concat}
 use Rattle.aig_circuit.specs.declared.circuit.Gate.{Gate}
+use Rattle.aig_circuit.specs.Wellformed.{IsAmong, AreDistinct, operands, IsKnown, IsWellFormed, defined_variables}
+use Rattle.aig_circuit.specs.Wellformed.{literal_lists}
 use Rattle.aig_circuit.specs.declared.circuit.Circuit.{Circuit}
 use Rattle.aig_circuit.specs.declared.value.Val.{Val}
-use Rattle.aig_circuit.specs.declared.value.Val.TheVariants.{Zero}
+use Rattle.aig_circuit.specs.declared.value.Val.TheVariants.{Zero, One, X}
 use Rattle.aig_circuit.specs.Literal.{variable_of}
 use Rattle.aig_circuit.specs.Values.{value_and, value_not}
-use Rattle.aig_circuit.specs.Wellformed.{IsAmong, IsWellFormed, defined_variables, operands}
-use Rattle.aig_topo.proofs.Ordering.Counted.{among_either}
-use Rattle.aig_meaning.specs.Meaning.{IsStepAssignment, latch_variables, literal_value}
-use Rattle.aig_meaning.proofs.Lists.{gate_named, variables_of}
-use Rattle.aig_meaning.proofs.Known.{AreDefined, IsDefined, known_operands}
+use Rattle.aig_circuit.proofs.Checking.{front, back, each_of}
+use Rattle.aig_topo.proofs.Ordering.Cyclic.{among_last}
+use Rattle.aig_topo.proofs.Ordering.Counted.{among_first as among_front, among_either}
+use Rattle.aig_meaning.specs.Meaning.{next_literals, IsStepAssignment, latch_variables, literal_value}
+use Rattle.aig_meaning.specs.Completion.{IsCompleted, Stays}
+
+pub distinct_front : (xs ys : List ℕ) → AreDistinct (xs ++ ys) → AreDistinct xs
+distinct_front [] ys d = tt
+distinct_front (x ∷ xs) ys d = (λ a. d.0 (among_front x xs ys a), distinct_front xs ys d.1)
+
+-- where two lists joined are distinct, what stands in the first does not stand in the second
+pub distinct_apart : (xs ys : List ℕ) → AreDistinct (xs ++ ys) → (v : ℕ) → IsAmong v xs → ¬ IsAmong v ys
+distinct_apart [] ys d v a = absurd a
+distinct_apart (x ∷ xs) ys d v a =
+    λ b. ⊎_elim (λ (e : v ≡ x). d.0 (among_last xs ys x (subst (λ z. IsAmong z ys) e b)))
+    (λ (i : IsAmong v xs). distinct_apart xs ys d.1 v i b) a
+
+-- functions that are the same on a list's numbers make the same list of them
+pub map_same : {X : Type 0} (f g : ℕ → X) (xs : List ℕ) → ((x : ℕ) → IsAmong x xs → f x ≡ g x) → map f xs ≡ map g xs
+map_same f g [] same = refl
+map_same f g (x ∷ xs) same = ap₂ (λ y ys. y ∷ ys) (same x (inl refl)) (map_same f g xs (λ y i. same y (inr i)))
+
+-- what holds of all operands holds of those of each gate
+pub of_operands : (P : ℕ → Type 0) (gates : List Gate) → AllByRecursion P (flat_map operands gates)
+    → (g : Gate) → Contains gates g → P g.left × P g.right
+of_operands P gates all g g_in = at_place gates all g_in.0 g_in.1 g_in.2 where
+  at_place : (gs : List Gate) → AllByRecursion P (flat_map operands gs) → (i : ℕ) → i < length gs → get_or gs i g ≡ g
+      → P g.left × P g.right
+  at_place [] each i below is = absurd (omega arith)
+  at_place (x ∷ xs) each zero below is = subst (λ (z : Gate). P z.left × P z.right) is (each.0, each.1.0)
+  at_place (x ∷ xs) each (suc i) below is = at_place xs each.1.1 i (omega arith) is
+
+abbrev pub variables_of : List Gate → List ℕ
+variables_of gates = map (λ (g : Gate). g.var) gates
+
+pub contained_later : (x : Gate) (xs : List Gate) (g : Gate) → Contains xs g → Contains (x ∷ xs) g
+contained_later x xs g c = (suc c.0, omega (arith, c.1), c.2)
+
+-- the gate that defines a variable
+pub gate_named : (v : ℕ) (gates : List Gate) → IsAmong v (variables_of gates)
+    → (g : Gate) × Contains gates g × (v ≡ g.var)
+gate_named v [] a = absurd a
+gate_named v (x ∷ xs) a =
+    ⊎_elim (λ (e : v ≡ x.var). (x, (zero, omega arith, refl), e))
+    (λ (b : IsAmong v (variables_of xs)). let n = gate_named v xs b in (n.0, contained_later x xs n.0 n.1, n.2)) a
+
+module _ {X : Type 0} where
+  pub each_equal : (xs ys : List X) → AllZip (λ x y. x ≡ y) xs ys → xs ≡ ys
+  each_equal [] [] e = refl
+  each_equal [] (y ∷ ys) e = absurd e
+  each_equal (x ∷ xs) [] e = absurd e
+  each_equal (x ∷ xs) (y ∷ ys) e = ap₂ (λ z zs. z ∷ zs) e.0 (each_equal xs ys e.1)
+
+  pub equal_each : (xs : List X) → AllZip (λ x y. x ≡ y) xs xs
+  equal_each [] = tt
+  equal_each (x ∷ xs) = (refl, equal_each xs)
+
+-- a relation of two lists that another one follows from
+pub all_zip_weaker : {X Y : Type 0} (R Q : X → Y → Type 0) → ((x : X) (y : Y) → R x y → Q x y)
+    → (xs : List X) (ys : List Y) → AllZip R xs ys → AllZip Q xs ys
+all_zip_weaker R Q weaker [] [] all = tt
+all_zip_weaker R Q weaker [] (y ∷ ys) all = absurd all
+all_zip_weaker R Q weaker (x ∷ xs) [] all = absurd all
+all_zip_weaker R Q weaker (x ∷ xs) (y ∷ ys) all = (weaker x y all.0, all_zip_weaker R Q weaker xs ys all.1)
+
+-- The literals that a well-formed circuit uses are known, list by list.
+
+-- a literal that the circuit defines, or a constant
+abbrev pub IsDefined : Circuit → ℕ → Type 0
+IsDefined c literal = IsKnown (defined_variables c) literal
+
+abbrev pub AreDefined : Circuit → List ℕ → Type 0
+AreDefined c literals = AllByRecursion (IsDefined c) literals
+
+module _ (c : Circuit) (formed : IsWellFormed c) where
+  outside_gates : AreDefined c (next_literals c ++ concat (literal_lists c))
+  outside_gates =
+      front (IsDefined c) (next_literals c ++ concat (literal_lists c)) (flat_map operands c.gates) formed.known
+
+  pub known_next : AreDefined c (next_literals c)
+  known_next = front (IsDefined c) (next_literals c) (concat (literal_lists c)) outside_gates
+
+  known_lists : AllByRecursion (AreDefined c) (literal_lists c)
+  known_lists =
+      each_of (IsDefined c) (literal_lists c)
+      (back (IsDefined c) (next_literals c) (concat (literal_lists c)) outside_gates)
+
+  pub known_outputs : AreDefined c c.outputs
+  known_outputs = known_lists.0
+
+  pub known_bad : AreDefined c c.bad
+  known_bad = known_lists.1.0
+
+  pub known_constraints : AreDefined c c.constraints
+  known_constraints = known_lists.1.1.0
+
+  pub known_operands : (g : Gate) → Contains c.gates g → IsDefined c g.left × IsDefined c g.right
+  known_operands g g_in =
+      of_operands (IsDefined c) c.gates
+      (back (IsDefined c) (next_literals c ++ concat (literal_lists c)) (flat_map operands c.gates) formed.known) g g_in
+
+-- What holds between the values that two assignments give to inputs and latches holds between all their values, where
+-- `not` and `and` keep it.
 
 -- a relation that the operations keep
 pub record IsKept (R : Val → Val → Type 0) : Type 0 where
@@ -98,3 +196,51 @@ module _ (R : Val → Val → Type 0) (kept : IsKept R) (a b : ℕ → Val) wher
         → AllZip R (map (literal_value a) literals) (map (literal_value b) literals)
     of_literals [] known = tt
     of_literals (l ∷ ls) known = (of_known l known.0 (of_gates (variable_of l)), of_literals ls known.1)
+
+-- Two step assignments of the same state and inputs agree on all that the circuit defines.
+
+-- assignments that agree on a literal's variable agree on the literal
+pub same_literal : (a b : ℕ → Val) (literal : ℕ) → a (variable_of literal) ≡ b (variable_of literal)
+    → literal_value a literal ≡ literal_value b literal
+same_literal a b literal e = ap (λ v. cond (eqb (literal % 2) 0) v (value_not v)) e
+
+equal_is_kept : IsKept (λ x y. x ≡ y)
+equal_is_kept = record { at_zero = refl; by_not = λ x y e. ap value_not e; by_and = λ x y z w e d. ap₂ value_and e d }
+
+module _ (c : Circuit) (state given : List Val) (a b : ℕ → Val) (formed : IsWellFormed c)
+    (is_a : IsStepAssignment c state given a) (is_b : IsStepAssignment c state given b) where
+  pub assignments_agree : (v : ℕ) → IsAmong v (defined_variables c) → a v ≡ b v
+  assignments_agree v among =
+      everywhere (λ x y. x ≡ y) equal_is_kept a b c formed state state given given (equal_each state) (equal_each given)
+      is_a is_b v among
+
+  pub literals_agree : (literals : List ℕ) → AreDefined c literals
+      → map (literal_value a) literals ≡ map (literal_value b) literals
+  literals_agree literals known = search (rules, each_equal, of_literals, equal_is_kept, equal_each)
+
+-- `not` and `and` keep known values: where more is known of their operands, what was known of the result stays.
+not_stays : (x y : Val) → Stays x y → Stays (value_not x) (value_not y)
+not_stays Zero y r = ap value_not r
+not_stays One y r = ap value_not r
+not_stays X y r = tt
+
+and_zero : (x : Val) → value_and x Zero ≡ Zero
+and_zero Zero = refl
+and_zero One = refl
+and_zero X = refl
+
+and_stays : (x y z w : Val) → Stays x y → Stays z w → Stays (value_and x z) (value_and y w)
+and_stays Zero y z w r s = ap (λ v. value_and v w) r
+and_stays One y z w r s = subst (λ v. Stays z (value_and v w)) (sym r) s
+and_stays X y Zero w r s = ap (value_and y) s ∙ and_zero y
+and_stays X y One w r s = tt
+and_stays X y X w r s = tt
+
+pub staying_is_kept : IsKept Stays
+staying_is_kept = record { at_zero = refl; by_not = not_stays; by_and = and_stays }
+
+-- a value that is completed stays
+pub completed_stays : (x y : Val) → IsCompleted x y → Stays x y
+completed_stays Zero y r = r
+completed_stays One y r = r
+completed_stays X y r = tt

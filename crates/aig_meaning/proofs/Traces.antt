@@ -1,23 +1,138 @@
--- Traces: there is one, they go on row by row, circuits that mean the same have the same, and known values stay.
-use Rattle.std.proofs.Common.{rules}
-use Rattle.std.proofs.Common.{◌≡◌, List, [], ◌∷◌, ◌++◌, length, map, refl, sym, ap₂, subst, ◌∙◌}
+-- Rows and traces: there is one of each, circuits that mean the same have the same, and known values stay.
+use Rattle.std.proofs.Common.{◌≡◌, ◌∙◌, ◌∷◌, ◌++◌, rules, ℕ, List, length, map, sym, ap, refl, subst, [], ap₂}
 use Rattle.std.specs.List.{AllZip, AllByRecursion}
 use Rattle.std.proofs.lemmas.List.{length-map}
 use Rattle.std.proofs.lemmas.Slice.Zip.{AllZip-long}
-use Rattle.aig_circuit.specs.declared.circuit.Latch.{Latch}
 use Rattle.aig_circuit.specs.declared.circuit.Circuit.{Circuit}
-use Rattle.aig_circuit.specs.declared.circuit.Reset.{Reset}
-use Rattle.aig_circuit.specs.declared.circuit.Reset.TheVariants as resets
 use Rattle.aig_circuit.specs.declared.value.Val.{Val}
 use Rattle.aig_circuit.specs.Wellformed.{IsWellFormed}
-use Rattle.aig_meaning.specs.Meaning.{IsRow, Row}
-use Rattle.aig_meaning.specs.Trace.{Follow, IsFirstState, MayStartAt, reset_value, state_after}
+use Rattle.aig_circuit.specs.declared.circuit.Latch.{Latch}
+use Rattle.aig_circuit.specs.declared.circuit.Reset.{Reset}
+use Rattle.aig_circuit.specs.declared.circuit.Reset.TheVariants as resets
+use Rattle.aig_meaning.specs.Meaning.{IsRow, IsStepAssignment, Row, latch_variables, literal_value, next_literals}
+use Rattle.aig_meaning.specs.Meaning.{MeansTheSame}
 use Rattle.aig_meaning.specs.Completion.{RowStays, Stays}
-use Rattle.aig_meaning.specs.Laws.{CompletionsKeepKnownValues, KnownValuesStay, OneTrace, ResetStateIsFirst}
+use Rattle.aig_meaning.specs.Laws.{OneRow, CompletionsKeepKnownValues, KnownValuesStay, OneTrace, ResetStateIsFirst}
 use Rattle.aig_meaning.specs.Laws.{SameMeaningSameTraces, TraceGoesOn}
-use Rattle.aig_meaning.proofs.Lists.{all_zip_weaker}
-use Rattle.aig_meaning.proofs.Staying.{completed_stays}
-use Rattle.aig_meaning.proofs.Rows.{next_length, one_row, row_stays, rows_agree}
+use Rattle.aig_meaning.specs.Trace.{Follow, IsFirstState, MayStartAt, reset_value, state_after}
+use Rattle.aig_meaning.proofs.Related.{known_next, known_outputs, known_bad, known_constraints, of_literals}
+use Rattle.aig_meaning.proofs.Related.{literals_agree, staying_is_kept, all_zip_weaker, completed_stays}
+use Rattle.aig_meaning.proofs.Existing.{one_step_assignment}
+
+abbrev pub row_of : List Val → List Val → List Val → List Val → List Val → List Val → Row
+row_of state inputs outputs next bad constraints = record {
+  state = state;
+  inputs = inputs;
+  outputs = outputs;
+  next = next;
+  bad = bad;
+  constraints = constraints;
+}
+
+-- rows that are the same list by list
+pub same_row : (r s : Row) → r.state ≡ s.state → r.inputs ≡ s.inputs → r.outputs ≡ s.outputs → r.next ≡ s.next
+    → r.bad ≡ s.bad → r.constraints ≡ s.constraints → r ≡ s
+same_row r s of_state of_inputs of_outputs of_next of_bad of_constraints = search rules
+
+-- the row that an assignment shows
+abbrev pub row_shown : Circuit → (ℕ → Val) → Row
+row_shown c a =
+    row_of (map a (latch_variables c)) (map a c.inputs) (map (literal_value a) c.outputs)
+    (map (literal_value a) (next_literals c)) (map (literal_value a) c.bad) (map (literal_value a) c.constraints)
+
+shown_is_row : (c : Circuit) (state given : List Val) (a : ℕ → Val) → IsStepAssignment c state given a
+    → IsRow c (row_shown c a)
+shown_is_row c state given a is = search rules
+
+-- the lists of a row are as long as the circuit's
+module _ (c : Circuit) (row : Row) (is : IsRow c row) where
+  pub state_length : length row.state ≡ length c.latches
+  state_length = search (rules, length-map)
+
+  pub inputs_length : length row.inputs ≡ length c.inputs
+  inputs_length = ap length (sym is.1.assigned.inputs) ∙ length-map c.inputs is.0
+
+  pub next_length : length row.next ≡ length c.latches
+  next_length = search (rules, length-map)
+
+  pub bad_length : length row.bad ≡ length c.bad
+  bad_length = ap length is.1.bad_shown ∙ length-map c.bad (literal_value is.0)
+
+  pub constraints_length : length row.constraints ≡ length c.constraints
+  constraints_length = ap length is.1.constraints_shown ∙ length-map c.constraints (literal_value is.0)
+
+module _ (c : Circuit) (formed : IsWellFormed c) where
+  -- two rows of the same state and inputs are the same
+  rows_agree : (r s : Row) → r.state ≡ s.state → r.inputs ≡ s.inputs → IsRow c r → IsRow c s → r ≡ s
+  rows_agree r s of_state of_inputs is_r is_s =
+      search (rules, literals_agree, same_row, known_outputs, known_next, known_bad, known_constraints)
+
+  -- where more is known of the state and the inputs, all that was known of the row stays
+  row_stays : (r s : Row) → AllZip Stays r.state s.state → AllZip Stays r.inputs s.inputs → IsRow c r → IsRow c s
+      → RowStays r s
+  row_stays r s of_state of_inputs is_r is_s =
+      search (rules, of_literals, staying_is_kept, known_outputs, known_next, known_bad, known_constraints)
+
+pub one_row : OneRow
+one_row c state given formed as_long as_long_too =
+    let a = one_step_assignment c state given formed as_long as_long_too in
+    let row = row_shown c a.0 in
+    let is : IsRow c row = shown_is_row c state given a.0 a.1 in (
+      row,
+      a.1.latches,
+      a.1.inputs,
+      is,
+      λ other of_state of_inputs is_other.
+          rows_agree c formed other row (of_state ∙ sym a.1.latches) (of_inputs ∙ sym a.1.inputs) is_other is,
+    )
+
+-- Circuits that mean the same: each circuit does with itself, both ways and over a third; and rows one way suffice.
+pub means_itself : (c : Circuit) → MeansTheSame c c
+means_itself c = record { inputs = refl; resets = refl; rows = λ row. (λ is. is, λ is. is) }
+
+pub same_back : (c d : Circuit) → MeansTheSame c d → MeansTheSame d c
+same_back c d same = record {
+  inputs = sym same.inputs;
+  resets = sym same.resets;
+  rows = λ row. ((same.rows row).1, (same.rows row).0);
+}
+
+pub same_through : (c d e : Circuit) → MeansTheSame c d → MeansTheSame d e → MeansTheSame c e
+same_through c d e same same_too = record {
+  inputs = same_too.inputs ∙ same.inputs;
+  resets = same_too.resets ∙ same.resets;
+  rows = λ row. (
+    λ is. (same_too.rows row).0 ((same.rows row).0 is),
+    λ is. (same.rows row).1 ((same_too.rows row).1 is),
+  );
+}
+
+-- latches that start alike are as many
+latches_length : (c d : Circuit)
+    → map (λ (l : Latch). l.reset) d.latches ≡ map (λ (l : Latch). l.reset) c.latches
+    → length d.latches ≡ length c.latches
+latches_length c d resets = search (rules, length-map)
+
+-- Where each row of d is a row of c, each row of c is one of d too: d has a row of the same state and inputs, that one
+-- is a row of c, and c has no second one.
+pub same_by_rows : (c d : Circuit) → IsWellFormed c → IsWellFormed d → length d.inputs ≡ length c.inputs
+    → map (λ (l : Latch). l.reset) d.latches ≡ map (λ (l : Latch). l.reset) c.latches
+    → ((row : Row) → IsRow d row → IsRow c row) → MeansTheSame c d
+same_by_rows c d formed formed_too inputs resets carried = record {
+  inputs = inputs;
+  resets = resets;
+  rows = λ row. (
+    λ is.
+        let there = one_row d row.state row.inputs formed_too
+        (state_length c row is ∙ sym (latches_length c d resets)) (inputs_length c row is ∙ sym inputs) in
+        let same : there.0 ≡ row =
+        rows_agree c formed there.0 row there.1 there.2 (carried there.0 there.3) is in
+        subst (λ (r : Row). IsRow d r) same there.3,
+    carried row,
+  );
+}
+
+-- Traces: there is one, they go on row by row, circuits that mean the same have the same, and known values stay.
 
 -- a first state has a value for each latch
 pub first_length : (c : Circuit) (first : List Val) → IsFirstState c first → length first ≡ length c.latches
@@ -42,7 +157,7 @@ module _ (c : Circuit) (formed : IsWellFormed c) where
       (subst (λ (z : Row). Follow c z.next vs ss) (sym same) follow_too.3))
 
   -- some rows follow any vectors of inputs from any state
-  pub rows_to_follow : (state : List Val) (vectors : List (List Val)) → length state ≡ length c.latches
+  rows_to_follow : (state : List Val) (vectors : List (List Val)) → length state ≡ length c.latches
       → AllByRecursion (λ (vector : List Val). length vector ≡ length c.inputs) vectors
       → (rows : List Row) × Follow c state vectors rows
   rows_to_follow state [] as_long each_as_long = ([], tt)
@@ -97,7 +212,7 @@ reset_state_is_first c = all_start c.latches where
   all_start (l ∷ ls) = (may_start_at_reset l.reset, all_start ls)
 
 -- rows that follow are followed by any row from the state in which they ended
-pub follow_on : (c : Circuit) (state : List Val) (vectors : List (List Val)) (rows : List Row) (row : Row)
+follow_on : (c : Circuit) (state : List Val) (vectors : List (List Val)) (rows : List Row) (row : Row)
     → Follow c state vectors rows → row.state ≡ state_after state rows → IsRow c row
     → Follow c state (vectors ++ (row.inputs ∷ [])) (rows ++ (row ∷ []))
 follow_on c state [] [] row follow from is = (from, refl, is, tt)

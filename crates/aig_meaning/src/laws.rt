@@ -1,6 +1,8 @@
 //! Laws: facts about the definitions alone, each the contract of a function with an empty body.
-ghost use Rattle.aig_meaning.specs.Laws.{OneStepAssignment, OneRow, OneTrace, ResetStateIsFirst, TraceGoesOn};
-ghost use Rattle.aig_meaning.specs.Laws.{SameMeaningSameTraces, KnownValuesStay, CompletionsKeepKnownValues};
+ghost use Rattle.aig_meaning.specs.Laws.{OneStepAssignment, OneRow, OneTrace};
+ghost use Rattle.aig_meaning.specs.Laws.{ResetStateIsFirst, TraceGoesOn};
+ghost use Rattle.aig_meaning.specs.Laws.{SameMeaningSameTraces, KnownValuesStay};
+ghost use Rattle.aig_meaning.specs.Laws.{CompletionsKeepKnownValues};
 
 /// A well-formed circuit has exactly one step assignment for each state and each vector of inputs.
 #[tactic(auto, using(crate::proofs::Existing::one_step_assignment))]
@@ -9,7 +11,7 @@ pub fn one_step_assignment()
 {}
 
 /// A well-formed circuit has exactly one row for each state and each vector of inputs.
-#[tactic(auto, using(crate::proofs::Rows::one_row))]
+#[tactic(auto, using(crate::proofs::Traces::one_row))]
 pub fn one_row()
     ensures { OneRow }
 {}

@@ -6,11 +6,10 @@ use Rattle.aig_meaning.proofs.Traces.{same_meaning_same_traces}
 use Rattle.aig_image.specs.Image.{image_by}
 use Rattle.aig_image.specs.Renamed.{IsRenamed}
 use Rattle.aig_image.specs.Renumbering.{in_new_order, renumbered}
-use Rattle.aig_image.proofs.Meaning.Renamed.{renamed_means_the_same}
-use Rattle.aig_image.proofs.Meaning.Images.{image_is_renamed, renamed_with_comment}
+use Rattle.aig_image.proofs.Meaning.{renamed_means_the_same, image_is_renamed, renamed_with_comment}
 use Rattle.aig_map.specs.MapBlock.{mapped_by}
 use Rattle.aig_order.specs.Laws.{MappedImageKeepsTraces, MappedImageMeansTheSame, UndoneKeepsTraces, UndoneMeansTheSame}
-use Rattle.aig_map.proofs.Mapping.MappedOrder.{mapped_image_is_ordered}
+use Rattle.aig_map.proofs.Mapping.{mapped_image_is_ordered}
 
 pub mapped_image_means_the_same : MappedImageMeansTheSame
 mapped_image_means_the_same c image good (order, least, is) =

@@ -11,7 +11,7 @@ pub use aig_image::laws::{
 };
 
 /// A well-formed circuit has exactly one mapped image, which is well formed and in binary order.
-#[tactic(auto, using(aig_map::proofs::Mapping::MappedOrder::mapped_image_is_one))]
+#[tactic(auto, using(aig_map::proofs::Mapping::mapped_image_is_one))]
 pub fn mapped_image_is_one()
     ensures { MappedImageIsOne }
 {}
@@ -21,13 +21,14 @@ pub fn undoing_recovers()
     ensures { UndoingRecovers }
 {}
 
-/// What a circuit is undone from is its mapped image, and no two well-formed circuits have one mapped image.
+/// What a circuit is undone from is its mapped image, and no two well-formed circuits have one
+/// mapped image.
 pub fn only_mapped_images_are_undone()
     ensures { OnlyMappedImagesAreUndone }
 {}
 
-/// A map block is read of a circuit exactly if its text stands at the front of the circuit's comment, its numbers are
-/// within bounds, and its counts are those of the circuit.
+/// A map block is read of a circuit exactly if its text stands at the front of the circuit's
+/// comment, its numbers are within bounds, and its counts are those of the circuit.
 pub fn blocks_are_read_exactly()
     ensures { BlocksAreReadExactly }
 {}

@@ -16,8 +16,8 @@ use aig_image::{Labels, Renumbering, relabel, sort_operands};
 use aig_map::{KeptVariables, keep_variables, map_comment, new_map_comment};
 use std::alloc::Global;
 
-/// What labels each variable with itself. One that is too large for a literal, as no circuit has any, gets the largest
-/// one that is not.
+/// What labels each variable with itself. One that is too large for a literal, as no circuit has
+/// any, gets the largest one that is not.
 struct SameVariables;
 
 impl Labels for SameVariables {
@@ -29,7 +29,6 @@ impl Labels for SameVariables {
     }
 }
 
-/// The circuit with this comment.
 fn with_comment(circuit: Circuit, comment: Listing<u8>) -> Circuit
     ensures { result ≡ record circuit { comment = Some comment } }
 {
@@ -39,15 +38,14 @@ fn with_comment(circuit: Circuit, comment: Listing<u8>) -> Circuit
     }
 }
 
-/// The mapped image of a circuit that is in binary order, or is but for the operands of gates: its map is all that is
-/// added, since it has the numbers of its image.
+/// The map is all that is added, since the circuit has the numbers of its image.
 fn with_map_alone(alloc: Global, circuit: Circuit) -> Result<Ordered, OutOfMemory>
     requires good { IsWellFormed circuit }
     requires numbered { IsNumberedInOrder circuit }
     ensures { IfOk result (λ o. IsMappedImage circuit o) }
 {
     let Ok(comment) = map_comment(alloc, &SameVariables, &circuit) else {
-        drop(circuit);
+        drop(circuit); // for the proof
         return Err(OutOfMemory);
     };
     let gates = sort_operands(circuit.gates);
@@ -55,7 +53,7 @@ fn with_map_alone(alloc: Global, circuit: Circuit) -> Result<Ordered, OutOfMemor
     Ok(Ordered::from_well_ordered(sorted))
 }
 
-/// The circuit by its new numbers, its operands as they stand. The numbers are let go.
+/// The numbers are let go.
 fn by_numbers(renumbering: Renumbering, circuit: Circuit) -> Circuit
     requires { FitIntoLiterals (number_of renumbering.numbers) }
     ensures { result ≡ relabelled (number_of renumbering.numbers) circuit }
@@ -63,7 +61,6 @@ fn by_numbers(renumbering: Renumbering, circuit: Circuit) -> Circuit
     relabel(renumbering.numbers(), circuit)
 }
 
-/// The circuit with the larger operand of each gate first and this comment, its largest index that of all it defines.
 fn sorted_with(circuit: Circuit, comment: Listing<u8>) -> Circuit
     requires { length circuit.inputs + length circuit.latches + length circuit.gates ≤ LARGEST }
     ensures { result ≡ record (with_operands_sorted circuit) {
@@ -79,8 +76,8 @@ fn sorted_with(circuit: Circuit, comment: Listing<u8>) -> Circuit
     with_comment(sorted, comment)
 }
 
-/// The mapped image of a circuit whose gates stand in order. What the map records is read off the circuit by its new
-/// numbers, so that these are looked up once, and let go before there is a text.
+/// What the map records is read off the circuit by its new numbers, so that these are looked up
+/// once, and let go before there is a text.
 fn image_in_order(
     alloc: Global,
     variables: &KeptVariables,
@@ -95,13 +92,13 @@ fn image_in_order(
 {
     let new = by_numbers(renumbering, circuit);
     let Ok(comment) = new_map_comment(alloc, variables, &new) else {
-        drop(new);
+        drop(new); // for the proof
         return Err(OutOfMemory);
     };
     Ok(Ordered::from_well_ordered(sorted_with(new, comment)))
 }
 
-/// The mapped image of a circuit whose gates stand in order; its variables are kept while it gets its new numbers.
+/// The mapped image of a circuit whose gates stand in order; its variables are kept meanwhile.
 fn image_by_kept_order(
     alloc: Global,
     renumbering: Renumbering,
@@ -113,12 +110,12 @@ fn image_by_kept_order(
     ensures { IfOk result (λ o. IsMappedImage circuit o) }
 {
     let Ok(variables) = keep_variables(alloc, &circuit) else {
-        drop(renumbering);
-        drop(circuit);
+        drop(renumbering); // for the proof
+        drop(circuit); // for the proof
         return Err(OutOfMemory);
     };
     let image = image_in_order(alloc, &variables, renumbering, circuit);
-    drop(variables);
+    drop(variables); // for the proof
     image
 }
 
@@ -133,14 +130,13 @@ fn image_by_order(
     ensures { IfOk result (λ o. IsMappedImage circuit o) }
 {
     let Ok(comment) = map_comment(alloc, renumbering.numbers(), &circuit) else {
-        drop(renumbering);
-        drop(circuit);
+        drop(renumbering); // for the proof
+        drop(circuit); // for the proof
         return Err(OutOfMemory);
     };
     Ok(renumbering.image(with_comment(circuit, comment)))
 }
 
-/// The mapped image of a circuit that gets new numbers.
 fn renumbered_with_map(
     alloc: Global,
     renumbering: Renumbering,
@@ -157,8 +153,6 @@ fn renumbered_with_map(
     }
 }
 
-/// The mapped image of a circuit that is no longer needed. What can fail while it is owned stands in a function of its
-/// own: the proof of one goes through all that is dropped on each way out.
 fn into_mapped_image(alloc: Global, checked: Checked) -> Result<Ordered, OutOfMemory>
     ensures { IfOk result (λ o. IsMappedImage checked o) }
 {
@@ -166,22 +160,22 @@ fn into_mapped_image(alloc: Global, checked: Checked) -> Result<Ordered, OutOfMe
         return with_map_alone(alloc, checked.into_circuit());
     }
     let Ok(renumbering) = Renumbering::new(alloc, &checked) else {
-        drop(checked);
+        drop(checked); // for the proof
         return Err(OutOfMemory);
     };
     renumbered_with_map(alloc, renumbering, checked.into_circuit())
 }
 
-/// The mapped image of a circuit: its binary image, with a map block at the front of the comment, by which `undo`
-/// restores the circuit. It fails only if an allocation fails.
+/// The mapped image of a circuit: its binary image, with a map block at the front of the comment,
+/// by which `undo` restores the circuit. It fails only if an allocation fails.
 pub fn to_binary_with_map(alloc: Global, checked: &Checked) -> Result<Ordered, OutOfMemory>
     ensures { IfOk result (λ o. IsMappedImage checked.now o) }
 {
     into_mapped_image(alloc, checked.copy(alloc)?)
 }
 
-/// The mapped image of a circuit that is no longer needed, in the circuit's own memory. It fails only if an allocation
-/// fails.
+/// The mapped image of a circuit that is no longer needed, in the circuit's own memory. It fails
+/// only if an allocation fails.
 pub fn into_binary_with_map(alloc: Global, checked: Checked) -> Result<Ordered, OutOfMemory>
     ensures { IfOk result (λ o. IsMappedImage checked o) }
 {

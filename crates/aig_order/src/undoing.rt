@@ -2,13 +2,15 @@
 ghost use Rattle.std.specs.Prelude.{◌≡◌, ◌↔◌, ◌⊎◌, IfOk, IfErr, IsTrue, MatchResult, Ok, OnOk};
 ghost use Rattle.aig_circuit.specs.declared.circuit.Circuit.{Circuit as CircuitRecord};
 ghost use Rattle.aig_circuit.specs.Wellformed.{AreDistinct, IsWellFormed, defined_variables};
-ghost use Rattle.aig_map.specs.declared.fault.MapFault.TheVariants.{Forged as IsForged, OutOfMemory as IsOutOfMemory};
+ghost use Rattle.aig_map.specs.declared.fault.MapFault.TheVariants.{Forged as IsForged};
+ghost use Rattle.aig_map.specs.declared.fault.MapFault.TheVariants.{OutOfMemory as IsOutOfMemory};
 ghost use Rattle.aig_checked.specs.BinaryOrder.{IsInBinaryOrder};
 ghost use Rattle.aig_map.specs.MapBlock.{IsMappedImage};
 ghost use Rattle.aig_map.specs.MapReading.{block_reading};
 ghost use Rattle.aig_map.specs.Parts.Confirmed.{ExchangesDiffer};
 ghost use Rattle.aig_map.specs.Parts.Tables.{block_read, source_read, IsBlockOf};
-ghost use Rattle.aig_map.specs.Undone.{IsMapFault, IsUndoneFrom, comment_behind, source_variables, undone};
+ghost use Rattle.aig_map.specs.Undone.{IsMapFault, IsUndoneFrom, comment_behind};
+ghost use Rattle.aig_map.specs.Undone.{source_variables, undone};
 
 use aig_core::{Checked, Circuit, OutOfMemory, is_defined_once, is_in_binary_order};
 use aig_map::{
@@ -17,29 +19,28 @@ use aig_map::{
 };
 use std::alloc::Global;
 
-/// The source, which is forged where it is not well formed. Nothing else can be wrong with it than that a variable is
-/// defined twice.
+/// Nothing else can be wrong with the source than that a variable is defined twice.
 fn check_source(alloc: Global, source: Circuit) -> Result<Checked, MapFault>
     requires { AreDistinct (defined_variables source) → IsWellFormed source }
     ensures ok { IfOk result (λ c. c ≡ source) }
     ensures formed { OnOk result (IsWellFormed source) }
-    ensures err { IfErr result (λ e. (e ≡ IsOutOfMemory) ⊎ ((e ≡ IsForged) × (¬ IsWellFormed source))) }
+    ensures err { IfErr result (λ e. (e ≡ IsOutOfMemory)
+        ⊎ ((e ≡ IsForged) × (¬ IsWellFormed source))) }
 {
     match is_defined_once(alloc, &source) {
         Ok(true) => Ok(Checked::from_well_formed(source)),
         Ok(false) => {
-            drop(source);
+            drop(source); // for the proof
             Err(MapFault::Forged)
         }
         Err(_) => {
-            drop(source);
+            drop(source); // for the proof
             Err(MapFault::OutOfMemory)
         }
     }
 }
 
-/// Whether this is the mapped image of the circuit that its block gives, if that one is well formed. The image is not
-/// made again to compare: the block is checked by itself.
+/// The image is not made again to compare: the block is checked by itself.
 fn has_image(
     alloc: Global,
     image: &Checked,
@@ -50,7 +51,8 @@ fn has_image(
     requires block { IsBlockOf image.now recorded.now places.now comment.now }
     requires differ { ExchangesDiffer (block_read image.now) image.now }
     ensures { IsWellFormed (source_read image.now comment.now)
-        → IfOk result (λ is. IsTrue is ↔ IsMappedImage (source_read image.now comment.now) image.now) }
+        → IfOk result (λ is. IsTrue is
+        ↔ IsMappedImage (source_read image.now comment.now) image.now) }
 {
     let circuit = image.circuit();
     if !tells_comment(recorded, comment) {
@@ -59,7 +61,6 @@ fn has_image(
     tells_order(alloc, places, circuit)
 }
 
-/// The source, which is forged where it is well formed and its mapped image is another circuit than this one.
 fn confirm_source(
     alloc: Global,
     source: Circuit,
@@ -79,19 +80,16 @@ fn confirm_source(
     match has_image(alloc, image, recorded, places, comment) {
         Ok(true) => Ok(source),
         Ok(false) => {
-            drop(source);
+            drop(source); // for the proof
             Err(MapFault::Forged)
         }
         Err(_) => {
-            drop(source);
+            drop(source); // for the proof
             Err(MapFault::OutOfMemory)
         }
     }
 }
 
-/// The source by the block that was read, if it is well formed; by its variables in their new order, the positions of
-/// gates there, place by place, and what else the block recorded. Nothing else can be wrong with it than that a
-/// variable is defined twice.
 fn source_by_places(
     alloc: Global,
     image: &Checked,
@@ -114,9 +112,8 @@ fn source_by_places(
     confirm_source(alloc, source, image, recorded, places, comment)
 }
 
-/// The source by the block that was read, if it is well formed. The block is let go before there are gates of the
-/// source, and the tables that are made of it at the end: to find out whether the source defines a variable twice takes
-/// memory of its own.
+/// The block is let go before there are gates of the source, and the tables that are made of it at
+/// the end: to find out whether the source defines a variable twice takes memory of its own.
 fn source_by_block(
     alloc: Global,
     image: &Checked,
@@ -151,7 +148,6 @@ fn source_by_block(
     }
 }
 
-/// The circuit that is undone by the block that was read, where there is one.
 fn undo_by_block(
     alloc: Global,
     image: &Checked,
@@ -169,7 +165,6 @@ fn undo_by_block(
     }
 }
 
-/// The circuit whose mapped image this is, or why there is none.
 #[tactic(auto, using(aig_map::proofs::Sources::Refused::unread))]
 fn recover(alloc: Global, image: &Checked) -> Result<Checked, MapFault>
     ensures ok { IfOk result (λ c. IsUndoneFrom image.now c) }
@@ -184,9 +179,9 @@ fn recover(alloc: Global, image: &Checked) -> Result<Checked, MapFault>
     }
 }
 
-/// The circuit whose mapped image this is. The errors are, in this order: the argument is not in binary order, has no
-/// map block, has one that is not of its form, or is the mapped image of no circuit. Of a mapped image it fails only if
-/// an allocation fails.
+/// The circuit whose mapped image this is. The errors are, in this order: the argument is not in
+/// binary order, has no map block, has one that is not of its form, or is the mapped image of no
+/// circuit. Of a mapped image it fails only if an allocation fails.
 pub fn undo(alloc: Global, image: &Checked) -> Result<Checked, MapFault>
     ensures ok { IfOk result (λ c. IsUndoneFrom image.now c) }
     ensures only { (c : CircuitRecord) → IsUndoneFrom image.now c

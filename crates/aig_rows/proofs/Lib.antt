@@ -3,4 +3,3 @@ pub mod Grammar
 pub mod Kept
 pub mod Loops
 pub mod Canonical
-pub mod Taken

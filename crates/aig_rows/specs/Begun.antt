@@ -1,6 +1,6 @@
 -- Rows of which the first were read, while more lines may come (this project's profile).
 use Rattle.std.specs.Prelude.{◌≡◌, ◌-◌, ◌≤◌, ◌++◌, ℕ, List, [], ◌∷◌, map, slice_index, Ok}
-use Rattle.aig_rows.specs.Lines.{Ahead}
+use Rattle.aig_lines.specs.Lines.{Ahead}
 use Rattle.aig_rows.specs.Rows.{Role, Form}
 use Rattle.aig_rows.specs.Reading.{carried_on, rows_at}
 use Rattle.aig_rows.specs.declared.rows.Due.{Due}

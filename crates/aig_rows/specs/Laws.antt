@@ -1,31 +1,11 @@
 -- What the definitions of this crate say of one another.
-use Rattle.std.specs.Prelude.{◌≡◌, ◌≢◌, ◌≤◌, ◌↔◌, ℕ, List, [], ◌∷◌, length, true, false, Some, Result, Err}
-use Rattle.std.specs.List.{AllByRecursion}
+use Rattle.std.specs.Prelude.{◌≡◌, ◌≤◌, ◌↔◌, ℕ, List, length, Some, Result, Err}
 use Rattle.aig_rows.specs.declared.fault.ReadKind.{ReadKind}
 use Rattle.aig_rows.specs.declared.fault.ReadKind.TheVariants as kinds
-use Rattle.aig_rows.specs.Lines.{Line, lines_of, bytes_of}
+use Rattle.aig_lines.specs.Lines.{Line}
 use Rattle.aig_rows.specs.Rows.{Form, roles_of, row, IsRowLine}
 use Rattle.aig_rows.specs.Scanning.{numbers_at}
 use Rattle.aig_rows.specs.Reading.{fault_in_row, unless_wrong, row_of}
-
--- a line holds no line feed
-abbrev pub IsOneLine : Line → Type 0
-IsOneLine l = AllByRecursion (λ b. b ≢ 10) l.text
-
--- each line but the last has its line feed, and the last one has it or is not empty
-abbrev pub EndInLineFeeds : List Line → Type 0
-EndInLineFeeds [] = Unit {0}
-EndInLineFeeds (l ∷ []) = l.ended ≡ false → l.text ≢ []
-EndInLineFeeds (l ∷ m ∷ ls) = (l.ended ≡ true) × EndInLineFeeds (m ∷ ls)
-
--- the lines of a text are its pieces, cut behind each line feed
-pub record AreLines (text : List ℕ) (ls : List Line) : Type 0 where
-  pub joined : bytes_of ls ≡ text
-  pub one_each : AllByRecursion IsOneLine ls
-  pub ended : EndInLineFeeds ls
-
-abbrev pub LinesAreThePieces : Type 0
-LinesAreThePieces = (text : List ℕ) → AreLines text (lines_of text)
 
 -- the line holds these numbers as a row of this form, and none is missing
 abbrev pub HoldsRow : Form → Line → List ℕ → Type 0

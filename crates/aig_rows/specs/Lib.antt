@@ -1,4 +1,3 @@
-pub mod Lines
 pub mod Spelling
 pub mod Rows
 pub mod Scanning

@@ -15,6 +15,16 @@ number_text (Some n) = decimal n
 abbrev pub message_text : Message → List ℕ
 message_text m = m.before.now ++ (number_text m.number ++ m.after.now)
 
+-- what is said where memory is refused, and where a source or a sink fails
+abbrev pub out_of_memory_text : List ℕ
+out_of_memory_text = codes "out of memory"
+
+abbrev pub cannot_read_text : List ℕ
+cannot_read_text = codes "cannot read"
+
+abbrev pub cannot_write_text : List ℕ
+cannot_write_text = codes "cannot write"
+
 -- where a text is wrong
 abbrev pub place_text : Place → List ℕ
 place_text (Line n) = codes "line " ++ (decimal n ++ codes ": ")
@@ -38,7 +48,7 @@ kind_text kinds.SymbolTwice = codes "symbol given twice"
 kind_text (kinds.Redefined variable) = codes "variable " ++ (decimal variable ++ codes " defined twice")
 kind_text (kinds.Undefined literal) = codes "literal " ++ (decimal literal ++ codes " not defined")
 kind_text (kinds.Cyclic literal) = codes "gate " ++ (decimal literal ++ codes " depends on a cycle")
-kind_text kinds.OutOfMemory = codes "out of memory"
+kind_text kinds.OutOfMemory = out_of_memory_text
 
 abbrev pub fault_text : ReadFault → List ℕ
 fault_text fault = place_text fault.place ++ kind_text fault.kind

@@ -6,7 +6,7 @@ use Rattle.aig_rows.specs.declared.fault.Place.TheVariants as places
 use Rattle.aig_rows.specs.declared.fault.ReadKind.{ReadKind}
 use Rattle.aig_rows.specs.declared.fault.ReadKind.TheVariants as kinds
 use Rattle.aig_rows.specs.declared.fault.ReadFault.{ReadFault}
-use Rattle.aig_rows.specs.Lines.{Line, Ahead, ahead}
+use Rattle.aig_lines.specs.Lines.{Line, Ahead, ahead}
 use Rattle.aig_rows.specs.Scanning.{numbers_at}
 use Rattle.aig_rows.specs.Rows.{Role, Form, roles_of}
 use Rattle.aig_rows.specs.declared.row.Role.TheVariants as roles

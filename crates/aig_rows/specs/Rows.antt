@@ -9,7 +9,7 @@ use Rattle.aig_circuit.specs.Literal.{literal_of, variable_of}
 pub use Rattle.aig_rows.specs.declared.row.Role.{Role}
 pub use Rattle.aig_rows.specs.declared.row.NextState.{NextState}
 use Rattle.aig_rows.specs.declared.row.Role.TheVariants as roles
-use Rattle.aig_rows.specs.Lines.{Line}
+use Rattle.aig_lines.specs.Lines.{Line}
 use Rattle.aig_rows.specs.Spelling.{IsNumberLine}
 
 -- What a line of a section has to hold: a number for each role, of which those behind the first may be left out down to

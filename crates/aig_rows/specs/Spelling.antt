@@ -3,7 +3,7 @@
 use Rattle.std.specs.Prelude.{◌≡◌, ◌+◌, ◌-◌, ◌*◌, ◌<◌, ◌≤◌, ◌==◌, ◌&&◌, ◌⊎◌, ℕ, List, [], ◌∷◌, ◌++◌, length, fold}
 use Rattle.std.specs.Prelude.{replicate, Bool, true, nat_le}
 use Rattle.std.specs.List.{AllByRecursion}
-use Rattle.aig_rows.specs.Lines.{Line}
+use Rattle.aig_lines.specs.Lines.{Line}
 
 abbrev pub is_digit : ℕ → Bool
 is_digit b = nat_le 48 b && nat_le b 57

@@ -3,7 +3,7 @@ ghost use Rattle.std.specs.Prelude.{◌≡◌, Some};
 ghost use Rattle.aig_rows.specs.Messages.{fault_text, kind_text, message_text, place_text};
 ghost use Rattle.aig_rows.specs.Reading.{want_of_memory};
 
-use crate::message::Message;
+use crate::message::{Message, OUT_OF_MEMORY};
 use aig_circuit::{Lit, Var};
 use std::alloc::{AllocError, AllocFailed};
 use std::error::Error;
@@ -107,7 +107,7 @@ impl ReadKind {
             ReadKind::Cyclic(literal) => {
                 Message::around("gate ", u64::from(literal.0), " depends on a cycle")
             }
-            ReadKind::OutOfMemory => Message::new("out of memory"),
+            ReadKind::OutOfMemory => Message::new(OUT_OF_MEMORY),
         }
     }
 }

@@ -1,10 +1,5 @@
 //! Laws: facts about the definitions alone, each the contract of a function with an empty body.
-ghost use Rattle.aig_rows.specs.Laws.{LinesAreThePieces, RowsReadExactly, RowsAreJudged};
-
-/// The lines of a text, joined, are the text; no line holds a line feed, and only the last may lack its own.
-pub fn lines_are_the_pieces()
-    ensures { LinesAreThePieces }
-{}
+ghost use Rattle.aig_rows.specs.Laws.{RowsReadExactly, RowsAreJudged};
 
 /// From left to right the numbers of a row are read exactly where the line holds that row, by the grammar.
 pub fn rows_read_exactly()

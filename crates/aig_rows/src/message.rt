@@ -6,6 +6,15 @@ ghost use Rattle.aig_rows.specs.Messages.{message_text, number_text};
 use aig_io::{Output, Sink};
 use std::fmt;
 
+/// What is said where memory was refused.
+pub const OUT_OF_MEMORY: &str = "out of memory";
+
+/// What is said where a source failed.
+pub const CANNOT_READ: &str = "cannot read";
+
+/// What is said where a sink failed.
+pub const CANNOT_WRITE: &str = "cannot write";
+
 /// A text that stands in the program, with a number in it or without one.
 #[derive(Drop)]
 pub struct Message {

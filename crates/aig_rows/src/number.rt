@@ -9,8 +9,8 @@ ghost use Rattle.aig_rows.specs.Parts.Plain.{BeginsWithNumber, EndsPlainly};
 ghost use Rattle.aig_rows.specs.Kept.{kept, kept_numbers, kept_first};
 ghost use Rattle.aig_rows.specs.Outcomes.{Gives};
 
-use crate::line::Line;
 use crate::word::{digits_of_word, first_word};
+use aig_lines::Line;
 use core::dec2flt::read_digits;
 
 /// Numbers from here on are all above each limit and above each literal that is carried from row to row, and only

@@ -2,7 +2,7 @@
 ghost use Rattle.std.specs.Prelude.{◌≡◌, ◌+◌, ◌*◌, ◌^◌, ◌<◌, ◌≤◌, ℕ, List, [], ◌∷◌, Ok, IfOk, IfSome, OnErr, length};
 ghost use Rattle.std.specs.Prelude.{slice_index, IsTrue, None};
 ghost use Rattle.aig_circuit.specs.Wellformed.{largest_index};
-ghost use Rattle.aig_rows.specs.Lines.{ahead, line as line_of, lines_of};
+ghost use Rattle.aig_lines.specs.Lines.{ahead, line as line_of, lines_of};
 ghost use Rattle.aig_rows.specs.Rows.{Form, input_form, latch_form, literal_form, size_form, gate_form, next_form};
 ghost use Rattle.aig_rows.specs.Rows.{input_of, latch_of, literal_in, size_of, gate_of, next_of, reset_of};
 ghost use Rattle.aig_rows.specs.Outcomes.{AreBounded, GivesOrFails, row_meant};
@@ -11,9 +11,9 @@ ghost use Rattle.aig_rows.specs.Reading.{any_number, fault_in_row, row_of, row_a
 ghost use Rattle.aig_rows.specs.Parts.Right.{is_right};
 
 use crate::fault::{Place, ReadFault, ReadKind};
-use crate::line::{Cursor, Line, split_line};
 use crate::number::{front_number, numbers, plain_numbers, short_number_before};
 use aig_circuit::{Gate, Latch, Lit, Reset, Var};
+use aig_lines::{Cursor, Line, split_line};
 use std::marker::Model;
 
 /// What a number of a row is.

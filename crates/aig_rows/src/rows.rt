@@ -3,14 +3,14 @@ ghost use Rattle.std.specs.Prelude.{◌≡◌, ◌+◌, ◌*◌, ◌^◌, ◌<�
 ghost use Rattle.aig_circuit.specs.Wellformed.{largest_index};
 ghost use Rattle.aig_rows.specs.Rows.{next_form, next_of};
 ghost use Rattle.aig_rows.specs.Outcomes.{AreBounded, GivesOrFails, GivesOrMemory, rows_meant};
-ghost use Rattle.aig_rows.specs.Lines.{Line, with_lines};
+ghost use Rattle.aig_lines.specs.Lines.{Line, with_lines};
 ghost use Rattle.aig_rows.specs.Begun.{HaveRead};
 ghost use Rattle.aig_rows.specs.Reading.{row_at, rows_at, want_of_memory};
 
 use crate::fault::{Place, ReadFault, ReadKind};
-use crate::line::Cursor;
 use crate::row::{FromRow, NextState, RowForm, next_row};
 use aig_circuit::Listing;
+use aig_lines::Cursor;
 use std::alloc::Global;
 
 /// The numbers of the row of this form that the next line holds. Goes behind that line, unless it is not right.

@@ -1,16 +1,14 @@
 -- The inputs of runs as characters.
-use Rattle.std.proofs.Common.{◌≡◌, ◌*◌, ◌<◌, ◌∙◌, ℕ, zero, suc, List, [], ◌∷◌, Option, ap, ap₂}
-use Rattle.std.proofs.Common.{arith, drop, is_some, length, refl, sym, take, true}
-use Rattle.std.specs.List.{All, flat_map}
-use Rattle.std.proofs.lemmas.List.{drop-drop, drop_at, length-append, length-map, take_at}
+use Rattle.std.proofs.Common.{◌≡◌, ◌*◌, ◌<◌, ◌∙◌, ◌∷◌, ℕ, zero, suc, List, [], Option, ap, ap₂, arith, drop, is_some}
+use Rattle.std.proofs.Common.{length, refl, sym, take, true, All, flat_map, drop-drop, drop_at, length-append, take_at}
+use Rattle.std.proofs.lemmas.List.{length-map}
 use Rattle.std.proofs.lemmas.List.Elements.{All-head, All-tail}
 use Rattle.aig_circuit.specs.declared.value.Val.{Val}
 use Rattle.aig_step.specs.Stimulus.{values_of}
 use Rattle.aig_step.proofs.LineValues.{says_values}
 use Rattle.aig_step.specs.TraceText.{character_of, values_text}
 use Rattle.aig_lanes.specs.Parts.Vectors.{AreVectors, said, vectors_in}
-use Rattle.aig_lanes.proofs.Side.Sheets.{steps_within}
-use Rattle.aig_lanes.proofs.Side.Vectors.{one_more}
+use Rattle.aig_lanes.proofs.Side.Sheets.{steps_within, one_more}
 
 abbrev HaveLength : ℕ → List (List Val) → Type 0
 HaveLength inputs vs = All (λ (vector : List Val). length vector ≡ inputs) vs

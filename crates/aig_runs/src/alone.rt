@@ -11,7 +11,6 @@ use aig_lanes::{FullRow, Run, Trace};
 use aig_step::{Row, Simulator};
 use std::alloc::{AllocError, Global};
 
-/// The values, in a list of their own.
 fn list_of(alloc: Global, values: &[Val]) -> Result<Listing<Val>, AllocError>
     ensures { IfOk result (λ list. list ≡ values.now) }
 {
@@ -20,7 +19,8 @@ fn list_of(alloc: Global, values: &[Val]) -> Result<Listing<Val>, AllocError>
 
 /// What a simulator shows, with the inputs of the step, in lists of their own.
 fn full_row(alloc: Global, shown: Row<'_>, given: &Listing<Val>) -> Result<FullRow, AllocError>
-    ensures { IfOk result (λ full. (row : RowRecord) → IsShown shown.entry row → row.inputs ≡ given.now
+    ensures { IfOk result (λ full. (row : RowRecord) → IsShown shown.entry row
+        → row.inputs ≡ given.now
         → row_of full ≡ row) }
 {
     let state = list_of(alloc, shown.state)?;
@@ -39,7 +39,6 @@ fn full_row(alloc: Global, shown: Row<'_>, given: &Listing<Val>) -> Result<FullR
     })
 }
 
-/// Takes a step with these inputs, and adds its row.
 fn add_step(
     alloc: Global,
     simulator: &mut Simulator,
@@ -60,7 +59,6 @@ fn add_step(
     }
 }
 
-/// The trace of a run.
 fn trace_run(alloc: Global, simulator: &mut Simulator, run: &Run) -> Result<Trace, OutOfMemory>
     requires { IsRunOf simulator.old.circuit run.now }
     ensures circuit { IfOk result (λ _. simulator.new.circuit ≡ simulator.old.circuit) }
@@ -74,14 +72,14 @@ fn trace_run(alloc: Global, simulator: &mut Simulator, run: &Run) -> Result<Trac
     Ok(Trace { rows })
 }
 
-/// The traces of runs, in their order, one run after another.
 pub(crate) fn trace_alone(
     alloc: Global,
     simulator: &mut Simulator,
     runs: &[Run],
 ) -> Result<Vec<Trace>, OutOfMemory>
     requires { All (IsRunOf simulator.old.circuit) runs.now }
-    ensures { IfOk result (λ traces. AllZip (IsTraceOf simulator.old.circuit) runs.now traces.items) }
+    ensures { IfOk result (λ traces. AllZip
+        (IsTraceOf simulator.old.circuit) runs.now traces.items) }
 {
     let mut traces = Vec::new(alloc);
     for run in runs {

@@ -20,7 +20,6 @@ const LANES: usize = 256;
 /// So many runs are as fast one after another as side by side.
 const FEW: usize = 8;
 
-/// Adds traces at the end.
 fn append(traces: &mut Vec<Trace>, mut more: Vec<Trace>) -> Result<(), OutOfMemory>
     ensures { IfOk result (λ _. traces.new.items ≡ traces.old.items ++ more.items) }
 {
@@ -28,7 +27,6 @@ fn append(traces: &mut Vec<Trace>, mut more: Vec<Trace>) -> Result<(), OutOfMemo
     Ok(())
 }
 
-/// The traces of a group of runs, in their order, where the line of a step may be so long.
 fn trace_group(
     alloc: Global,
     machine: &Machine,
@@ -47,7 +45,6 @@ fn trace_group(
     take_traces(alloc, runs, &bench.shown, &bench.sheet, &mut bench.line)
 }
 
-/// The traces of runs, in their order, group by group.
 fn trace_groups(
     alloc: Global,
     machine: &Machine,
@@ -69,7 +66,7 @@ fn trace_groups(
     Ok(traces)
 }
 
-/// How many of so many runs are run one after another: those behind the last full group, where they are few.
+/// How many of so many runs are run one after another: a few behind the last full group.
 fn count_alone(count: usize) -> usize
     ensures { result ≤ count }
 {
@@ -77,7 +74,7 @@ fn count_alone(count: usize) -> usize
     if left < FEW { left } else { 0 }
 }
 
-/// The traces of runs, in their order: groups of them side by side, and a few that are left alone.
+/// Groups of runs side by side, and a few that are left alone.
 fn trace_runs(
     alloc: Global,
     simulator: &mut Simulator,
@@ -94,9 +91,9 @@ fn trace_runs(
     Ok(Listing::from_vec(traces))
 }
 
-/// The traces of runs, one for each and in their order: what a `Simulator` shows of a run from the reset state, step by
-/// step. Each run must fit the circuit, as `Run::fits` tells; they may be of any lengths. 256 of them are stepped side
-/// by side. Where an allocation fails there is no trace.
+/// The traces of runs, one for each and in their order: what a `Simulator` shows of a run from the
+/// reset state, step by step. Each run must fit the circuit, as `Run::fits` tells; they may be of
+/// any lengths. 256 of them are stepped side by side. Where an allocation fails there is no trace.
 pub fn simulate_batch(
     alloc: Global,
     checked: &Checked,

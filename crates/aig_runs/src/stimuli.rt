@@ -9,7 +9,6 @@ use aig_circuit::{Listing, OutOfMemory, Val};
 use aig_lanes::{Run, RunGroup, Vectors};
 use std::alloc::Global;
 
-/// The character of a value.
 fn character(value: Val) -> u8
     ensures { result ≡ character_of value }
 {
@@ -20,7 +19,6 @@ fn character(value: Val) -> u8
     }
 }
 
-/// Adds the characters of values.
 fn add_values(text: &mut Listing<u8>, values: &[Val]) -> Result<(), OutOfMemory>
     ensures { IfOk result (λ _. text.new ≡ text.old ++ values_text values.now) }
 {
@@ -41,7 +39,6 @@ fn text_of(alloc: Global, run: &Run) -> Result<Listing<u8>, OutOfMemory>
     Ok(text)
 }
 
-/// The inputs of runs.
 pub(crate) fn texts_of(alloc: Global, runs: &[Run]) -> Result<Vec<Listing<u8>>, OutOfMemory>
     ensures { IfOk result (λ texts.
         texts.items ≡ map (λ (run : RunRecord). flat_map values_text run.steps) runs.now) }
@@ -53,14 +50,14 @@ pub(crate) fn texts_of(alloc: Global, runs: &[Run]) -> Result<Vec<Listing<u8>>, 
     Ok(texts)
 }
 
-/// The group of runs whose inputs are these.
 pub(crate) fn group_of<'a>(
     alloc: Global,
     inputs: usize,
     runs: &[Run],
     texts: &'a [Listing<u8>],
 ) -> Result<RunGroup<'a>, OutOfMemory>
-    requires texts { texts.now ≡ map (λ (run : RunRecord). flat_map values_text run.steps) runs.now }
+    requires texts { texts.now
+        ≡ map (λ (run : RunRecord). flat_map values_text run.steps) runs.now }
     requires fits { All (λ (run : RunRecord).
         All (λ (vector : List Value). length vector ≡ inputs) run.steps) runs.now }
     ensures { IfOk result (λ group. group ≡ runs.now) }

@@ -25,7 +25,8 @@ fn take_trace(
     requires room { HoldsRun lane run.now shown.now sheet.now }
     requires line { shown_size shown.now ≤ length line.old }
     requires asks { shown.now.columns ≡ Properties }
-    ensures { IfOk result (λ trace. (c : CircuitRecord) → KeepsRun c run.now lane shown.now sheet.now
+    ensures { IfOk result (λ trace. (c : CircuitRecord)
+        → KeepsRun c run.now lane shown.now sheet.now
         → IsTraceOf c run.now trace) }
 {
     let steps = run.steps.as_slice();
@@ -37,7 +38,6 @@ fn take_trace(
     Ok(Trace { rows })
 }
 
-/// The traces of runs, by what their lanes show.
 pub(crate) fn take_traces(
     alloc: Global,
     runs: &[Run],
@@ -46,11 +46,13 @@ pub(crate) fn take_traces(
     line: &mut [u8],
 ) -> Result<Vec<Trace>, OutOfMemory>
     requires lanes { length runs.now ≤ 256 }
-    requires fits { All (λ (run : RunRecord). length run.steps * shown_size shown.now < 2 ^ 64) runs.now }
+    requires fits { All
+        (λ (run : RunRecord). length run.steps * shown_size shown.now < 2 ^ 64) runs.now }
     requires room { HoldsRuns shown.now sheet.now runs.now }
     requires line { shown_size shown.now ≤ length line.old }
     requires asks { shown.now.columns ≡ Properties }
-    ensures { IfOk result (λ traces. (c : CircuitRecord) → ((j : ℕ) (d : RunRecord) → j < length runs.now
+    ensures { IfOk result (λ traces. (c : CircuitRecord)
+        → ((j : ℕ) (d : RunRecord) → j < length runs.now
         → KeepsRun c (slice_index_or runs.now j d) j shown.now sheet.now)
         → AllZip (IsTraceOf c) runs.now traces.items) }
 {

@@ -5,7 +5,7 @@
 //! `simulate_batch` for many runs.
 //!
 //! Here is all of it by name. The code stands in `aig_step`, `aig_trace`, `aig_lanes`, `aig_batch`, `aig_runs` and
-//! `aig_witness`. The definitions that matter most are `stimulus`, `IsTraceText`, `Simulated`, `Stepped`, `IsTraceOf`
+//! `aig_witness`. The definitions that matter most are `stimulus`, `IsTraceText`, `TraceSays`, `Stepped`, `IsTraceOf`
 //! and `IsVerdict`.
 #![tactic(auto)]
 

@@ -1,4 +1,2 @@
 pub mod Cells
-pub mod Characters
 pub mod Machines
-pub mod Tables

@@ -1,22 +1,19 @@
 -- What is read of a stimulus, line by line, is what the texts of its lines are.
-use Rattle.std.proofs.Common.{rules}
-use Rattle.std.proofs.Common.{◌≡◌, ◌+◌, ◌++◌, ◌∙◌, ℕ, suc, List, [], ◌∷◌, Bool, true, false, Option, None, Some}
-use Rattle.std.proofs.Common.{ap, arith, bytes_eq, codes, inl, inr, length, map, option_map, refl, subst, sym}
-use Rattle.std.proofs.Common.{append_assoc, if◌then◌else◌, length-append}
-use Rattle.std.specs.List.{AllByRecursion, flat_map}
-use Rattle.std.proofs.lemmas.Bool.{eq-eqb, eqb-true}
+use Rattle.std.proofs.Common.{◌≡◌, ◌+◌, ◌++◌, ◌∙◌, ◌∷◌, if◌then◌else◌, rules, ℕ, suc, List, [], Bool, true, false}
+use Rattle.std.proofs.Common.{Option, None, Some, ap, arith, bytes_eq, codes, inl, inr, length, map, option_map, refl}
+use Rattle.std.proofs.Common.{subst, sym, append_assoc, length-append, flat_map, eq-eqb, eqb-true}
+use Rattle.std.specs.List.{AllByRecursion}
 use Rattle.std.proofs.lemmas.List.{length-map}
 use Rattle.std.proofs.lemmas.Slice.Eq.{bytes_eq-Decides}
 use Rattle.aig_circuit.specs.declared.circuit.Circuit.{Circuit}
 use Rattle.aig_circuit.specs.declared.value.Val.{Val}
-use Rattle.aig_rows.specs.Lines.{Line}
+use Rattle.aig_lines.specs.Lines.{Line}
 use Rattle.aig_step.specs.Laws.{StimuliAreRead}
 use Rattle.aig_step.specs.Stimulus.{Entry, Runs, Step, Stimulus, Stop, before_rest, entry_in, entry_of, judged_lines}
 use Rattle.aig_step.specs.Stimulus.{lines_say, no_lines, runs_of, text_of, with_step}
 use Rattle.aig_step.specs.StimulusText.{AreRuns, AreSteps, IsGoodText, IsNextBad, run_lines}
 use Rattle.aig_step.specs.TraceText.{values_text}
-use Rattle.aig_step.proofs.EntryTexts.{values_length}
-use Rattle.aig_step.proofs.LineValues.{says_values, values_back, vector_says}
+use Rattle.aig_step.proofs.LineValues.{values_length, says_values, values_back, vector_says}
 
 -- entries
 step_by : (stop long : Bool) (o : Option (List Val)) (given : List Val)

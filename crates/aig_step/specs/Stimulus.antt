@@ -5,7 +5,7 @@ use Rattle.std.specs.Prelude.{option_and_then, option_map, if◌then◌else◌}
 use Rattle.std.specs.Str.{bytes_eq}
 use Rattle.aig_circuit.specs.declared.value.Val.{Val}
 use Rattle.aig_circuit.specs.declared.value.Val.TheVariants.{Zero, One, X}
-use Rattle.aig_rows.specs.Lines.{Line}
+use Rattle.aig_lines.specs.Lines.{Line}
 pub use Rattle.aig_lines.specs.Texts.{judged_lines, text_of, without_return}
 
 -- the value that a character stands for: `0`, `1` or `x`

@@ -5,7 +5,7 @@ ghost use Rattle.aig_step.specs.Messages.{sim_fault_text};
 ghost use Rattle.aig_step.specs.declared.fault.SimFault.TheVariants.{OutOfMemory as IsOutOfMemory};
 
 use aig_circuit::OutOfMemory;
-use aig_rows::Message;
+use aig_rows::{CANNOT_READ, CANNOT_WRITE, Message, OUT_OF_MEMORY};
 use std::alloc::{AllocError, AllocFailed};
 use std::error::Error;
 use std::fmt;
@@ -32,11 +32,11 @@ impl SimFault {
         ensures { message_text result ≡ sim_fault_text self.now }
     {
         match self {
-            SimFault::OutOfMemory => Message::new("out of memory"),
+            SimFault::OutOfMemory => Message::new(OUT_OF_MEMORY),
             SimFault::BadStimulus(line) => Message::around("line ", *line, ": bad stimulus line"),
             SimFault::BadWitness(line) => Message::around("line ", *line, ": bad witness line"),
-            SimFault::ReadFailed => Message::new("cannot read"),
-            SimFault::WriteFailed => Message::new("cannot write"),
+            SimFault::ReadFailed => Message::new(CANNOT_READ),
+            SimFault::WriteFailed => Message::new(CANNOT_WRITE),
         }
     }
 }

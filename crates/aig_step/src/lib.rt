@@ -3,7 +3,7 @@
 //! Others call `Simulator` for single steps. The crates of the simulator above this one call `Stepper`, `Machine`,
 //! `Table` and `RowLine`.
 //!
-//! The definitions that matter most are `stimulus`, `IsTraceText`, `Simulated` and `Stepped`.
+//! The definitions that matter most are `stimulus`, `IsTraceText`, `TraceSays` and `Stepped`.
 #![tactic(auto)]
 
 mod cells;

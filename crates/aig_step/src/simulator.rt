@@ -150,7 +150,7 @@ impl Simulator {
     }
 
     /// Takes a step with these inputs, one value for each in the circuit's order.
-    #[tactic(auto, using(std::proofs::lemmas::List::with_items_is, aig_meaning::proofs::Rows::same_row, crate::proofs::LineValues::row_is_read))]
+    #[tactic(auto, using(std::proofs::lemmas::List::with_items_is, aig_meaning::proofs::Traces::same_row, crate::proofs::LineValues::row_is_read))]
     pub fn step(&mut self, given: &[Val])
         requires { length given.now ≡ length self.old.circuit.inputs }
         ensures { Stepped self.old self.new given.now }

@@ -1,8 +1,8 @@
-//! Maps and sets of variables. To every contract a map is a finite map and a set a finite set, whatever tables they
-//! keep.
+//! Maps and sets of variables. To every contract a map is a finite map and a set a finite set,
+//! whatever tables they keep.
 //!
-//! Others call `VarMap`, which `new` makes for about so many variables and `for_circuit` for those that a circuit
-//! defines, and `VarSet`.
+//! Others call `VarMap`, which `new` makes for about so many variables and `for_circuit` for those
+//! that a circuit defines, and `VarSet`.
 #![tactic(auto)]
 
 mod var_map;

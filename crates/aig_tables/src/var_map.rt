@@ -26,9 +26,9 @@ const PLACES_PER_DEFINITION: usize = 3;
 /// Below so many indices for each definition of a circuit, each index has a bit.
 const BITS_PER_DEFINITION: usize = 32;
 
-/// Values of variables. Where the largest index is not far above their number, which is most often, each index has its
-/// place; where it is farther above, each that a circuit defines. Otherwise few variables of large indices take little
-/// memory.
+/// Values of variables. Where the largest index is not far above their number, which is most often,
+/// each index has its place; where it is farther above, each that a circuit defines. Otherwise few
+/// variables of large indices take little memory.
 #[derive(Drop)]
 pub struct VarMap<T: MapValue> {
     places: T::Table,
@@ -40,12 +40,13 @@ impl<T: MapValue> Model for VarMap<T> {
 
     ghost coded = { map.code coded_ℕ T.code };
 
-    ghost view = { λ a. map_of (kept_at (T.Table.covered a.places) (T.Table.held a.places) a.spread) };
+    ghost view = { λ a. map_of (kept_at (T.Table.covered a.places)
+        (T.Table.held a.places) a.spread) };
 }
 
 impl<T: MapValue> VarMap<T> {
-    /// An empty map that is fast for about so many variables, of indices up to the largest one. Its memory grows with
-    /// their number, and not with the largest index.
+    /// An empty map that is fast for about so many variables, of indices up to the largest one. Its
+    /// memory grows with their number, and not with the largest index.
     pub fn new(alloc: Global, expected: usize, largest: u32) -> Result<Self, AllocError>
         ensures { IfOk result (λ values. values ≡ map.empty) }
     {
@@ -62,8 +63,8 @@ impl<T: MapValue> VarMap<T> {
         })
     }
 
-    /// An empty map that is fast for the variables that a circuit defines. In contrast to `new` it knows them: where
-    /// they are spread, each has a place, and each index a bit.
+    /// An empty map that is fast for the variables that a circuit defines. In contrast to `new` it
+    /// knows them: where they are spread, each has a place, and each index a bit.
     pub fn for_circuit(alloc: Global, circuit: &Circuit) -> Result<Self, AllocError>
         ensures { IfOk result (λ values. values ≡ map.empty) }
     {
@@ -93,8 +94,9 @@ impl<T: MapValue> VarMap<T> {
         }
     }
 
-    /// Whether the place of a variable is overfull, which none is. Who asks wants the read alone: what is read of several
-    /// variables, one behind the other, is on its way from memory before the first of them is looked up.
+    /// Whether the place of a variable is overfull, which none is. Who asks wants the read alone:
+    /// what is read of several variables, one behind the other, is on its way from memory before
+    /// the first of them is looked up.
     #[inline(always)]
     pub fn is_overfull(&self, var: Var) -> bool
         ensures { result ≡ false }

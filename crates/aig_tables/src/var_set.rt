@@ -25,8 +25,8 @@ impl Model for VarSet {
 }
 
 impl VarSet {
-    /// An empty set that is fast for about so many variables, of indices up to the largest one. Its memory grows with
-    /// their number, and not with the largest index.
+    /// An empty set that is fast for about so many variables, of indices up to the largest one. Its
+    /// memory grows with their number, and not with the largest index.
     pub fn new(alloc: Global, expected: usize, largest: u32) -> Result<Self, AllocError>
         ensures { IfOk result (λ variables. variables ≡ set.empty) }
     {

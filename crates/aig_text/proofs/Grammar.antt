@@ -1,9 +1,5 @@
-pub mod HeaderLines
+pub mod Headers
 pub mod Symbols
-pub mod Named
 pub mod Tail
 pub mod Sections
-pub mod Headers
-pub mod WholeTail
 pub mod Text
-pub mod Faults

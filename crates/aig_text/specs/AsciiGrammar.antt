@@ -4,7 +4,7 @@ use Rattle.std.specs.Prelude.{◌≡◌, ◌≤◌, ◌+◌, ℕ, List, ◌∷�
 use Rattle.std.specs.List.{AllByRecursion, AllZip, sum}
 use Rattle.aig_circuit.specs.declared.circuit.Circuit.{Circuit}
 use Rattle.aig_circuit.specs.Wellformed.{IsWellFormed}
-use Rattle.aig_rows.specs.Lines.{Line, lines_of}
+use Rattle.aig_lines.specs.Lines.{Line, lines_of}
 use Rattle.aig_rows.specs.Spelling.{EndInNumbers}
 use Rattle.aig_text.specs.Tail.{AreTailLines}
 use Rattle.aig_text.specs.Sections.{ascii_word, header_row, rows_of, least_header_numbers}

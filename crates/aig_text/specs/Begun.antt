@@ -5,7 +5,7 @@ use Rattle.aig_circuit.specs.declared.circuit.Circuit.{Circuit}
 use Rattle.aig_circuit.specs.Wellformed.{largest_index}
 use Rattle.aig_core.specs.Names.{nothing_named}
 use Rattle.aig_rows.specs.declared.fault.ReadFault.{ReadFault}
-use Rattle.aig_rows.specs.Lines.{Line, Ahead, ahead}
+use Rattle.aig_lines.specs.Lines.{Line, Ahead, ahead}
 use Rattle.aig_rows.specs.Reading.{◌>>=◌, Found, rows_at, want_of_memory}
 use Rattle.aig_rows.specs.declared.rows.Due.{Due}
 use Rattle.aig_rows.specs.Begun.{AreFirst}

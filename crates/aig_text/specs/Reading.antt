@@ -18,7 +18,7 @@ use Rattle.aig_circuit.specs.declared.circuit.Symbol.{Symbol}
 use Rattle.aig_core.specs.declared.names.Names.{Names}
 use Rattle.aig_circuit.specs.Wellformed.{largest_index}
 use Rattle.aig_core.specs.Names.{nothing_named, is_named, with_name}
-use Rattle.aig_rows.specs.Lines.{Line, Ahead, ahead, lines_of, bytes_of}
+use Rattle.aig_lines.specs.Lines.{Line, Ahead, ahead, lines_of, bytes_of}
 use Rattle.aig_text.specs.Scanning.{symbol_at, is_comment_line}
 use Rattle.aig_rows.specs.Scanning.{more_numbers_at}
 use Rattle.aig_text.specs.Sections.{ascii_word, Header, Section, sections, Listed, in_ascii}

@@ -5,7 +5,7 @@ use Rattle.std.specs.List.{AllZip}
 use Rattle.aig_circuit.specs.declared.circuit.Symbol.{Symbol}
 use Rattle.aig_circuit.specs.declared.circuit.Circuit.{Circuit}
 pub use Rattle.aig_circuit.specs.SymbolText.{kind_letter}
-use Rattle.aig_rows.specs.Lines.{Line, bytes_of}
+use Rattle.aig_lines.specs.Lines.{Line, bytes_of}
 use Rattle.aig_rows.specs.Spelling.{IsNumber, IsLineEnd}
 
 -- the letter, the position, exactly one space, and then the name, whatever it holds

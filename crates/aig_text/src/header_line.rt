@@ -2,12 +2,13 @@
 ghost use Rattle.std.specs.Prelude.{◌≡◌, ◌≤◌, Some, IfOk, length, nat_lt};
 ghost use Rattle.std.specs.List.{list_any, position_or_len};
 ghost use Rattle.aig_circuit.specs.Wellformed.{largest_index};
-ghost use Rattle.aig_rows.specs.Lines.{line as line_of};
+ghost use Rattle.aig_lines.specs.Lines.{line as line_of};
 ghost use Rattle.aig_text.specs.Reading.{begins_with_word, ends_word, header_within, header_of};
 
 use crate::limits::Limits;
 use aig_core::LARGEST;
-use aig_rows::{Line, ReadKind, more_numbers};
+use aig_lines::Line;
+use aig_rows::{ReadKind, more_numbers};
 
 /// The first word of an ASCII file.
 pub const ASCII_WORD: &[u8] = b"aag";
@@ -39,11 +40,11 @@ pub struct Header {
     pub justice: u32,
     /// How many fairness constraints.
     pub fairness: u32,
-    /// The limit within which the file is read: the sizes of its justice properties add up to so much at most.
+    /// The limit within which the file is read: the sizes of its justice properties add up to so
+    /// much at most.
     pub limit: u32,
 }
 
-/// How long the word at the front of a line is.
 fn first_word_len(text: &[u8]) -> usize
     ensures value { result ≡ position_or_len ends_word text.now }
     ensures within { result ≤ length text.now }
@@ -53,7 +54,6 @@ fn first_word_len(text: &[u8]) -> usize
         .count()
 }
 
-/// Whether the word at the front of a line is this one.
 pub(crate) fn begins_with_word(text: &[u8], word: &[u8]) -> bool
     ensures { result ≡ begins_with_word word.now text.now }
 {
@@ -61,14 +61,12 @@ pub(crate) fn begins_with_word(text: &[u8], word: &[u8]) -> bool
     first == word
 }
 
-/// Whether one of the numbers is above the limit.
 fn any_above(limit: u64, numbers: &[u64]) -> bool
     ensures { result ≡ list_any (λ n. nat_lt limit n) numbers.now }
 {
     numbers.iter().any(|number| *number > limit)
 }
 
-/// The header of its numbers.
 #[tactic(auto, unfolding(crate::specs::Reading::header_within))]
 fn within(limit: u32, numbers: [u64; HEADER_NUMBERS]) -> Result<Header, ReadKind>
     ensures value { result ≡ header_within limit (Some numbers) }
@@ -105,10 +103,10 @@ fn within(limit: u32, numbers: [u64; HEADER_NUMBERS]) -> Result<Header, ReadKind
     })
 }
 
-/// Reads a header line, which has to begin with this word.
 #[tactic(auto, unfolding(crate::specs::Reading::header_of))]
 pub(crate) fn read_header(word: &[u8], line: Line, limits: Limits) -> Result<Header, ReadKind>
-    ensures value { result ≡ header_of word.now limits.max_var (line_of line.entry.text.now line.entry.ended) }
+    ensures value { result ≡ header_of word.now limits.max_var
+        (line_of line.entry.text.now line.entry.ended) }
     ensures limited { IfOk result (λ h. (h.max_var ≤ largest_index) × (h.limit ≤ largest_index)) }
 {
     if !begins_with_word(line.text, word) {

@@ -1,8 +1,8 @@
 //! ASCII AIGER files: their header, sections and tail, the reader and the writer.
 //!
-//! Others call `read_ascii` and `read_ascii_keeping` (which keeps the order of the gates, where the check made one),
-//! `write_ascii`, and the parts that binary files have in common with ASCII files. They also reach by this name what
-//! lines of numbers are made of (`aig_rows`).
+//! Others call `read_ascii` and `read_ascii_keeping` (which keeps the order of the gates, where the
+//! check made one), `write_ascii`, and the parts that binary files have in common with ASCII files.
+//! They also reach by this name what lines of numbers are made of (`aig_rows`).
 //!
 //! The definitions that matter most are `IsAsciiText`, `first_ascii_fault` and `ascii_text`.
 #![tactic(auto)]
@@ -28,6 +28,6 @@ pub use crate::writer::{
     put_numbers, put_tail, reset_number, write_ascii,
 };
 pub use aig_rows::{
-    Cursor, Message, NextState, Place, ReadFault, ReadKind, Role, RowForm, canonical_number,
-    next_states, numbers,
+    CANNOT_READ, CANNOT_WRITE, Message, NextState, OUT_OF_MEMORY, Place, ReadFault, ReadKind, Role,
+    RowForm, canonical_number, next_states, numbers,
 };

@@ -2,7 +2,7 @@
 ghost use Rattle.std.specs.Prelude.{◌≡◌, ◌≤◌, IfOk, OnErr};
 ghost use Rattle.aig_circuit.specs.Wellformed.{largest_index};
 ghost use Rattle.aig_core.specs.Names.{nothing_named};
-ghost use Rattle.aig_rows.specs.Lines.{lines_of};
+ghost use Rattle.aig_lines.specs.Lines.{lines_of};
 ghost use Rattle.aig_rows.specs.Outcomes.{GivesOrFails, GivesOrMemory};
 ghost use Rattle.aig_text.specs.Reading.{first_word_is, header_at, tail_at};
 
@@ -10,11 +10,12 @@ use crate::header_line::{Header, begins_with_word, read_header};
 use crate::limits::Limits;
 use crate::tail_lines::read_tail;
 use aig_core::Circuit;
-use aig_rows::{Cursor, Place, ReadFault, ReadKind, split_line};
+use aig_lines::{Cursor, split_line};
+use aig_rows::{Place, ReadFault, ReadKind};
 use std::alloc::Global;
 
-/// Whether the first word of a text is this one. A word ends at a space, a carriage return, a line feed or the end of
-/// the text.
+/// Whether the first word of a text is this one. A word ends at a space, a carriage return, a line
+/// feed or the end of the text.
 pub fn first_word_is(bytes: &[u8], word: &[u8]) -> bool
     ensures { result ≡ first_word_is word.now (lines_of bytes.now) }
 {
@@ -24,10 +25,13 @@ pub fn first_word_is(bytes: &[u8], word: &[u8]) -> bool
     }
 }
 
-/// Reads the header line, which has to begin with this word, and moves behind it, unless it is not right.
+/// Reads the header line, which has to begin with this word, and moves behind it, unless it is not
+/// right.
 pub fn header(word: &[u8], at: &mut Cursor, limits: Limits) -> Result<Header, ReadFault>
-    ensures header { GivesOrFails (λ header. (header, at.new)) result (header_at word.now limits.max_var at.old) }
-    ensures limited { IfOk result (λ header. (header.max_var ≤ largest_index) × (header.limit ≤ largest_index)) }
+    ensures header { GivesOrFails (λ header. (header, at.new)) result
+        (header_at word.now limits.max_var at.old) }
+    ensures limited { IfOk result (λ header. (header.max_var ≤ largest_index)
+        × (header.limit ≤ largest_index)) }
     ensures err { OnErr result (at.new ≡ at.old) }
 {
     let place = Place::Line(at.number);
@@ -47,7 +51,8 @@ pub fn header(word: &[u8], at: &mut Cursor, limits: Limits) -> Result<Header, Re
     }
 }
 
-/// The circuit with the symbols and the comment of the lines from here on. If there are none, it takes no memory.
+/// The circuit with the symbols and the comment of the lines from here on. If there are none, it
+/// takes no memory.
 pub fn tail(
     alloc: Global,
     header: &Header,
@@ -59,7 +64,7 @@ pub fn tail(
 {
     let mut circuit = circuit;
     if let Err(fault) = read_tail(alloc, header, &mut circuit, at) {
-        drop(circuit);
+        drop(circuit); // for the proof
         return Err(fault);
     }
     Ok(circuit)

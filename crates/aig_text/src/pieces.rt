@@ -1,15 +1,16 @@
 //! An ASCII file whose bytes come in pieces.
-ghost use Rattle.std.specs.Prelude.{◌≡◌, ◌+◌, ◌^◌, ◌<◌, ◌≤◌, ◌++◌, ◌⊎◌, [], List, ℕ, Err, IfErr, IfOk, IsOk, OnOk};
+ghost use Rattle.std.specs.Prelude.{◌≡◌, ◌+◌, ◌^◌, ◌<◌, ◌≤◌, ◌++◌, ◌⊎◌};
+ghost use Rattle.std.specs.Prelude.{List, ℕ, Err, IfErr, IfOk, IsOk, OnOk};
 ghost use Rattle.std.specs.Prelude.{drop, length};
-ghost use Rattle.std.specs.List.{sum};
 ghost use Rattle.std.specs.Prelude.{IsTrue, ◌↔◌};
 ghost use Rattle.aig_circuit.specs.Wellformed.{largest_index};
-ghost use Rattle.aig_rows.specs.Lines.{Ahead, AreEnded, IsBehind, Line, ahead, lines_of, with_lines};
+ghost use Rattle.aig_lines.specs.Lines.{Ahead, AreEnded, HasNoLineFeed, IsBehind, Line};
+ghost use Rattle.aig_lines.specs.Lines.{ahead, lines_of, with_lines};
 ghost use Rattle.aig_rows.specs.Outcomes.{GivesOrMemory};
-ghost use Rattle.aig_rows.specs.Parts.Plain.{HasNoLineFeed};
 ghost use Rattle.aig_rows.specs.Reading.{want_of_memory};
 ghost use Rattle.aig_text.specs.Sections.{in_ascii, sections};
-ghost use Rattle.aig_text.specs.Begun.{IsDone, IsMissing, IsValid, IsWithin, ReadsOn, header_then, rest_of};
+ghost use Rattle.aig_text.specs.Begun.{IsDone, IsMissing, IsValid, IsWithin};
+ghost use Rattle.aig_text.specs.Begun.{ReadsOn, header_then, rest_of};
 ghost use Rattle.aig_text.specs.Begun.{sections_from};
 ghost use Rattle.aig_text.specs.Reading.{circuit_at, empty_circuit, sections_at};
 
@@ -19,7 +20,8 @@ use crate::parts::{header, tail};
 use crate::reader::empty_circuit;
 use crate::section::{SECTIONS, missing_line, read_first_of_section, section_rows};
 use aig_core::Circuit;
-use aig_rows::{Cursor, Due, ReadFault, ended_lines};
+use aig_lines::{Cursor, ended_lines};
+use aig_rows::{Due, ReadFault};
 use std::alloc::Global;
 
 /// How far the sections of an ASCII file were read.
@@ -29,12 +31,10 @@ pub(crate) struct Progress {
     circuit: Circuit,
     /// The section that is read, as a place in `SECTIONS`.
     section: usize,
-    /// The rows that are due of it.
     due: Due,
 }
 
 impl Progress {
-    /// No line was read.
     pub(crate) fn new(alloc: Global, header: &Header) -> Self
         ensures from { (at : Ahead) → sections_from header.now result at
             ≡ sections_at in_ascii header.now sections (empty_circuit header.now.max_var) at }
@@ -49,7 +49,6 @@ impl Progress {
         }
     }
 
-    /// Nothing is due.
     fn none(alloc: Global) -> Self
         ensures circuit { result.circuit ≡ empty_circuit 0 }
         ensures section { result.section ≡ 0 }
@@ -65,20 +64,20 @@ impl Progress {
         }
     }
 
-    /// Whether all sections were read.
     pub(crate) fn is_done(&self) -> bool
         ensures { IsTrue result ↔ IsDone self.now }
     {
         self.section == SECTIONS.len() - 1 && self.due.count == 0
     }
 
-    /// Adds the entries of the lines ahead, as far as there are any and the sections go on, and moves behind them.
+    /// Adds the entries of the lines ahead, as far as the sections go on, and moves behind them.
     pub(crate) fn read_lines(&mut self, header: &Header, at: &mut Cursor) -> Result<(), ReadFault>
         requires max_var { header.now.max_var ≤ largest_index }
         requires limit { header.now.limit ≤ largest_index }
         requires within { IsWithin header.now self.old }
         ensures within { OnOk result (IsWithin header.now self.new) }
-        ensures on { OnOk result ((more : List Line) → sections_from header.now self.old (with_lines at.old more)
+        ensures on { OnOk result ((more : List Line)
+            → sections_from header.now self.old (with_lines at.old more)
             ≡ sections_from header.now self.new (with_lines at.new more)) }
         ensures behind { OnOk result (IsBehind at.old at.new) }
         ensures all { OnOk result (IsDone self.new ⊎ IsMissing self.new at.new) }
@@ -99,8 +98,8 @@ impl Progress {
         }
     }
 
-    /// The circuit with the entries of all sections, of which the other lines begin here. Goes behind these lines,
-    /// unless one is not right.
+    /// The circuit with the entries of all sections, of which the other lines begin here. Goes
+    /// behind these lines, unless one is not right.
     pub(crate) fn finish(self, header: &Header, at: &mut Cursor) -> Result<Circuit, ReadFault>
         requires max_var { header.now.max_var ≤ largest_index }
         requires limit { header.now.limit ≤ largest_index }
@@ -109,19 +108,19 @@ impl Progress {
     {
         let mut progress = self;
         if let Err(fault) = progress.read_lines(header, at) {
-            drop(progress);
+            drop(progress); // for the proof
             return Err(fault);
         }
         if !progress.is_done() {
-            drop(progress);
+            drop(progress); // for the proof
             return Err(missing_line(at));
         }
         Ok(progress.circuit)
     }
 }
 
-/// A reader of an ASCII file that takes its bytes piece by piece, and holds what they tell. After a fault it holds
-/// that, and takes all bytes.
+/// A reader of an ASCII file that takes its bytes piece by piece, and holds what they tell. After a
+/// fault it holds that, and takes all bytes.
 #[derive(Drop)]
 pub struct AsciiReader {
     /// The header, or the first fault of the lines so far.
@@ -174,7 +173,8 @@ impl AsciiReader {
         self.header.is_ok() && self.progress.is_done()
     }
 
-    /// Reads the whole lines of the bytes that come next, as far as the sections go on. Answers how many bytes it took.
+    /// Reads the whole lines of the bytes that come next, as far as the sections go on. Answers how
+    /// many bytes it took.
     pub fn advance(&mut self, bytes: &[u8]) -> usize
         requires counted { self.old.number + length bytes.now < 2 ^ 64 }
         requires valid { IsValid self.old.header self.old.progress }
@@ -212,7 +212,7 @@ impl AsciiReader {
         let header = match header {
             Ok(header) => header,
             Err(fault) => {
-                drop(progress);
+                drop(progress); // for the proof
                 return Err(fault);
             }
         };

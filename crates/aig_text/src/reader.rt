@@ -1,9 +1,10 @@
 //! The reader of ASCII files.
-ghost use Rattle.std.specs.Prelude.{◌≡◌, ◌≤◌, IfOk, IfErr, MatchResult};
+ghost use Rattle.std.specs.Prelude.{◌≡◌, IfOk, IfErr, MatchResult};
 ghost use Rattle.aig_circuit.specs.declared.circuit.Circuit.{Circuit as CircuitRecord};
-ghost use Rattle.aig_rows.specs.Lines.{lines_of};
+ghost use Rattle.aig_lines.specs.Lines.{lines_of};
 ghost use Rattle.aig_rows.specs.Outcomes.{GivesOrMemory};
-ghost use Rattle.aig_text.specs.Reading.{IsFirstFault, first_ascii_fault, kind_of, circuit_at, empty_circuit};
+ghost use Rattle.aig_text.specs.Reading.{IsFirstFault, first_ascii_fault};
+ghost use Rattle.aig_text.specs.Reading.{kind_of, circuit_at, empty_circuit};
 ghost use Rattle.aig_text.specs.Reading.{unless_faulty};
 ghost use Rattle.aig_circuit.specs.Form.{IsInForm};
 ghost use Rattle.aig_core.specs.Fault.{first_structural_fault};
@@ -15,7 +16,8 @@ use crate::limits::Limits;
 use crate::parts::{header, tail};
 use crate::pieces::Progress;
 use aig_core::{CheckFault, Checked, Circuit, Justice, Keep, Listing, Symbols, check_keeping};
-use aig_rows::{Cursor, Place, ReadFault, ReadKind};
+use aig_lines::Cursor;
+use aig_rows::{Place, ReadFault, ReadKind};
 use std::alloc::Global;
 
 /// A circuit that has nothing in it.
@@ -40,7 +42,7 @@ pub fn empty_circuit(alloc: Global, max_var: u32) -> Circuit
     }
 }
 
-/// Reads a circuit from the lines of a text. Its definitions and uses are not checked here.
+/// Definitions and uses are not checked here.
 fn read_circuit(alloc: Global, bytes: &[u8], limits: Limits) -> Result<Circuit, ReadFault>
     ensures { GivesOrMemory (λ c. c) result (circuit_at limits.max_var (lines_of bytes.now)) }
 {
@@ -52,7 +54,6 @@ fn read_circuit(alloc: Global, bytes: &[u8], limits: Limits) -> Result<Circuit, 
     }
 }
 
-/// A structural fault as what is wrong with a text.
 fn kind_of_fault(fault: CheckFault) -> ReadKind
     ensures { result ≡ kind_of fault }
 {
@@ -64,16 +65,17 @@ fn kind_of_fault(fault: CheckFault) -> ReadKind
     }
 }
 
-/// Checks a circuit that was read of the lines of a text, and keeps what is wanted of the check later. The error is its
-/// first structural fault, or that memory ran out.
+/// Checks a circuit that was read of the lines of a text, and keeps what is wanted of the check
+/// later. The error is its first structural fault, or that memory ran out.
 pub fn check_read(alloc: Global, circuit: Circuit, keep: Keep) -> Result<Checked, ReadFault>
     requires { IsInForm circuit }
-    ensures { GivesOrMemory (λ c. c) result (unless_faulty circuit (first_structural_fault circuit)) }
+    ensures { GivesOrMemory (λ c. c) result
+        (unless_faulty circuit (first_structural_fault circuit)) }
 {
     match check_keeping(alloc, circuit, keep) {
         Ok(checked) => Ok(checked),
         Err((circuit, fault)) => {
-            drop(circuit);
+            drop(circuit); // for the proof
             Err(ReadFault {
                 place: Place::Whole,
                 kind: kind_of_fault(fault),
@@ -82,13 +84,14 @@ pub fn check_read(alloc: Global, circuit: Circuit, keep: Keep) -> Result<Checked
     }
 }
 
-/// Reads an ASCII file, within these limits. The error is the first fault of the text, or that memory ran out. No order
-/// of the gates is kept (`read_ascii_keeping`).
+/// Reads an ASCII file, within these limits. The error is the first fault of the text, or that
+/// memory ran out. No order of the gates is kept (`read_ascii_keeping`).
 pub fn read_ascii(alloc: Global, bytes: &[u8], limits: Limits) -> Result<Checked, ReadFault>
     ensures ok { IfOk result (λ c. IsAsciiText bytes.now limits.max_var c) }
     ensures only { (c : CircuitRecord) → IsAsciiText bytes.now limits.max_var c
         → MatchResult result (λ d. d ≡ c) (λ e. e ≡ want_of_memory) }
-    ensures fault { IfErr result (λ e. IsFirstFault e (first_ascii_fault limits.max_var bytes.now)) }
+    ensures fault { IfErr result (λ e. IsFirstFault e
+        (first_ascii_fault limits.max_var bytes.now)) }
 {
     read_ascii_keeping(alloc, bytes, limits, Keep::Circuit)
 }
@@ -103,7 +106,8 @@ pub fn read_ascii_keeping(
     ensures ok { IfOk result (λ c. IsAsciiText bytes.now limits.max_var c) }
     ensures only { (c : CircuitRecord) → IsAsciiText bytes.now limits.max_var c
         → MatchResult result (λ d. d ≡ c) (λ e. e ≡ want_of_memory) }
-    ensures fault { IfErr result (λ e. IsFirstFault e (first_ascii_fault limits.max_var bytes.now)) }
+    ensures fault { IfErr result (λ e. IsFirstFault e
+        (first_ascii_fault limits.max_var bytes.now)) }
 {
     let circuit = read_circuit(alloc, bytes, limits)?;
     check_read(alloc, circuit, keep)

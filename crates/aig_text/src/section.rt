@@ -4,7 +4,7 @@ ghost use Rattle.std.specs.List.{sum};
 ghost use Rattle.aig_circuit.specs.Wellformed.{largest_index};
 ghost use Rattle.aig_text.specs.Sections.{in_ascii};
 ghost use Rattle.aig_rows.specs.declared.fault.ReadKind.TheVariants.{Truncated};
-ghost use Rattle.aig_rows.specs.Lines.{Line, with_lines};
+ghost use Rattle.aig_lines.specs.Lines.{Line, with_lines};
 ghost use Rattle.aig_rows.specs.Outcomes.{GivesOrMemory};
 ghost use Rattle.aig_rows.specs.Reading.{fault_at, want_of_memory};
 ghost use Rattle.aig_text.specs.Begun.{due_of, HaveReadOf, rows_due};
@@ -12,7 +12,8 @@ ghost use Rattle.aig_text.specs.Reading.{section_at};
 
 use crate::header_line::Header;
 use aig_core::Circuit;
-use aig_rows::{Cursor, Due, Place, ReadFault, ReadKind, read_first_rows};
+use aig_lines::Cursor;
+use aig_rows::{Due, Place, ReadFault, ReadKind, read_first_rows};
 
 /// What a file lists.
 #[derive(Clone, Copy)]
@@ -50,7 +51,6 @@ pub const SECTIONS: [Section; 9] = [
     Section::Gates,
 ];
 
-/// The sum of sizes.
 fn total(sizes: &[u32]) -> u32
     requires { sum sizes.now ≤ largest_index }
     ensures { result ≡ sum sizes.now }
@@ -86,7 +86,6 @@ pub(crate) fn section_rows(section: Section, header: &Header, circuit: &Circuit)
     }
 }
 
-/// Adds the entries of a section as an ASCII file lists them, as far as its rows are due, and moves behind their lines.
 /// Answers which rows are due then: none, or else no line is left.
 pub(crate) fn read_first_of_section(
     section: Section,
@@ -98,8 +97,8 @@ pub(crate) fn read_first_of_section(
     requires max_var { header.now.max_var ≤ largest_index }
     requires limit { header.now.limit ≤ largest_index }
     requires small { due.carried + 2 * due.count ≤ 2 ^ 34 }
-    ensures part { IfOk result (λ left. HaveReadOf (in_ascii section) header.now due left circuit.old circuit.new
-        at.old at.new) }
+    ensures part { IfOk result (λ left. HaveReadOf (in_ascii section) header.now
+        due left circuit.old circuit.new at.old at.new) }
     ensures small { IfOk result (λ left. left.carried + 2 * left.count ≤ 2 ^ 34) }
     ensures all { IfOk result (λ left. 0 < left.count → at.new.lines ≡ []) }
     ensures err { IfErr result (λ e. (e ≡ want_of_memory) ⊎ ((more : List Line)
@@ -148,7 +147,6 @@ pub fn read_section(
     Ok(())
 }
 
-/// A line is missing here.
 pub(crate) fn missing_line(at: &Cursor) -> ReadFault
     ensures { result ≡ fault_at at.now.number Truncated }
 {

@@ -3,22 +3,21 @@ ghost use Rattle.std.specs.Prelude.{◌≡◌, ◌^◌, ◌<◌, drop, IfErr, If
 ghost use Rattle.aig_core.specs.Names.{nothing_named, with_name};
 ghost use Rattle.aig_rows.specs.CanonicalNumber.{is_padded};
 ghost use Rattle.aig_rows.specs.Kept.{kept_first};
-ghost use Rattle.aig_rows.specs.Lines.{line as line_of, line_bytes};
+ghost use Rattle.aig_lines.specs.Lines.{line as line_of, line_bytes};
 ghost use Rattle.aig_text.specs.Parts.Kept.{kept_symbol, position_at};
 ghost use Rattle.aig_rows.specs.Outcomes.{Gives, GivesOrMemory};
 ghost use Rattle.aig_text.specs.Scanning.{is_comment_line, kind_at, symbol, symbol_at};
-ghost use Rattle.aig_text.specs.Reading.{checked_symbol, count_named, tail_at, with_comment, with_symbol};
+ghost use Rattle.aig_text.specs.Reading.{checked_symbol, count_named, tail_at};
+ghost use Rattle.aig_text.specs.Reading.{with_comment, with_symbol};
 ghost use Rattle.aig_rows.specs.Reading.{at_line, want_of_memory};
 
 use crate::header_line::Header;
 use aig_core::{BorrowedSymbol, Circuit, Kind, Listing, NamedCounts, Names};
-use aig_rows::{
-    Cursor, Line, Place, ReadFault, ReadKind, canonical_number, ends_line, leading_number,
-    split_line,
-};
+use aig_lines::{Cursor, Line, split_line};
+use aig_rows::{Place, ReadFault, ReadKind, canonical_number, ends_line, leading_number};
 use std::alloc::{AllocError, Global};
 
-/// Positions from here on are not read at once: canonical numbers above this one are all taken as it.
+/// Positions from here on are not read at once: canonical numbers above it are all taken as it.
 const FAR: u64 = 1 << 33;
 
 /// What a symbol line holds.
@@ -30,7 +29,6 @@ struct Naming<'a> {
     name: &'a [u8],
 }
 
-/// What the letter of a symbol line names.
 fn kind_of_letter(letter: u8) -> Option<Kind>
     ensures { result ≡ kind_at letter }
 {
@@ -46,8 +44,8 @@ fn kind_of_letter(letter: u8) -> Option<Kind>
     }
 }
 
-/// What is kept of the number at the front, however it is spelled, and what stands behind the one space that follows
-/// it.
+/// What is kept of the number at the front, however it is spelled, and what stands behind the one
+/// space that follows it.
 #[tactic(auto, unfolding(crate::specs::Parts::Kept::position_at))]
 fn spelled_position(text: &[u8]) -> Option<(u64, &[u8])>
     ensures { Gives (λ x. (x.0, x.1.now)) result (kept_first (position_at text.now)) }
@@ -59,8 +57,7 @@ fn spelled_position(text: &[u8]) -> Option<(u64, &[u8])>
     }
 }
 
-/// What is kept of the number at the front, and what stands behind the one space that follows it. Most are canonical,
-/// and so are read at once.
+/// Most numbers are canonical, and so are read at once.
 #[inline(always)]
 fn leading_position(text: &[u8]) -> Option<(u64, &[u8])>
     ensures { Gives (λ x. (x.0, x.1.now)) result (kept_first (position_at text.now)) }
@@ -71,10 +68,10 @@ fn leading_position(text: &[u8]) -> Option<(u64, &[u8])>
     }
 }
 
-/// Reads a symbol line.
 #[tactic(auto, unfolding(crate::specs::Scanning::symbol_at, crate::specs::Parts::Kept::position_at))]
 fn leading_symbol(text: &[u8]) -> Option<Naming>
-    ensures { Gives (λ x. symbol x.kind x.position x.name.now) result (kept_symbol (symbol_at text.now)) }
+    ensures { Gives (λ x. symbol x.kind x.position x.name.now) result
+        (kept_symbol (symbol_at text.now)) }
 {
     let (letter, rest) = text.split_first()?;
     let kind = kind_of_letter(*letter)?;
@@ -86,7 +83,6 @@ fn leading_symbol(text: &[u8]) -> Option<Naming>
     })
 }
 
-/// Whether the line is the line `c`.
 #[tactic(auto, unfolding(crate::specs::Scanning::is_comment_line))]
 fn is_comment_line(line: Line) -> bool
     ensures { result ≡ is_comment_line (line_of line.entry.text.now line.entry.ended) }
@@ -97,7 +93,6 @@ fn is_comment_line(line: Line) -> bool
     }
 }
 
-/// How many things of a kind there are.
 fn count_named(header: &Header, kind: Kind) -> u32
     ensures { result ≡ count_named header.now kind }
 {
@@ -151,7 +146,6 @@ fn read_symbol<'a>(
     })
 }
 
-/// Makes a copy of the bytes the comment of the circuit.
 fn put_comment(alloc: Global, circuit: &mut Circuit, bytes: &[u8]) -> Result<(), ReadFault>
     ensures ok { OnOk result (circuit.new ≡ with_comment circuit.old bytes.now) }
     ensures err { IfErr result (λ e. e ≡ want_of_memory) }
@@ -160,7 +154,6 @@ fn put_comment(alloc: Global, circuit: &mut Circuit, bytes: &[u8]) -> Result<(),
     Ok(())
 }
 
-/// Whether the position in a symbol line has a zero before its other digits.
 #[inline(always)]
 fn is_padded(text: &[u8]) -> bool
     ensures { result ≡ is_padded (drop 1 text.now) }
@@ -171,8 +164,7 @@ fn is_padded(text: &[u8]) -> bool
     }
 }
 
-/// Adds the symbol of a line to those of the circuit. These are the bytes of the line; most are canonical, and so are
-/// kept as they are.
+/// The bytes are those of the line; most are canonical, and so are kept as they are.
 fn put_symbol(
     circuit: &mut Circuit,
     symbol: &BorrowedSymbol,
@@ -193,7 +185,7 @@ fn put_symbol(
     Ok(())
 }
 
-/// Adds the symbols and the comment that the lines from here on tell, where these things have names already.
+/// Adds the symbols and the comment of the lines from here on, where these have names already.
 fn read_tail_lines(
     alloc: Global,
     header: &Header,
@@ -219,8 +211,7 @@ fn read_tail_lines(
     Ok(())
 }
 
-/// Makes room for the symbols that a text may have: at most as many as there are things to name, each in a line of at
-/// least three bytes.
+/// There are at most as many symbols as things to name, each in a line of at least three bytes.
 fn reserve_symbols(header: &Header, circuit: &mut Circuit, text: &[u8]) -> Result<(), AllocError>
     ensures { circuit.new ≡ circuit.old }
 {
@@ -236,7 +227,7 @@ fn reserve_symbols(header: &Header, circuit: &mut Circuit, text: &[u8]) -> Resul
         .reserve(things.min(text.len() / 3), text.len())
 }
 
-/// Adds the symbols and the comment of the lines from here on. If there are none, it takes no memory.
+/// Without symbols and a comment it takes no memory.
 pub(crate) fn read_tail(
     alloc: Global,
     header: &Header,
@@ -261,6 +252,6 @@ pub(crate) fn read_tail(
     reserve_symbols(header, circuit, at.rest)?;
     let mut names = Names::new(alloc, counts)?;
     let read = read_tail_lines(alloc, header, &mut names, circuit, at);
-    drop(names);
+    drop(names); // for the proof
     read
 }

@@ -3,10 +3,13 @@ ghost use Rattle.std.specs.List.{flat_map};
 ghost use Rattle.std.specs.Prelude.{◌≡◌, ◌-◌, ◌<◌, ◌∷◌, ℕ, List, OnErr, OnOk};
 ghost use Rattle.aig_io.specs.Output.{Put};
 ghost use Rattle.aig_io.specs.Devices.{CanFail, took, TookBeginning};
-ghost use Rattle.aig_text.specs.AsciiText.{ascii_text, comment_text, header_text, line_text, more_numbers_text};
-ghost use Rattle.aig_text.specs.AsciiText.{numbers_text, row_text, shortened, spaced_number, symbol_text, tail_text};
+ghost use Rattle.aig_text.specs.AsciiText.{ascii_text, comment_text, header_text};
+ghost use Rattle.aig_text.specs.AsciiText.{line_text, more_numbers_text};
+ghost use Rattle.aig_text.specs.AsciiText.{numbers_text, row_text, shortened};
+ghost use Rattle.aig_text.specs.AsciiText.{spaced_number, symbol_text, tail_text};
 ghost use Rattle.aig_text.specs.Sections.{header_row, rows_of, literal_rows_of};
-ghost use Rattle.aig_rows.specs.Rows.{gate_row, input_row, latch_row, literal_row, reset_number, size_row};
+ghost use Rattle.aig_rows.specs.Rows.{gate_row, input_row, latch_row};
+ghost use Rattle.aig_rows.specs.Rows.{literal_row, reset_number, size_row};
 ghost use Rattle.aig_text.specs.declared.writer.TheConstants.{FEW};
 ghost use Rattle.aig_text.specs.declared.writer.WriteFault.TheVariants.{Device};
 
@@ -35,7 +38,6 @@ impl From<DeviceFault> for WriteFault {
 /// A line of at most so many numbers after the first is put at once.
 const FEW: usize = 8;
 
-/// A space and a number.
 fn put_spaced_number<W: Sink>(output: &mut Output<W>, number: u64)
     ensures { Put output.old output.new (spaced_number number) }
 {
@@ -43,7 +45,6 @@ fn put_spaced_number<W: Sink>(output: &mut Output<W>, number: u64)
     output.put_number(number);
 }
 
-/// Each number after a space.
 fn put_spaced_numbers<W: Sink>(output: &mut Output<W>, numbers: &[u64])
     ensures { Put output.old output.new (flat_map spaced_number numbers.now) }
 {
@@ -52,7 +53,6 @@ fn put_spaced_numbers<W: Sink>(output: &mut Output<W>, numbers: &[u64])
     }
 }
 
-/// Each number after a space, and the line feed.
 fn put_more_numbers<W: Sink>(output: &mut Output<W>, numbers: &[u64])
     ensures { Put output.old output.new (more_numbers_text numbers.now) }
 {
@@ -73,9 +73,9 @@ pub fn put_numbers<W: Sink>(output: &mut Output<W>, first: u64, others: &[u64])
     }
 }
 
-/// The numbers that are written of these: all up to the last one that is not 0, and at least so many.
+/// The numbers that are written of these: all up to the last that is not 0, and at least so many.
 #[inline(always)]
-#[tactic(auto, using(crate::proofs::Canonical::Shortened::one_less, crate::proofs::Canonical::Shortened::no_less, crate::proofs::Canonical::Shortened::all_needed))]
+#[tactic(auto, using(crate::proofs::Written::one_less, crate::proofs::Written::no_less, crate::proofs::Written::all_needed))]
 fn shorten(numbers: &[u64], least: usize) -> &[u64]
     ensures { result.now ≡ shortened least numbers.now }
 {
@@ -107,7 +107,8 @@ pub fn reset_number(own: u64, reset: Reset) -> u64
     }
 }
 
-/// What has a numbered line of its own in an ASCII file: an input, a latch, a literal, a gate, a size.
+/// What has a numbered line of its own in an ASCII file: an input, a latch, a literal, a gate, a
+/// size.
 pub trait NumberedLine {
     /// The line.
     ghost line: { Self → List ℕ };
@@ -179,14 +180,12 @@ pub fn put_lines<T: NumberedLine, W: Sink>(output: &mut Output<W>, items: &[T])
     }
 }
 
-/// The symbol lines.
 fn put_symbols<W: Sink>(output: &mut Output<W>, symbols: &Symbols)
     ensures { Put output.old output.new (flat_map symbol_text symbols.now) }
 {
     output.put(symbols.as_text());
 }
 
-/// The comment section, where there is one.
 fn put_comment<W: Sink>(output: &mut Output<W>, comment: &Option<Listing<u8>>)
     ensures { Put output.old output.new (comment_text comment.now) }
 {
@@ -204,7 +203,8 @@ pub fn put_tail<W: Sink>(output: &mut Output<W>, circuit: &Circuit)
     put_comment(output, &circuit.comment);
 }
 
-/// The numbered lines of the sections between latches and gates, which ASCII and binary files list alike.
+/// The numbered lines of the sections between latches and gates, which ASCII and binary files list
+/// alike.
 pub fn put_literal_sections<W: Sink>(output: &mut Output<W>, circuit: &Circuit)
     ensures { Put output.old output.new (flat_map line_text (literal_rows_of circuit.now)) }
 {
@@ -216,7 +216,6 @@ pub fn put_literal_sections<W: Sink>(output: &mut Output<W>, circuit: &Circuit)
     put_lines(output, circuit.fairness.as_slice());
 }
 
-/// The numbered lines of all sections.
 fn put_sections<W: Sink>(output: &mut Output<W>, circuit: &Circuit)
     ensures { Put output.old output.new (flat_map line_text (rows_of circuit.now)) }
 {
@@ -243,7 +242,6 @@ pub fn header_numbers(circuit: &Circuit) -> [u64; HEADER_NUMBERS]
     ]
 }
 
-/// The whole text.
 fn put_text<W: Sink>(output: &mut Output<W>, circuit: &Circuit)
     ensures { Put output.old output.new (ascii_text circuit.now) }
 {
@@ -252,12 +250,14 @@ fn put_text<W: Sink>(output: &mut Output<W>, circuit: &Circuit)
     put_tail(output, circuit);
 }
 
-/// Writes the canonical ASCII text of a circuit, in slices of at most 8,192 bytes. It takes no memory and fails
-/// only where the sink fails; the sink then took a beginning of the text, and is not called again.
+/// Writes the canonical ASCII text of a circuit, in slices of at most 8,192 bytes. It takes no
+/// memory and fails only where the sink fails; the sink then took a beginning of the text, and is
+/// not called again.
 pub fn write_ascii<W: Sink>(circuit: &Checked, sink: &mut W) -> Result<(), WriteFault>
     requires { CanFail (W.past sink.old) }
     ensures ok { OnOk result (W.past sink.new ≡ took (ascii_text circuit.now) (W.past sink.old)) }
-    ensures err { OnErr result (TookBeginning (ascii_text circuit.now) (W.past sink.old) (W.past sink.new)) }
+    ensures err { OnErr result (TookBeginning (ascii_text circuit.now) (W.past sink.old)
+        (W.past sink.new)) }
 {
     let mut output = Output::new(sink);
     put_text(&mut output, circuit.circuit());

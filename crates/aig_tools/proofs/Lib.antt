@@ -1,3 +1,2 @@
-pub mod Dumps
 pub mod NamedFiles
-pub mod RunDumps
+pub mod Tasks

@@ -1,20 +1,20 @@
 -- What devices tell of the sources and the destination that a request names.
-use Rattle.std.proofs.Common.{◌≡◌, ◌<◌, ◌∷◌, ◌∙◌, ℕ, List, length, Option, None, Some, false, true}
-use Rattle.std.proofs.Common.{IfErr, IfOk, Result, Ok, Err, OnErr, inr, refl, sym, ap, arith}
+use Rattle.std.proofs.Common.{◌≡◌, ◌<◌, ◌∷◌, ◌++◌, ◌∙◌, ℕ, List, [], length, take, Option, None, Some, false, true}
+use Rattle.std.proofs.Common.{Result, Ok, Err, OnErr, OnOk, refl, sym, ap, arith}
 use lib.Seq.{take-length}
-use Rattle.aig_io.specs.Devices.{Past, took, unused}
-use Rattle.aig_io.specs.Files.{End, Files, Left, NotKept, Whole, used}
-use Rattle.aig_files.specs.Named.{IsShown, closing, named, used_as}
-use Rattle.aig_circuit.specs.declared.circuit.Circuit.{Circuit}
-use Rattle.aig_command.specs.Answer.{name_of}
-use Rattle.aig_command.specs.declared.request.Sim.{Sim}
-use Rattle.aig_witness.specs.declared.verdict.Verdict.{Verdict}
+use Rattle.aig_io.specs.Devices.{Past, TookBeginning, took, unused}
+use Rattle.aig_io.specs.Files.{End, Files, Left, NotKept, NotMade, NotOpened, ReadFailed, Whole, WriteFailed, Written}
+use Rattle.aig_io.specs.Files.{used}
+use Rattle.aig_io.specs.Runs.{All, AtEnd, Beginning, Broken, Ending, IsCut, NotSent, Open, Ran, Read}
+use Rattle.aig_io.specs.Runs.{Sent, Taking, came}
+use Rattle.aig_io.proofs.Runs.{read_weaker}
+use Rattle.aig_files.specs.Named.{IsFailure, IsShown, closing, named, used_as}
 use Rattle.aig_engines.specs.declared.fault.ToolFault.{ToolFault}
-use Rattle.aig_engines.specs.File.{IsFileOf}
-use Rattle.aig_engines.specs.Simulation.{IsWrittenText}
-use Rattle.aig_tools.specs.Named.{DoneBetween, FailedWriting, HasReadFrom, OfSource, source_read, with_use, world}
-use Rattle.aig_tools.specs.SimulationOutcome.{DoneAs, NotDoneAs, SimulationDone, SimulationNotDone}
-use Rattle.aig_tools.proofs.Dumps.{written_text}
+use Rattle.aig_engines.specs.declared.fault.ToolFault.TheVariants as faults
+use Rattle.aig_engines.specs.Outcome.{Says}
+use Rattle.aig_engines.specs.Reading.{NotRead}
+use Rattle.aig_tools.specs.Named.{IsReadAs, IsWriteEnd, RanBetween, ReadIn, SentIn, SentTo, TakesAs}
+use Rattle.aig_tools.specs.Named.{World, with_use, world}
 
 -- a file was used once more
 used_is : (name : List ℕ) (lender : ℕ) (files files_now : Files) (past : Past) (end : End) → files.current ≡ None
@@ -23,69 +23,234 @@ used_is : (name : List ℕ) (lender : ℕ) (files files_now : Files) (past : Pas
 used_is name lender files files_now past end idle of_it is =
     is ∙ (rw of_it (ap (λ c. record { uses = used name past.bytes end ∷ files.uses; current = c }) (sym idle)))
 
--- what is said of a source holds of the stream, or of the file, that a request names
-module _ {T F : Type 0} (P : F → Past → Past → Type 0) where
-  pub of_stream : (r : Result T F) (source : Option (List ℕ)) (files : Files) (input input_now : Past) → source ≡ None
-      → IfErr r (λ fault. P fault input input_now)
-      → IfErr r (λ fault. OfSource (P fault) source files files input input_now)
-  of_stream (Ok x) source files input input_now none said = tt
-  of_stream (Err fault) source files input input_now none said = rw none (said, refl)
+module _ (name : List ℕ) (lender : ℕ) (files files_now : Files) (past : Past) (idle : files.current ≡ None)
+    (shown : IsShown false Left past files_now) where
+  -- the files show what came of a file with this name
+  read_as : (bytes : List ℕ) (ending : Ending) → past ≡ came bytes ending (unused (named lender name files.uses))
+      → IsReadAs name bytes ending files files_now
+  read_as bytes AtEnd is =
+      rw is at (used_is name lender files files_now past Whole idle (rw is refl) (shown.whole (rw is (omega arith))))
+  read_as [] Open is =
+      rw is at (shown.untouched (rw is refl) (rw is refl) (rw is refl))
+      ∙ ap (λ c. record { uses = files.uses; current = c }) (sym idle)
+  read_as (byte ∷ bytes) Open is =
+      rw is at (used_is name lender files files_now past Left idle (rw is refl)
+      (shown.used (rw is refl) (rw is refl) (rw is (omega arith))))
+  read_as bytes Broken is =
+      let failed = shown.failed (rw is (omega arith)) in
+      (failed.0, rw is at failed.1, rw is at (used_is name lender files files_now past failed.0 idle (rw is refl) failed.2))
 
-  pub of_file : (r : Result T F) (source : Option (List ℕ)) (name : List ℕ) (lender : ℕ) (files files_now : Files)
-      (opened past input : Past) → source ≡ Some name → opened ≡ unused (named lender name files.uses)
-      → IsShown false Left past files_now → IfErr r (λ fault. P fault opened past)
-      → IfErr r (λ fault. OfSource (P fault) source files files_now input input)
-  of_file (Ok x) source name lender files files_now opened past input some new shown said = tt
-  of_file (Err fault) source name lender files files_now opened past input some new shown said =
-      rw some (record { lender = lender; after = past; holds = rw new at said; shown = shown }, refl)
+module _ (Says : List ℕ → Ending → Type 0) (source : Option (List ℕ)) (files : Files) (input output : Past) where
+  pub of_stream : (input_now : Past) → source ≡ None → Read Says input input_now
+      → ReadIn Says source (world files input output) (world files input_now output)
+  of_stream input_now none read = record {
+    bytes = read.bytes;
+    ending = read.ending;
+    says = read.says;
+    came = rw none (ap (λ (past : Past). world files past output) read.came);
+  }
 
--- a text was written whole to a file that could not be closed
-pub not_kept : {A E B F : Type 0} (r : Result A E) (answer : Result B F) (destination : Option (List ℕ))
-    (name text : List ℕ) (lender : ℕ) (files files_now : Files) (opened past output : Past) → destination ≡ Some name
-    → opened ≡ unused (named lender name files.uses) → files.current ≡ None
-    → IsShown true (closing answer) past files_now → closing answer ≡ NotKept → past ≡ took text opened
-    → 0 < length text → OnErr r (FailedWriting destination text files files_now output output)
-not_kept (Ok x) answer destination name text lender files files_now opened past output _ _ _ _ _ _ _ = tt
-not_kept (Err e) answer destination name text lender files files_now opened past output some new idle shown lost all
-    long =
-    let is : past ≡ took text (unused (named lender name files.uses)) = rw new at all in
-    let bytes : past.bytes ≡ text = ap (λ (p : Past). p.bytes) is in
-    let there = shown.used (rw is refl) (rw is refl) (rw bytes long) in
-    let kept = used_is name lender files files_now past NotKept idle (rw is refl) (rw lost at there) in
-    rw some ((length text, NotKept, take-length text, rw take-length (rw bytes at kept)), refl)
+  pub of_file : (name : List ℕ) (lender : ℕ) (files_now : Files) (opened past : Past) → source ≡ Some name
+      → opened ≡ unused (named lender name files.uses) → files.current ≡ None → IsShown false Left past files_now
+      → Read Says opened past → ReadIn Says source (world files input output) (world files_now input output)
+  of_file name lender files_now opened past some new idle shown read = record {
+    bytes = read.bytes;
+    ending = read.ending;
+    says = read.says;
+    came = rw some (
+      files_now,
+      read_as name lender files files_now past idle shown read.bytes read.ending (rw new at read.came),
+      refl,
+    );
+  }
 
-module _ (request : Sim) (found : Circuit) (f f1 f2 : Files) (i i1 i2 o o2 : Past)
-    (read : HasReadFrom (λ bytes. IsFileOf bytes request.max_var found) (name_of request.model) f f1 i i1) where
-  traced : (source : Option (List ℕ)) → f1.current ≡ None
-      → OfSource (λ s s_now. DoneAs request found None s s_now o o2) source f1 f2 i1 i2
-      → (request.witness ≡ false) × DoneBetween (IsWrittenText request read.bytes) source None
-      (source_read (name_of request.model) read.bytes (world f i o)) (world f2 i2 o2)
-  traced None idle (done, same) =
-      let text = written_text request read.bytes found read.holds i1 i2 o o2 done.1 in
-      let files = read.of_files in
-      let input = read.of_input in
-      (done.0, record { bytes = text.1.bytes; text = text.0; is_text = text.1.holds; world = cc })
-  traced (Some name) idle (file, same) =
-      let text = written_text request read.bytes found read.holds _ _ o o2 file.holds.1 in
-      let gave = text.1.gave in
-      let files = used_is name file.lender f1 f2 file.after Whole idle (ap (λ (p : Past). p.origin) gave)
-      (file.shown.whole (omega (arith, ap (λ (p : Past). p.ends) gave))) in
-      let before = read.of_files in
-      let input = read.of_input in
-      (file.holds.0, record { bytes = text.1.bytes; text = text.0; is_text = text.1.holds; world = cc })
+-- what was sent to the output, of all that a call can reach
+pub to_output : (Says : List ℕ → Taking → Type 0) (files : Files) (input output output_now : Past)
+    → Sent Says output output_now → SentIn Says None (world files input output) (world files input output_now)
+to_output Says files input output output_now s = record {
+  text = s.text;
+  taking = s.taking;
+  says = s.says;
+  sent = ap (λ (past : Past). world files input past) s.sent;
+}
 
-  pub simulated : {E : Type 0} (r : Result (Option Verdict) E) → f1.current ≡ None
-      → IfOk r (λ verdict. OfSource (λ s s_now. DoneAs request found verdict s s_now o o2) (name_of request.stimulus)
-      f1 f2 i1 i2) → IfOk r (λ verdict. SimulationDone request verdict (world f i o) (world f2 i2 o2))
-  simulated (Ok None) idle done =
-      let is = traced (name_of request.stimulus) idle done in (is.0, (read.bytes, is.1))
-  simulated (Ok (Some verdict)) idle done =
-      (read.bytes, found, read.holds, rw (read.of_files, read.of_input) at done)
-  simulated (Err e) idle done = tt
+-- a source was read, and a text went to the output
+module _ (Says : List ℕ → Ending → List ℕ → Taking → Type 0) (source : Option (List ℕ)) (files : Files)
+    (input output output_now : Past) where
+  -- of all that a call can reach, where these are the files and the input then
+  gone : (files_now : Files) (input_now : Past) (s s_now : Past) → Ran Says s s_now output output_now
+      → Read (λ bytes ending. SentIn (Says bytes ending) None (world files_now input_now output)
+      (world files_now input_now output_now)) s s_now
+  gone files_now input_now s s_now = read_weaker _ _ s s_now
+      (λ bytes ending. to_output (Says bytes ending) files_now input_now output output_now)
 
-  pub not_simulated : {T : Type 0} (r : Result T ToolFault)
-      → IfErr r (λ fault. OfSource (λ s s_now. NotDoneAs request found fault s s_now o o2) (name_of request.stimulus)
-      f1 f2 i1 i2) → IfErr r (λ fault. SimulationNotDone request fault (world f i o) (world f2 i2 o2))
-  not_simulated (Ok x) done = tt
-  not_simulated (Err fault) done =
-      inr (read.bytes, found, read.holds, rw (read.of_files, read.of_input) at done)
+  pub ran_of_stream : (input_now : Past) → source ≡ None → Ran Says input input_now output output_now
+      → RanBetween Says source None (world files input output) (world files input_now output_now)
+  ran_of_stream input_now none ran = (
+    world files input_now output,
+    of_stream _ source files input output input_now none (gone files input_now input input_now ran),
+  )
+
+  pub ran_of_file : (name : List ℕ) (lender : ℕ) (files_now : Files) (opened past : Past) → source ≡ Some name
+      → opened ≡ unused (named lender name files.uses) → files.current ≡ None → IsShown false Left past files_now
+      → Ran Says opened past output output_now
+      → RanBetween Says source None (world files input output) (world files_now input output_now)
+  ran_of_file name lender files_now opened past some new idle shown ran = (
+    world files_now input output,
+    of_file _ source files input output name lender files_now opened past some new idle shown
+        (gone files_now input opened past ran),
+  )
+
+-- a failure of a file that is written is an end of writing
+write_end : (text bytes : List ℕ) (end : End) → IsFailure true bytes end → IsWriteEnd text bytes end
+write_end text bytes NotOpened failure = failure
+write_end text bytes ReadFailed failure = failure
+write_end text bytes Left failure = failure
+write_end text bytes NotMade failure = failure
+write_end text bytes WriteFailed failure = failure
+write_end text bytes Whole failure = failure
+write_end text bytes Written failure = failure
+write_end text bytes NotKept failure = absurd failure
+
+-- a text went to a destination that a request names
+module _ (text : List ℕ) (destination : Option (List ℕ)) (files : Files) (input output : Past) where
+  sent_whole : (output_now : Past) → destination ≡ None → output_now ≡ took text output
+      → SentIn (λ t taking. (t ≡ text) × (taking ≡ All)) destination (world files input output)
+      (world files input output_now)
+  sent_whole output_now none all = record {
+    text = text;
+    taking = All;
+    says = (refl, refl);
+    sent = rw none (ap (λ (past : Past). world files input past) all);
+  }
+
+  sent_in_part : (output_now : Past) → destination ≡ None → TookBeginning text output output_now
+      → SentIn (λ t taking. (t ≡ text) × IsCut taking) destination (world files input output)
+      (world files input output_now)
+  sent_in_part output_now none part = record {
+    text = text;
+    taking = Beginning part.count;
+    says = (refl, tt);
+    sent = rw none (ap (λ (past : Past). world files input past) part.past);
+  }
+
+  -- by the answer
+  pub sent_so : {A E : Type 0} (r : Result A E) (output_now : Past) → destination ≡ None
+      → OnOk r (output_now ≡ took text output) → OnErr r (TookBeginning text output output_now)
+      → SentIn (λ t taking. (t ≡ text) × TakesAs r taking) destination (world files input output)
+      (world files input output_now)
+  sent_so (Ok done) output_now none all part = sent_whole output_now none all
+  sent_so (Err fault) output_now none all part = sent_in_part output_now none part
+
+  module _ (name : List ℕ) (lender : ℕ) (files_now : Files) (opened past : Past) (end : End)
+      (some : destination ≡ Some name) (new : opened ≡ unused (named lender name files.uses))
+      (idle : files.current ≡ None) (shown : IsShown true end past files_now) where
+    -- all was written, and the file was closed so
+    used_whole : past ≡ took text opened → 0 < length text → files_now ≡ with_use name text end files
+    used_whole all long =
+        let is : past ≡ took text (unused (named lender name files.uses)) = rw new at all in
+        let bytes : past.bytes ≡ text = ap (λ (p : Past). p.bytes) is in
+        rw bytes at (used_is name lender files files_now past end idle (rw is refl)
+        (shown.used (rw is refl) (rw is refl) (rw bytes long)))
+
+    pub file_whole : past ≡ took text opened → 0 < length text → end ≡ Written
+        → SentIn (λ t taking. (t ≡ text) × (taking ≡ All)) destination (world files input output)
+        (world files_now input output)
+    file_whole all long closed = record {
+      text = text;
+      taking = All;
+      says = (refl, refl);
+      sent = rw some (files_now, rw closed at (used_whole all long), refl);
+    }
+
+    pub file_not_kept : past ≡ took text opened → 0 < length text → end ≡ NotKept
+        → SentIn (λ t taking. (t ≡ text) × IsCut taking) destination (world files input output)
+        (world files_now input output)
+    file_not_kept all long closed = record {
+      text = text;
+      taking = Beginning (length text);
+      says = (refl, tt);
+      sent = rw some (
+        files_now,
+        (NotKept, take-length text, rw take-length (rw closed at (used_whole all long))),
+        refl,
+      );
+    }
+
+    pub file_in_part : TookBeginning text opened past
+        → SentIn (λ t taking. (t ≡ text) × IsCut taking) destination (world files input output)
+        (world files_now input output)
+    file_in_part part =
+        let is = rw new at part.past in
+        let failed = shown.failed (rw is (omega arith)) in
+        let bytes : past.bytes ≡ take part.count text = rw is refl in
+        record {
+          text = text;
+          taking = Beginning part.count;
+          says = (refl, tt);
+          sent = rw some (
+            files_now,
+            (
+              failed.0,
+              write_end text (take part.count text) failed.0 (rw bytes at failed.1),
+              rw bytes at (used_is name lender files files_now past failed.0 idle (rw is refl) failed.2),
+            ),
+            refl,
+          );
+        }
+
+-- a source was read, and then a text was sent
+pub ran_on : (P : List ℕ → Ending → List ℕ → Taking → Type 0) (Q : List ℕ → Ending → Type 0)
+    (R : List ℕ → Taking → Type 0) (source destination : Option (List ℕ)) (before between after : World)
+    → ((bytes : List ℕ) (ending : Ending) (text : List ℕ) (taking : Taking) → Q bytes ending → R text taking
+    → P bytes ending text taking)
+    → ReadIn Q source before between → SentIn R destination between after → RanBetween P source destination before after
+ran_on P Q R source destination before between after say read went = (
+  between,
+  record {
+    bytes = read.bytes;
+    ending = read.ending;
+    says = record {
+      text = went.text;
+      taking = went.taking;
+      says = say read.bytes read.ending went.text went.taking read.says went.says;
+      sent = went.sent;
+    };
+    came = read.came;
+  },
+)
+
+-- nothing was sent
+not_sent : (destination : Option (List ℕ)) (w : World) → SentTo destination [] NotSent w w
+not_sent None w = refl
+not_sent (Some name) w = (w.files, refl, refl)
+
+module _ (IsText : List ℕ → List ℕ → Type 0) (IsRefused : ToolFault → List ℕ → Type 0) where
+  says_unsent : (fault : ToolFault) (bytes : List ℕ) (ending : Ending) → NotRead IsRefused fault bytes ending
+      → Says IsText IsRefused (Err fault) bytes ending [] NotSent
+  says_unsent (faults.Read f) bytes ending none = (none, refl)
+  says_unsent (faults.Map f) bytes ending none = (none, refl)
+  says_unsent (faults.Sim f) bytes ending none = (none, refl)
+  says_unsent (faults.Unroll f) bytes ending none = (none, refl)
+  says_unsent faults.Source bytes ending none = (none, refl)
+  says_unsent faults.Sink bytes ending none = absurd none
+  says_unsent faults.OutOfMemory bytes ending none = (none, refl)
+
+  -- nothing was made of what came
+  pub not_ran : (fault : ToolFault) (source destination : Option (List ℕ)) (before after : World)
+      → ReadIn (NotRead IsRefused fault) source before after
+      → RanBetween (Says IsText IsRefused (Err fault)) source destination before after
+  not_ran fault source destination before after read = (
+    after,
+    record {
+      bytes = read.bytes;
+      ending = read.ending;
+      says = record {
+        text = [];
+        taking = NotSent;
+        says = says_unsent fault read.bytes read.ending read.says;
+        sent = not_sent destination after;
+      };
+      came = read.came;
+    },
+  )

@@ -1,6 +1,7 @@
 -- How a call of the program ends: its status, and what it did with files and streams (this project's profile).
 use Rattle.std.specs.Prelude.{◌≡◌, ◌⊎◌, ℕ, List, Option, None, Some, Result, Ok, Err, codes, string_bytes}
 use Rattle.aig_io.specs.Devices.{Past, TookBeginning, took}
+use Rattle.aig_io.specs.Runs.{Ending, Taking}
 use Rattle.aig_command.specs.Answer.{IsCommand, IsUsage, name_of}
 use Rattle.aig_command.specs.declared.request.Command.{Command}
 use Rattle.aig_command.specs.declared.request.Command.TheVariants as commands
@@ -10,11 +11,12 @@ use Rattle.aig_command.specs.declared.usage.Usage.TheVariants as usages
 use Rattle.aig_witness.specs.declared.verdict.Verdict.{Verdict}
 use Rattle.aig_witness.specs.declared.verdict.Verdict.TheVariants.{Confirmed, NotConfirmed}
 use Rattle.aig_engines.specs.declared.fault.ToolFault.{ToolFault}
+use Rattle.aig_engines.specs.Outcome.{Says}
 use Rattle.aig_engines.specs.Conversion.{IsConversionRefused, IsConversionText}
 use Rattle.aig_engines.specs.Unrolling.{IsUnrollingRefused, IsUnrollingText}
 use Rattle.aig_engines.specs.Messages.{error_line, line_of, IsReported, simulation_error_line, usage_text}
-use Rattle.aig_tools.specs.Named.{DoneBetween, NotDoneBetween, World}
-use Rattle.aig_tools.specs.SimulationOutcome.{SimulationDone, SimulationNotDone}
+use Rattle.aig_tools.specs.Named.{RanBetween, World}
+use Rattle.aig_tools.specs.SimulationOutcome.{RanForIn, TaskSays, task_of}
 
 -- what is answered to the words
 abbrev pub IsAnswered : List (List ℕ) → Result Command Usage → Type 0
@@ -26,29 +28,33 @@ abbrev pub status_of : Usage → ℕ
 status_of usages.OutOfMemory = 1
 status_of usage = 2
 
--- What was asked for has one source and one destination: it is done and nothing is reported, or its fault is reported
--- in one line.
-abbrev pub EndsBetween : (List ℕ → List ℕ → Type 0) → (ToolFault → List ℕ → Type 0)
-    → (source destination : Option (List ℕ)) (before after : World) (errors errors_now : Past) → ℕ → Type 0
-EndsBetween IsText IsRefused source destination before after errors errors_now status =
-    ((status ≡ 0) × (errors_now ≡ errors) × DoneBetween IsText source destination before after)
-    ⊎ ((status ≡ 1) × ((fault : ToolFault) × NotDoneBetween IsText IsRefused fault source destination before after
-    × IsReported errors errors_now (error_line source destination fault)))
-
 -- the status where what was asked for is done: 1 where a witness is not confirmed, else 0
 abbrev pub done_status : Option Verdict → ℕ
 done_status None = 0
 done_status (Some (Confirmed step)) = 0
 done_status (Some NotConfirmed) = 1
 
--- A simulation was asked for, or a verdict on a witness file, which stands in the place of the stimulus. Also where a
--- witness is not confirmed nothing is reported: the verdict is written to the output.
+-- Nothing is reported where it is done, also where a witness is not confirmed; a fault is reported in this line.
+abbrev pub AnswerEnds : {A : Type 0} → (A → ℕ) → (ToolFault → List ℕ) → Result A ToolFault → (errors errors_now : Past)
+    → ℕ → Type 0
+AnswerEnds status_when_done line (Ok done) errors errors_now status =
+    (status ≡ status_when_done done) × (errors_now ≡ errors)
+AnswerEnds status_when_done line (Err fault) errors errors_now status =
+    (status ≡ 1) × IsReported errors errors_now (line fault)
+
+-- what was asked for has one source and one destination
+abbrev pub EndsBetween : (Result (Unit {0}) ToolFault → List ℕ → Ending → List ℕ → Taking → Type 0)
+    → (source destination : Option (List ℕ)) (before after : World) (errors errors_now : Past) → ℕ → Type 0
+EndsBetween Says source destination before after errors errors_now status =
+    (answer : Result (Unit {0}) ToolFault) × RanBetween (Says answer) source destination before after
+    × AnswerEnds (λ done. 0) (error_line source destination) answer errors errors_now status
+
+-- a simulation was asked for, or a verdict on a witness file
 abbrev pub SimulationEnds : Sim → (before after : World) (errors errors_now : Past) → ℕ → Type 0
 SimulationEnds request before after errors errors_now status =
-    ((verdict : Option Verdict) × (status ≡ done_status verdict) × (errors_now ≡ errors)
-    × SimulationDone request verdict before after)
-    ⊎ ((status ≡ 1) × ((fault : ToolFault) × SimulationNotDone request fault before after
-    × IsReported errors errors_now (simulation_error_line request fault)))
+    (answer : Result (Option Verdict) ToolFault)
+    × RanForIn request (λ found. TaskSays (task_of request) found answer) answer before after
+    × AnswerEnds done_status (simulation_error_line request) answer errors errors_now status
 
 -- a text was to be printed: the output took it, or failed and that is reported
 abbrev pub IsPrinted : List ℕ → (output output_now errors errors_now : Past) → ℕ → Type 0
@@ -71,10 +77,10 @@ RefusalEnds usage before after errors errors_now status =
 -- how the program ends, by what is answered to its words
 abbrev pub EndsAs : Result Command Usage → (before after : World) (errors errors_now : Past) → ℕ → Type 0
 EndsAs (Ok (commands.ToAig request)) before after errors errors_now status =
-    EndsBetween (IsConversionText request) (IsConversionRefused request) (name_of request.source)
+    EndsBetween (Says (IsConversionText request) (IsConversionRefused request)) (name_of request.source)
     (name_of request.destination) before after errors errors_now status
 EndsAs (Ok (commands.Unroll request)) before after errors errors_now status =
-    EndsBetween (IsUnrollingText request) (IsUnrollingRefused request) (name_of request.source)
+    EndsBetween (Says (IsUnrollingText request) (IsUnrollingRefused request)) (name_of request.source)
     (name_of request.destination) before after errors errors_now status
 EndsAs (Ok (commands.Sim request)) before after errors errors_now status =
     SimulationEnds request before after errors errors_now status

@@ -1,12 +1,10 @@
 -- What is done with the source and the destination that a request names: each is a stream, or a file with its name
--- (this project's profile). Files, input and output are told as they were and as they are now.
-use Rattle.std.specs.Prelude.{◌≡◌, ◌⊎◌, ◌∷◌, ℕ, List, [], take, Option, None, Some, false, true}
-use Rattle.aig_io.specs.Devices.{Past, TookBeginning, gave_all, took, unused}
+-- (this project's profile).
+use Rattle.std.specs.Prelude.{◌≡◌, ◌∷◌, ℕ, List, [], take, Option, None, Some, Result, Ok, Err, false, true}
+use Rattle.aig_io.specs.Devices.{Past}
 use Rattle.aig_io.specs.Files.{End, Files, Left, NotKept, Whole, Written, used}
-use Rattle.aig_files.specs.Named.{IsFailure, IsShown, named}
-use Rattle.aig_engines.specs.declared.fault.ToolFault.{ToolFault}
-use Rattle.aig_engines.specs.declared.fault.ToolFault.TheVariants as faults
-use Rattle.aig_engines.specs.Reading.{NotRead}
+use Rattle.aig_io.specs.Runs.{All, AtEnd, Beginning, Broken, Ending, IsCut, NotSent, Open, Taking, came, sent}
+use Rattle.aig_files.specs.Named.{IsFailure}
 
 -- all that a call of the program can reach beside the sink for errors
 pub record World : Type 0 where
@@ -25,59 +23,13 @@ no_files = record { uses = []; current = None }
 abbrev pub with_use : List ℕ → List ℕ → End → Files → Files
 with_use name bytes end files = record files { uses = used name bytes end ∷ files.uses }
 
--- the files and the input once all bytes of the source were read
-abbrev pub files_read : Option (List ℕ) → List ℕ → Files → Files
-files_read None bytes files = files
-files_read (Some name) bytes files = with_use name bytes Whole files
-
-abbrev pub input_read : Option (List ℕ) → List ℕ → Past → Past
-input_read None bytes input = gave_all bytes input
-input_read (Some name) bytes input = input
-
-abbrev pub source_read : Option (List ℕ) → List ℕ → World → World
-source_read source bytes w =
-    record w { files = files_read source bytes w.files; input = input_read source bytes w.input }
-
--- the files and the output once the text was written to the destination
-abbrev pub files_written : Option (List ℕ) → List ℕ → Files → Files
-files_written None text files = files
-files_written (Some name) text files = with_use name text Written files
-
-abbrev pub output_written : Option (List ℕ) → List ℕ → Past → Past
-output_written None text output = took text output
-output_written (Some name) text output = output
-
-abbrev pub written : Option (List ℕ) → List ℕ → World → World
-written destination text w =
-    record w { files = files_written destination text w.files; output = output_written destination text w.output }
-
--- all bytes of the source were read, and this holds of them
-pub record HasReadFrom (Holds : List ℕ → Type 0) (source : Option (List ℕ)) (files files_now : Files)
-    (input input_now : Past) : Type 0 where
-  pub bytes : List ℕ
-  pub holds : Holds bytes
-  pub of_files : files_now ≡ files_read source bytes files
-  pub of_input : input_now ≡ input_read source bytes input
-
--- P holds of the file with this name, as it was before anything was read of it and as it is left, which the files show.
-pub record OfFile (P : Past → Past → Type 0) (name : List ℕ) (files files_now : Files) : Type 0 where
-  pub lender : ℕ
-  pub after : Past
-  pub holds : P (unused (named lender name files.uses)) after
-  pub shown : IsShown false Left after files_now
-
--- P holds of the source that a request names, and no other was touched
-abbrev pub OfSource : (Past → Past → Type 0) → Option (List ℕ) → (files files_now : Files) (input input_now : Past)
-    → Type 0
-OfSource P None files files_now input input_now = P input input_now × (files_now ≡ files)
-OfSource P (Some name) files files_now input input_now = OfFile P name files files_now × (input_now ≡ input)
-
--- Why nothing was made of what the source gives: it failed, or memory was refused; or all its bytes came, and they are
--- refused with this fault.
-abbrev pub NotReadFrom : (ToolFault → List ℕ → Type 0) → ToolFault → Option (List ℕ) → (before after : World) → Type 0
-NotReadFrom IsRefused fault source before after =
-    OfSource (NotRead IsRefused fault) source before.files after.files before.input after.input
-    × (after.output ≡ before.output)
+-- the file with this name gave these bytes, which ended so; it is opened at the first call
+abbrev pub IsReadAs : List ℕ → List ℕ → Ending → (files files_now : Files) → Type 0
+IsReadAs name bytes AtEnd files files_now = files_now ≡ with_use name bytes Whole files
+IsReadAs name [] Open files files_now = files_now ≡ files
+IsReadAs name (byte ∷ bytes) Open files files_now = files_now ≡ with_use name (byte ∷ bytes) Left files
+IsReadAs name bytes Broken files files_now =
+    (end : End) × IsFailure false bytes end × (files_now ≡ with_use name bytes end files)
 
 -- how the writing of this text to a file ended where it failed, by the bytes that the file took: one that was not kept
 -- took all
@@ -85,35 +37,48 @@ abbrev pub IsWriteEnd : List ℕ → List ℕ → End → Type 0
 IsWriteEnd text bytes NotKept = bytes ≡ text
 IsWriteEnd text bytes end = IsFailure true bytes end
 
--- writing a text to the destination failed: it took a beginning, and no other was touched
-abbrev pub FailedWriting : Option (List ℕ) → List ℕ → (files files_now : Files) (output output_now : Past) → Type 0
-FailedWriting None text files files_now output output_now =
-    TookBeginning text output output_now × (files_now ≡ files)
-FailedWriting (Some name) text files files_now output output_now =
-    ((count : ℕ) × (end : End) × IsWriteEnd text (take count text) end
-    × (files_now ≡ with_use name (take count text) end files)) × (output_now ≡ output)
+-- the file with this name took so much of this text; it is made for the first byte
+abbrev pub IsWrittenAs : List ℕ → List ℕ → Taking → (files files_now : Files) → Type 0
+IsWrittenAs name text NotSent files files_now = files_now ≡ files
+IsWrittenAs name text All files files_now = files_now ≡ with_use name text Written files
+IsWrittenAs name text (Beginning count) files files_now =
+    (end : End) × IsWriteEnd text (take count text) end × (files_now ≡ with_use name (take count text) end files)
 
--- Done: the source was read to its end, its text was written to the destination, and nothing else was done.
-pub record DoneBetween (IsText : List ℕ → List ℕ → Type 0) (source destination : Option (List ℕ))
-    (before after : World) : Type 0 where
+-- how much of a text is taken where writing it answers so
+abbrev pub TakesAs : {A E : Type 0} → Result A E → Taking → Type 0
+TakesAs (Ok done) taking = taking ≡ All
+TakesAs (Err fault) taking = IsCut taking
+
+-- the source gave these bytes, which ended so, and no other was touched
+abbrev pub CameFrom : Option (List ℕ) → List ℕ → Ending → (before after : World) → Type 0
+CameFrom None bytes ending before after = after ≡ record before { input = came bytes ending before.input }
+CameFrom (Some name) bytes ending before after =
+    (files : Files) × IsReadAs name bytes ending before.files files × (after ≡ record before { files = files })
+
+-- the destination took so much of this text, and no other was touched
+abbrev pub SentTo : Option (List ℕ) → List ℕ → Taking → (before after : World) → Type 0
+SentTo None text taking before after = after ≡ record before { output = sent text taking before.output }
+SentTo (Some name) text taking before after =
+    (files : Files) × IsWrittenAs name text taking before.files files × (after ≡ record before { files = files })
+
+-- The source was read, and this holds of what came.
+pub record ReadIn (Says : List ℕ → Ending → Type 0) (source : Option (List ℕ)) (before after : World) : Type 0 where
   pub bytes : List ℕ
-  pub text : List ℕ
-  pub is_text : IsText bytes text
-  pub world : after ≡ written destination text (source_read source bytes before)
+  pub ending : Ending
+  pub says : Says bytes ending
+  pub came : CameFrom source bytes ending before after
 
--- The destination failed: the source was read to its end, and a beginning of its text was written.
-pub record FailedBetween (IsText : List ℕ → List ℕ → Type 0) (source destination : Option (List ℕ))
-    (before after : World) : Type 0 where
-  pub bytes : List ℕ
-  pub text : List ℕ
-  pub is_text : IsText bytes text
-  pub input : after.input ≡ input_read source bytes before.input
-  pub wrote : FailedWriting destination text (files_read source bytes before.files) after.files
-      before.output after.output
+-- A text was sent to the destination, and this holds of it and of how much was taken.
+pub record SentIn (Says : List ℕ → Taking → Type 0) (destination : Option (List ℕ)) (before after : World) : Type 0
+  where
+    pub text : List ℕ
+    pub taking : Taking
+    pub says : Says text taking
+    pub sent : SentTo destination text taking before after
 
--- not done: the destination failed, or there is no text and the destination was not touched
-abbrev pub NotDoneBetween : (List ℕ → List ℕ → Type 0) → (ToolFault → List ℕ → Type 0) → ToolFault
-    → (source destination : Option (List ℕ)) (before after : World) → Type 0
-NotDoneBetween IsText IsRefused fault source destination before after =
-    ((fault ≡ faults.Sink) × FailedBetween IsText source destination before after)
-    ⊎ NotReadFrom IsRefused fault source before after
+-- The source was read and a text was sent to the destination, and this holds of both.
+abbrev pub RanBetween : (List ℕ → Ending → List ℕ → Taking → Type 0) → (source destination : Option (List ℕ))
+    (before after : World) → Type 0
+RanBetween Says source destination before after =
+    (between : World)
+    × ReadIn (λ bytes ending. SentIn (Says bytes ending) destination between after) source before between

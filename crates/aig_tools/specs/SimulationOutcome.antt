@@ -1,89 +1,69 @@
--- What came of a simulation, or of judging a witness file.
-use Rattle.std.specs.Prelude.{◌≡◌, ◌⊎◌, ℕ, List, Option, None, Some, MatchBool, false, true}
-use Rattle.aig_io.specs.Devices.{Past, took}
+-- What the answer of a simulation says, or of judging a witness file (this project's profile).
+use Rattle.std.specs.Prelude.{◌≡◌, ◌⊎◌, ℕ, List, Option, None, Some, Result, Ok, Err, if◌then◌else◌}
+use Rattle.aig_io.specs.Runs.{All, AtEnd, Ending, Taking}
 use Rattle.aig_circuit.specs.declared.circuit.Circuit.{Circuit}
 use Rattle.aig_command.specs.Answer.{name_of}
 use Rattle.aig_command.specs.declared.request.Sim.{Sim}
 use Rattle.aig_step.specs.declared.fault.SimFault.{SimFault}
 use Rattle.aig_witness.specs.declared.verdict.Verdict.{Verdict}
-use Rattle.aig_witness.specs.Confirming.{Judged}
-use Rattle.aig_claims.specs.RunDump.{JudgedWith}
-use Rattle.aig_dump.specs.Dumped.{DumpedAs, Ran}
+use Rattle.aig_dump.specs.Dumped.{DumpSays, TraceSaysAs}
 use Rattle.aig_engines.specs.declared.fault.ToolFault.{ToolFault}
+use Rattle.aig_engines.specs.declared.fault.ToolFault.TheVariants as faults
 use Rattle.aig_engines.specs.File.{IsFileOf}
-use Rattle.aig_engines.specs.Outcome.{Done}
-use Rattle.aig_engines.specs.Reading.{HasRead, IsUnreadable, NotRead}
+use Rattle.aig_engines.specs.Outcome.{IsModel}
+use Rattle.aig_engines.specs.Reading.{IsUnreadable, NotRead}
 use Rattle.aig_engines.specs.Simulation.{IsWrittenText, columns_of}
-use Rattle.aig_engines.specs.WitnessDump.{NotDumpedFor}
-use Rattle.aig_engines.specs.WitnessOutcome.{NotAnsweredFor, OfSteps, answer_line}
-use Rattle.aig_tools.specs.Named.{DoneBetween, NotReadFrom, OfSource, World, files_read, input_read, source_read}
+use Rattle.aig_engines.specs.WitnessDump.{RunDumpSays}
+use Rattle.aig_engines.specs.WitnessOutcome.{AnswerSays}
+use Rattle.aig_tools.specs.declared.task.Task.{Task}
+use Rattle.aig_tools.specs.declared.task.Task.TheVariants as tasks
+use Rattle.aig_tools.specs.Named.{RanBetween, ReadIn, World}
 
--- what came of a simulation that writes what the request asks for
-abbrev pub SimulatedAs : Sim → Circuit → Option SimFault → (stimulus stimulus_now sink sink_now : Past) → Type 0
-SimulatedAs request c fault stimulus stimulus_now sink sink_now =
-    MatchBool request.vcd (DumpedAs request.batch c fault stimulus stimulus_now sink sink_now)
-    (Ran request.batch c (columns_of request) fault stimulus stimulus_now sink sink_now)
+-- what a request asks for
+abbrev pub task_of : Sim → Task
+task_of request =
+    if request.witness then (if request.vcd then tasks.RunDump else tasks.Verdict)
+    else (if request.vcd then tasks.Dump request.batch else tasks.Trace request.batch (columns_of request))
 
--- the model and the stimulus gave all their bytes, and the sink took what is written for them
-abbrev pub Traced : Sim → (model model_now stimulus stimulus_now sink sink_now : Past) → Type 0
-Traced request model model_now stimulus stimulus_now sink sink_now =
-    HasRead (λ bytes. Done (IsWrittenText request bytes) stimulus stimulus_now sink sink_now) model model_now
+-- what an answer without a verdict says, which blames the steps alone
+abbrev pub OfSteps : (Result (Unit {0}) SimFault → List ℕ → Ending → List ℕ → Taking → Type 0)
+    → Result (Option Verdict) ToolFault → List ℕ → Ending → List ℕ → Taking → Type 0
+OfSteps Says (Ok None) bytes ending text taking = Says (Ok tt) bytes ending text taking
+OfSteps Says (Err (faults.Sim fault)) bytes ending text taking = Says (Err fault) bytes ending text taking
+OfSteps Says answer bytes ending text taking = ⊥
 
--- What a fault of a simulation says. Nothing is fetched of the stimulus, and nothing is sent, before the whole model is
--- read and found right.
-abbrev pub NotTraced : Sim → ToolFault → (model model_now stimulus stimulus_now sink sink_now : Past) → Type 0
-NotTraced request fault model model_now stimulus stimulus_now sink sink_now =
-    (NotRead (IsUnreadable request.max_var) fault model model_now × (stimulus_now ≡ stimulus) × (sink_now ≡ sink))
-    ⊎ ((found : Circuit) × HasRead (λ bytes. IsFileOf bytes request.max_var found) model model_now
-    × OfSteps (λ sim. SimulatedAs request found (Some sim) stimulus stimulus_now sink sink_now) fault)
+-- what an answer with a verdict says
+abbrev pub OfVerdict : (Result Verdict ToolFault → List ℕ → Ending → List ℕ → Taking → Type 0)
+    → Result (Option Verdict) ToolFault → List ℕ → Ending → List ℕ → Taking → Type 0
+OfVerdict Says (Ok None) bytes ending text taking = ⊥
+OfVerdict Says (Ok (Some verdict)) bytes ending text taking = Says (Ok verdict) bytes ending text taking
+OfVerdict Says (Err fault) bytes ending text taking = Says (Err fault) bytes ending text taking
 
--- A witness file was judged, and the sink took the line of the verdict, or a dump, as the request asks.
-abbrev pub AnsweredAs : Sim → Circuit → Verdict → (witness witness_now sink sink_now : Past) → Type 0
-AnsweredAs request c verdict witness witness_now sink sink_now =
-    MatchBool request.vcd (JudgedWith c verdict witness witness_now (λ text. sink_now ≡ took text sink))
-    (Judged c verdict witness witness_now × (sink_now ≡ took (answer_line verdict) sink))
+-- what an answer says where this was asked for this circuit
+abbrev pub TaskSays : Task → Circuit → Result (Option Verdict) ToolFault → List ℕ → Ending → List ℕ → Taking → Type 0
+TaskSays (tasks.Trace batch columns) c = OfSteps (TraceSaysAs batch c columns)
+TaskSays (tasks.Dump batch) c = OfSteps (DumpSays batch c)
+TaskSays tasks.Verdict c = OfVerdict (AnswerSays c)
+TaskSays tasks.RunDump c = OfVerdict (RunDumpSays c)
 
--- what a fault says where it was to be judged
-abbrev pub NotAnsweredAs : Sim → Circuit → ToolFault → (witness witness_now sink sink_now : Past) → Type 0
-NotAnsweredAs request c fault witness witness_now sink sink_now =
-    MatchBool request.vcd (NotDumpedFor c fault witness witness_now sink sink_now)
-    (NotAnsweredFor c fault witness witness_now sink sink_now)
+-- an answer of one who asks for no verdict
+abbrev pub without_verdict : Result (Unit {0}) ToolFault → Result (Option Verdict) ToolFault
+without_verdict (Ok done) = Ok None
+without_verdict (Err fault) = Err fault
 
--- What was done for a circuit with a stimulus: its trace was written, or the dump of that; or it was judged as a
--- witness file, and the verdict was written.
-abbrev pub DoneAs : Sim → Circuit → Option Verdict → (stimulus stimulus_now sink sink_now : Past) → Type 0
-DoneAs request c None stimulus stimulus_now sink sink_now =
-    (request.witness ≡ false) × SimulatedAs request c None stimulus stimulus_now sink sink_now
-DoneAs request c (Some verdict) stimulus stimulus_now sink sink_now =
-    (request.witness ≡ true) × AnsweredAs request c verdict stimulus stimulus_now sink sink_now
+-- Of the files and streams that the request names: the model was not read or is no file of a circuit, and nothing else
+-- was called; or it is the file of this circuit, and this was done for it.
+abbrev pub RanForIn : {A : Type 0} → Sim → (Circuit → List ℕ → Ending → List ℕ → Taking → Type 0) → Result A ToolFault
+    → (before after : World) → Type 0
+RanForIn request Says answer before after =
+    ((fault : ToolFault) × (answer ≡ Err fault)
+    × ReadIn (NotRead (IsUnreadable request.max_var) fault) (name_of request.model) before after)
+    ⊎ ((found : Circuit) × (read : World) × ReadIn (IsModel request found) (name_of request.model) before read
+    × RanBetween (Says found) (name_of request.stimulus) None read after)
 
--- what a fault says
-abbrev pub NotDoneAs : Sim → Circuit → ToolFault → (stimulus stimulus_now sink sink_now : Past) → Type 0
-NotDoneAs request c fault stimulus stimulus_now sink sink_now =
-    ((request.witness ≡ true) × NotAnsweredAs request c fault stimulus stimulus_now sink sink_now)
-    ⊎ ((request.witness ≡ false)
-    × OfSteps (λ sim. SimulatedAs request c (Some sim) stimulus stimulus_now sink sink_now) fault)
-
--- P holds of the stimulus and the output, once these bytes of the model were read
-abbrev pub OfStimulus : (Past → Past → Past → Past → Type 0) → Sim → List ℕ → (before after : World) → Type 0
-OfStimulus P request model before after =
-    OfSource (λ stimulus stimulus_now. P stimulus stimulus_now before.output after.output) (name_of request.stimulus)
-    (files_read (name_of request.model) model before.files) after.files
-    (input_read (name_of request.model) model before.input) after.input
-
--- The model was read to its end, and so was the stimulus, and what is written for them went to the output; or there
--- is this verdict on a witness file.
-abbrev pub SimulationDone : Sim → Option Verdict → (before after : World) → Type 0
-SimulationDone request None before after =
-    (request.witness ≡ false) × ((model : List ℕ) × DoneBetween (IsWrittenText request model)
-    (name_of request.stimulus) None (source_read (name_of request.model) model before) after)
-SimulationDone request (Some verdict) before after =
-    (model : List ℕ) × (found : Circuit) × IsFileOf model request.max_var found
-    × OfStimulus (DoneAs request found (Some verdict)) request model before after
-
--- what a fault says where it was not done
-abbrev pub SimulationNotDone : Sim → ToolFault → (before after : World) → Type 0
-SimulationNotDone request fault before after =
-    NotReadFrom (IsUnreadable request.max_var) fault (name_of request.model) before after
-    ⊎ ((model : List ℕ) × (found : Circuit) × IsFileOf model request.max_var found
-    × OfStimulus (NotDoneAs request found fault) request model before after)
+-- where a simulation is done, its text was taken: the trace of the model and the stimulus, or the dump of that
+abbrev pub SimulationsWriteTheirTexts : Type 0
+SimulationsWriteTheirTexts = (request : Sim) (c : Circuit) (model bytes text : List ℕ) (ending : Ending)
+    (taking : Taking) → IsFileOf model request.max_var c
+    → TaskSays (task_of request) c (Ok None) bytes ending text taking
+    → (ending ≡ AtEnd) × (taking ≡ All) × IsWrittenText request model bytes text

@@ -12,10 +12,11 @@ pub mod laws;
 mod named;
 mod program;
 mod simulation;
-mod witnessing;
+mod task;
 
 pub use crate::program::{refuse_for_memory, refuse_words, serve, start};
 pub use crate::simulation::run_sim;
+pub use crate::task::Task;
 pub use aig_command::{Command, Sim, ToAig, Unroll, Usage, command};
 pub use aig_engines::{ToolFault, run_toaig, run_unroll, run_witness};
 pub use aig_witness::Verdict;

@@ -1,14 +1,15 @@
 //! What is done with the streams and files that a request names. No two files are open at once.
-ghost use Rattle.std.specs.Prelude.{◌≡◌, ◌<◌, IfErr, IfOk, None, OnErr, OnOk, length};
-ghost use Rattle.aig_io.specs.Devices.{CanFail};
+ghost use Rattle.std.specs.Prelude.{◌≡◌, ◌<◌, IfOk, None, length};
+ghost use Rattle.aig_io.specs.Devices.{CanFail, Past};
 ghost use Rattle.aig_command.specs.Answer.{name_of};
 ghost use Rattle.aig_engines.specs.File.{IsFileOf};
-ghost use Rattle.aig_engines.specs.Reading.{IsUnreadable, NotRead};
-ghost use Rattle.aig_tools.specs.Named.{DoneBetween, FailedWriting, HasReadFrom, NotDoneBetween, OfSource};
-ghost use Rattle.aig_tools.specs.Named.{files_written, output_written, world};
-ghost use Rattle.aig_tools.specs.SimulationOutcome.{DoneAs, NotDoneAs, SimulationDone, SimulationNotDone};
+ghost use Rattle.aig_engines.specs.Outcome.{Says};
+ghost use Rattle.aig_engines.specs.Reading.{IsUnreadable, ReadSays};
+ghost use Rattle.aig_tools.specs.Named.{RanBetween, ReadIn, SentIn, TakesAs, world};
+ghost use Rattle.aig_tools.specs.SimulationOutcome.{RanForIn, TaskSays, task_of};
 
-use crate::simulation::trace_or_judge;
+use crate::simulation::perform;
+use crate::task::task_of;
 use aig_command::Sim;
 use aig_core::{Checked, Keep, Sink, Source};
 use aig_engines::{Engine, ToolFault, read_circuit};
@@ -28,11 +29,11 @@ fn read_source<T: Engine, A: FileAccess, R: Source>(
     requires idle { (A.files access.old).current ≡ None }
     requires can_do { T.can_do request.now }
     ensures idle { (A.files access.new).current ≡ None }
-    ensures ok { IfOk result (λ work. HasReadFrom (λ bytes. T.is_text request.now bytes (T.text request.now work))
-        (T.source_name request.now) (A.files access.old) (A.files access.new) (R.past input.old) (R.past input.new)) }
+    ensures read { (output : Past) → ReadIn
+        (ReadSays (λ work bytes. T.is_text request.now bytes (T.text request.now work)) (T.is_refused request.now)
+        result) (T.source_name request.now) (world (A.files access.old) (R.past input.old) output)
+        (world (A.files access.new) (R.past input.new) output) }
     ensures some { IfOk result (λ work. 0 < length (T.text request.now work)) }
-    ensures err { IfErr result (λ fault. OfSource (NotRead (T.is_refused request.now) fault)
-        (T.source_name request.now) (A.files access.old) (A.files access.new) (R.past input.old) (R.past input.new)) }
 {
     match request.source() {
         Some(name) => {
@@ -55,11 +56,11 @@ fn read_model<A: FileAccess, R: Source>(
     requires input { CanFail (R.past input.old) }
     requires idle { (A.files access.old).current ≡ None }
     ensures idle { (A.files access.new).current ≡ None }
-    ensures ok { IfOk result (λ found. HasReadFrom (λ bytes. IsFileOf bytes request.now.max_var found)
-        (name_of request.now.model) (A.files access.old) (A.files access.new) (R.past input.old) (R.past input.new)) }
+    ensures read { (output : Past) → ReadIn
+        (ReadSays (λ found bytes. IsFileOf bytes request.now.max_var found) (IsUnreadable request.now.max_var) result)
+        (name_of request.now.model) (world (A.files access.old) (R.past input.old) output)
+        (world (A.files access.new) (R.past input.new) output) }
     ensures unfailed { IfOk result (λ _. (R.past input.new).failures ≡ (R.past input.old).failures) }
-    ensures err { IfErr result (λ fault. OfSource (NotRead (IsUnreadable request.now.max_var) fault)
-        (name_of request.now.model) (A.files access.old) (A.files access.new) (R.past input.old) (R.past input.new)) }
 {
     match &request.model {
         Some(name) => {
@@ -83,12 +84,9 @@ fn write_destination<T: Engine, A: FileAccess, W: Sink>(
     requires idle { (A.files access.old).current ≡ None }
     requires some { 0 < length (T.text request.now work) }
     ensures idle { (A.files access.new).current ≡ None }
-    ensures files { OnOk result (A.files access.new
-        ≡ files_written (T.destination_name request.now) (T.text request.now work) (A.files access.old)) }
-    ensures output { OnOk result (W.past output.new
-        ≡ output_written (T.destination_name request.now) (T.text request.now work) (W.past output.old)) }
-    ensures err { OnErr result (FailedWriting (T.destination_name request.now) (T.text request.now work)
-        (A.files access.old) (A.files access.new) (W.past output.old) (W.past output.new)) }
+    ensures sent { (input : Past) → SentIn (λ text taking. (text ≡ T.text request.now work) × TakesAs result taking)
+        (T.destination_name request.now) (world (A.files access.old) input (W.past output.old))
+        (world (A.files access.new) input (W.past output.new)) }
 {
     match request.destination() {
         Some(name) => {
@@ -117,21 +115,17 @@ pub(crate) fn run_between<T: Engine, A: FileAccess, R: Source, W: Sink>(
     requires idle { (A.files access.old).current ≡ None }
     requires can_do { T.can_do request.now }
     ensures idle { (A.files access.new).current ≡ None }
-    ensures ok { OnOk result (DoneBetween (T.is_text request.now)
+    ensures ran { RanBetween (Says (T.is_text request.now) (T.is_refused request.now) result)
         (T.source_name request.now) (T.destination_name request.now)
         (world (A.files access.old) (R.past input.old) (W.past output.old))
-        (world (A.files access.new) (R.past input.new) (W.past output.new))) }
-    ensures err { IfErr result (λ fault. NotDoneBetween (T.is_text request.now) (T.is_refused request.now) fault
-        (T.source_name request.now) (T.destination_name request.now)
-        (world (A.files access.old) (R.past input.old) (W.past output.old))
-        (world (A.files access.new) (R.past input.new) (W.past output.new))) }
+        (world (A.files access.new) (R.past input.new) (W.past output.new)) }
 {
     let work = read_source(alloc, access, request, input)?;
     write_destination(access, request, work, output)?;
     Ok(())
 }
 
-/// Traces or judges the stimulus that a request names, which is opened at the first fetch.
+/// Does what is asked for a circuit with the stimulus that a request names, which is opened at the first fetch.
 fn run_stimulus<A: FileAccess, R: Source, W: Sink>(
     alloc: Global,
     access: &mut A,
@@ -144,21 +138,18 @@ fn run_stimulus<A: FileAccess, R: Source, W: Sink>(
     requires output { CanFail (W.past output.old) }
     requires idle { (A.files access.old).current ≡ None }
     ensures idle { (A.files access.new).current ≡ None }
-    ensures ok { IfOk result (λ verdict. OfSource (λ stimulus stimulus_now. DoneAs request.now found verdict
-        stimulus stimulus_now (W.past output.old) (W.past output.new)) (name_of request.now.stimulus)
-        (A.files access.old) (A.files access.new) (R.past input.old) (R.past input.new)) }
-    ensures err { IfErr result (λ fault. OfSource (λ stimulus stimulus_now. NotDoneAs request.now found fault
-        stimulus stimulus_now (W.past output.old) (W.past output.new)) (name_of request.now.stimulus)
-        (A.files access.old) (A.files access.new) (R.past input.old) (R.past input.new)) }
+    ensures ran { RanBetween (TaskSays (task_of request.now) found result) (name_of request.now.stimulus) None
+        (world (A.files access.old) (R.past input.old) (W.past output.old))
+        (world (A.files access.new) (R.past input.new) (W.past output.new)) }
 {
     match &request.stimulus {
         Some(name) => {
             let mut file = NamedSource::new(access, name.as_str());
-            let done = trace_or_judge(alloc, request, found, &mut file, output);
+            let done = perform(alloc, task_of(request), found, &mut file, output);
             file.finish();
             done
         }
-        None => trace_or_judge(alloc, request, found, input, output),
+        None => perform(alloc, task_of(request), found, input, output),
     }
 }
 
@@ -175,12 +166,9 @@ pub(crate) fn run_model<A: FileAccess, R: Source, W: Sink>(
     requires output { CanFail (W.past output.old) }
     requires idle { (A.files access.old).current ≡ None }
     ensures idle { (A.files access.new).current ≡ None }
-    ensures ok { IfOk result (λ verdict. SimulationDone request.now verdict
+    ensures ran { RanForIn request.now (λ found. TaskSays (task_of request.now) found result) result
         (world (A.files access.old) (R.past input.old) (W.past output.old))
-        (world (A.files access.new) (R.past input.new) (W.past output.new))) }
-    ensures err { IfErr result (λ fault. SimulationNotDone request.now fault
-        (world (A.files access.old) (R.past input.old) (W.past output.old))
-        (world (A.files access.new) (R.past input.new) (W.past output.new))) }
+        (world (A.files access.new) (R.past input.new) (W.past output.new)) }
 {
     let found = read_model(alloc, access, request, input)?;
     run_stimulus(alloc, access, request, found, input, output)

@@ -3,6 +3,7 @@ ghost use Rattle.std.specs.Prelude.{◌≡◌, ◌≤◌, None};
 ghost use Rattle.aig_io.specs.Devices.{CanFail};
 ghost use Rattle.aig_io.specs.Files.{Files as UsedFiles};
 ghost use Rattle.aig_command.specs.Answer.{texts};
+ghost use Rattle.aig_engines.specs.Outcome.{Says};
 ghost use Rattle.aig_engines.specs.Messages.{memory_line, IsReported, usage_text, words_line};
 ghost use Rattle.aig_tools.specs.Ending.{done_status, Ends, EndsBetween, IsPrinted, SimulationEnds, status_of};
 ghost use Rattle.aig_tools.specs.Named.{no_files, world};
@@ -45,7 +46,7 @@ fn run_reporting<T: Engine, A: FileAccess, R: Source, W: Sink, E: Sink>(
     requires idle { (A.files access.old).current ≡ None }
     requires can_do { T.can_do request.now }
     ensures idle { (A.files access.new).current ≡ None }
-    ensures ends { EndsBetween (T.is_text request.now) (T.is_refused request.now)
+    ensures ends { EndsBetween (Says (T.is_text request.now) (T.is_refused request.now))
         (T.source_name request.now) (T.destination_name request.now)
         (world (A.files access.old) (R.past input.old) (W.past output.old))
         (world (A.files access.new) (R.past input.new) (W.past output.new))

@@ -1,85 +1,26 @@
-//! `aigsim`: simulation of AIGER files.
-ghost use Rattle.std.specs.Prelude.{◌≡◌, IfErr, IfOk, None, OnOk, Some, false};
+//! `aigsim`: simulation of AIGER files, and witness files that are judged.
+ghost use Rattle.std.specs.Prelude.{◌≡◌, false};
 ghost use Rattle.aig_io.specs.Devices.{CanFail};
-ghost use Rattle.aig_engines.specs.Simulation.{columns_of};
-ghost use Rattle.aig_engines.specs.WitnessOutcome.{OfSteps};
-ghost use Rattle.aig_tools.specs.SimulationOutcome.{DoneAs, NotDoneAs, NotTraced, SimulatedAs, Traced};
+ghost use Rattle.aig_io.specs.Runs.{Ran};
+ghost use Rattle.aig_dump.specs.Dumped.{DumpSays, TraceSaysAs};
+ghost use Rattle.aig_engines.specs.Outcome.{RanFor};
+ghost use Rattle.aig_engines.specs.WitnessDump.{RunDumpSays};
+ghost use Rattle.aig_tools.specs.SimulationOutcome.{OfSteps, TaskSays, task_of, without_verdict};
 
-use crate::witnessing::judge_as_asked;
+use crate::task::{Task, task_of};
 use aig_command::Sim;
 use aig_core::{Checked, Keep, Sink, Source};
-use aig_dump::{write_dump, write_trace};
-use aig_engines::{ToolFault, read_circuit};
-use aig_step::{Columns, SimFault};
+use aig_dump::{read_and_dump, send_dump, write_dump, write_trace};
+use aig_engines::{ToolFault, judge, read_circuit};
+use aig_step::Columns;
 use aig_witness::Verdict;
 use std::alloc::Global;
 
-/// The columns that the request asks for.
-fn columns(request: &Sim) -> Columns
-    ensures { result ≡ columns_of request.now }
-{
-    if request.properties {
-        Columns::Properties
-    } else {
-        Columns::Plain
-    }
-}
-
-/// Simulates a circuit, and writes the trace or the dump of that.
-fn write_as_asked<R: Source, W: Sink>(
+/// Writes the trace of a stimulus.
+fn trace<R: Source, W: Sink>(
     alloc: Global,
-    request: &Sim,
-    found: &Checked,
-    stimulus: &mut R,
-    output: &mut W,
-) -> Result<(), SimFault>
-    requires stimulus { CanFail (R.past stimulus.old) }
-    requires output { CanFail (W.past output.old) }
-    ensures stimulus { (R.past stimulus.new).origin ≡ (R.past stimulus.old).origin }
-    ensures ok { OnOk result (SimulatedAs request.now found.now None
-        (R.past stimulus.old) (R.past stimulus.new) (W.past output.old) (W.past output.new)) }
-    ensures err { IfErr result (λ fault. SimulatedAs request.now found.now (Some fault)
-        (R.past stimulus.old) (R.past stimulus.new) (W.past output.old) (W.past output.new)) }
-{
-    if request.vcd {
-        return write_dump(alloc, request.batch, found, stimulus, output);
-    }
-    write_trace(
-        alloc,
-        request.batch,
-        found,
-        columns(request),
-        stimulus,
-        output,
-    )
-}
-
-/// The same, for a circuit that is not needed any more.
-fn simulate_as_asked<R: Source, W: Sink>(
-    alloc: Global,
-    request: &Sim,
-    circuit: Checked,
-    stimulus: &mut R,
-    output: &mut W,
-) -> Result<(), ToolFault>
-    requires stimulus { CanFail (R.past stimulus.old) }
-    requires output { CanFail (W.past output.old) }
-    ensures stimulus { (R.past stimulus.new).origin ≡ (R.past stimulus.old).origin }
-    ensures ok { OnOk result (SimulatedAs request.now circuit None
-        (R.past stimulus.old) (R.past stimulus.new) (W.past output.old) (W.past output.new)) }
-    ensures err { IfErr result (OfSteps (λ fault. SimulatedAs request.now circuit (Some fault)
-        (R.past stimulus.old) (R.past stimulus.new) (W.past output.old) (W.past output.new))) }
-{
-    let done = write_as_asked(alloc, request, &circuit, stimulus, output);
-    drop(circuit);
-    Ok(done?)
-}
-
-/// Writes the trace of the stimulus for a circuit, or the dump of that, or judges the stimulus as a witness file, as
-/// the request asks. There is a verdict where it is judged.
-pub(crate) fn trace_or_judge<R: Source, W: Sink>(
-    alloc: Global,
-    request: &Sim,
+    batch: bool,
+    columns: Columns,
     found: Checked,
     stimulus: &mut R,
     output: &mut W,
@@ -87,16 +28,76 @@ pub(crate) fn trace_or_judge<R: Source, W: Sink>(
     requires stimulus { CanFail (R.past stimulus.old) }
     requires output { CanFail (W.past output.old) }
     ensures stimulus { (R.past stimulus.new).origin ≡ (R.past stimulus.old).origin }
-    ensures ok { IfOk result (λ verdict. DoneAs request.now found verdict
-        (R.past stimulus.old) (R.past stimulus.new) (W.past output.old) (W.past output.new)) }
-    ensures err { IfErr result (λ fault. NotDoneAs request.now found fault
-        (R.past stimulus.old) (R.past stimulus.new) (W.past output.old) (W.past output.new)) }
+    ensures ran { Ran (OfSteps (TraceSaysAs batch found columns) result)
+        (R.past stimulus.old) (R.past stimulus.new) (W.past output.old) (W.past output.new) }
 {
-    if request.witness {
-        return Ok(Some(judge_as_asked(alloc, request, found, stimulus, output)?));
-    }
-    simulate_as_asked(alloc, request, found, stimulus, output)?;
+    let written = write_trace(alloc, batch, &found, columns, stimulus, output);
+    drop(found);
+    written?;
     Ok(None)
+}
+
+/// Writes the dump of that trace.
+fn dump<R: Source, W: Sink>(
+    alloc: Global,
+    batch: bool,
+    found: Checked,
+    stimulus: &mut R,
+    output: &mut W,
+) -> Result<Option<Verdict>, ToolFault>
+    requires stimulus { CanFail (R.past stimulus.old) }
+    requires output { CanFail (W.past output.old) }
+    ensures stimulus { (R.past stimulus.new).origin ≡ (R.past stimulus.old).origin }
+    ensures ran { Ran (OfSteps (DumpSays batch found) result)
+        (R.past stimulus.old) (R.past stimulus.new) (W.past output.old) (W.past output.new) }
+{
+    let written = write_dump(alloc, batch, &found, stimulus, output);
+    drop(found);
+    written?;
+    Ok(None)
+}
+
+/// Judges a witness file, and writes the verdict in a comment and the dump of the run. The file is read to its end first,
+/// and all of the dump is made before anything is sent.
+fn dump_run<R: Source, W: Sink>(
+    alloc: Global,
+    found: Checked,
+    witness: &mut R,
+    output: &mut W,
+) -> Result<Verdict, ToolFault>
+    requires witness { CanFail (R.past witness.old) }
+    requires output { CanFail (W.past output.old) }
+    ensures ran { Ran (RunDumpSays found result)
+        (R.past witness.old) (R.past witness.new) (W.past output.old) (W.past output.new) }
+{
+    let (verdict, run) = read_and_dump(alloc, found, witness)?;
+    let sent = send_dump(verdict, run.as_slice(), output);
+    drop(run);
+    sent?;
+    Ok(verdict)
+}
+
+/// Does for a circuit what is asked: there is a verdict where a witness file is judged, which stands in the place of the
+/// stimulus.
+pub(crate) fn perform<R: Source, W: Sink>(
+    alloc: Global,
+    asked: Task,
+    found: Checked,
+    stimulus: &mut R,
+    output: &mut W,
+) -> Result<Option<Verdict>, ToolFault>
+    requires stimulus { CanFail (R.past stimulus.old) }
+    requires output { CanFail (W.past output.old) }
+    ensures stimulus { (R.past stimulus.new).origin ≡ (R.past stimulus.old).origin }
+    ensures ran { Ran (TaskSays asked found result)
+        (R.past stimulus.old) (R.past stimulus.new) (W.past output.old) (W.past output.new) }
+{
+    match asked {
+        Task::Trace { batch, columns } => trace(alloc, batch, columns, found, stimulus, output),
+        Task::Dump { batch } => dump(alloc, batch, found, stimulus, output),
+        Task::Verdict => Ok(Some(judge(alloc, found, stimulus, output)?)),
+        Task::RunDump => Ok(Some(dump_run(alloc, found, stimulus, output)?)),
+    }
 }
 
 /// Reads the model to its end, then writes the trace of the stimulus, or the dump of it, step by step or as a batch.
@@ -114,11 +115,11 @@ pub fn run_sim<M: Source, R: Source, W: Sink>(
     requires stimulus { CanFail (R.past stimulus.old) }
     requires output { CanFail (W.past output.old) }
     requires traced { request.now.witness ≡ false }
-    ensures ok { OnOk result (Traced request.now (M.past model.old) (M.past model.new)
-        (R.past stimulus.old) (R.past stimulus.new) (W.past output.old) (W.past output.new)) }
-    ensures err { IfErr result (λ fault. NotTraced request.now fault (M.past model.old) (M.past model.new)
-        (R.past stimulus.old) (R.past stimulus.new) (W.past output.old) (W.past output.new)) }
+    ensures ran { RanFor request.now (λ found. TaskSays (task_of request.now) found (without_verdict result)) result
+        (M.past model.old) (M.past model.new)
+        (R.past stimulus.old) (R.past stimulus.new) (W.past output.old) (W.past output.new) }
 {
     let found = read_circuit(alloc, model, request.max_var, Keep::Order)?;
-    simulate_as_asked(alloc, request, found, stimulus, output)
+    perform(alloc, task_of(request), found, stimulus, output)?;
+    Ok(())
 }

@@ -1,5 +1,6 @@
 //! The first gate that depends on a cycle, found depth first: no order of the gates is made.
-ghost use Rattle.std.specs.Prelude.{◌≡◌, ◌≢◌, ◌+◌, ◌-◌, ◌<◌, ◌≤◌, ℕ, [], ◌∷◌, ◌++◌, length, map, take, true, false};
+ghost use Rattle.std.specs.Prelude.{◌≡◌, ◌≢◌, ◌+◌, ◌-◌, ◌<◌, ◌≤◌, ℕ, [], ◌∷◌};
+ghost use Rattle.std.specs.Prelude.{◌++◌, length, map, take, true, false};
 ghost use Rattle.std.specs.Prelude.{slice_index, slice_set, slice_get, IfOk, OnOk, IfNone};
 ghost use Rattle.std.specs.Option.{IfSome, unwrap_or};
 ghost use Rattle.std.specs.List.{position, sum};
@@ -14,8 +15,9 @@ use aig_circuit::{Circuit, LARGEST, Lit};
 use aig_tables::VarMap;
 use std::alloc::{AllocError, Global};
 
-/// The places of a gate's operands: the position of the gate that an operand is over, or the number of gates where it is
-/// over none. Eight bytes, so that what is looked at again and again stays in the processor's cache.
+/// The places of a gate's operands: the position of the gate that an operand is over, or the number
+/// of gates where it is over none. Eight bytes, so that what is looked at again and again stays in
+/// the processor's cache.
 #[derive(Clone, Copy)]
 struct Pair {
     left: u32,
@@ -29,7 +31,7 @@ const MET: u8 = 1;
 /// A gate from which each way comes to an end.
 const DONE: u8 = 2;
 
-/// A search that goes from gate to operand, as long as there is one that is not done, and then back.
+/// A search that goes from gate to operand, while there is one that is not done, and then back.
 #[derive(Drop)]
 struct Search {
     operands: Vec<Pair>,
@@ -39,14 +41,12 @@ struct Search {
     way: Vec<u32>,
 }
 
-/// The place of a literal's gate, or that of none.
 fn operand_position(index: &VarMap<u32>, literal: Lit, none: u32) -> u32
     ensures { result ≡ unwrap_or (get index.now (variable_of literal)) none }
 {
     index.get(literal.var()).unwrap_or(none)
 }
 
-/// The operands of all gates.
 fn all_pairs(alloc: Global, circuit: &Circuit) -> Result<Vec<Pair>, AllocError>
     requires { length circuit.now.gates ≤ LARGEST }
     ensures { IfOk result (λ all. all.items ≡ map (pair_of circuit.now.gates) circuit.now.gates) }
@@ -65,7 +65,6 @@ fn all_pairs(alloc: Global, circuit: &Circuit) -> Result<Vec<Pair>, AllocError>
 }
 
 impl Search {
-    /// No gate looked at yet.
     fn new(alloc: Global, circuit: &Circuit) -> Result<Self, AllocError>
         requires { length circuit.now.gates ≤ LARGEST }
         ensures operands { IfOk result (λ search.
@@ -84,7 +83,6 @@ impl Search {
         })
     }
 
-    /// The gate that is looked at, the last one of the way.
     #[inline(always)]
     fn looked_at(&self) -> Option<u32>
         ensures some { IfSome result (λ gate. IsAtEnd self.now.way.items gate) }
@@ -99,7 +97,8 @@ impl Search {
         requires there { gate < length self.now.operands.items }
         requires search { IsSearch self.now }
         ensures there { IfSome result (λ next. next < length self.now.operands.items) }
-        ensures needed { IfSome result (λ next. IsAmong next (needs_in self.now.operands.items gate)) }
+        ensures needed { IfSome result (λ next.
+            IsAmong next (needs_in self.now.operands.items gate)) }
         ensures open { IfSome result (λ next. slice_index self.now.states.items next ≢ DONE) }
         ensures none { IfNone result ((h : ℕ) → IsAmong h (needs_in self.now.operands.items gate)
             → (h < length self.now.operands.items) × (slice_index self.now.states.items h ≡ DONE)) }
@@ -124,7 +123,8 @@ impl Search {
             → IsAmong gate (needs_in self.old.operands.items user) }
         ensures search { OnOk result (IsSearch self.new) }
         ensures way { OnOk result (self.new.way.items ≡ self.old.way.items ++ gate ∷ []) }
-        ensures states { OnOk result (self.new.states.items ≡ slice_set self.old.states.items gate MET) }
+        ensures states { OnOk result (self.new.states.items
+            ≡ slice_set self.old.states.items gate MET) }
         ensures rises { OnOk result (IsRisen self.old.states.items self.new.states.items) }
         ensures by_one { OnOk result (sum self.new.states.items ≡ sum self.old.states.items + 1) }
         ensures operands { OnOk result (self.new.operands.items ≡ self.old.operands.items) }
@@ -151,14 +151,15 @@ impl Search {
         self.way.pop();
     }
 
-    /// Looks at a gate and at all that it depends on. Answers whether it depends on a cycle; if not, it is done.
+    /// Looks at all that a gate depends on, and answers whether it depends on a cycle.
     fn leads_to_cycle(&mut self, root: u32) -> Result<bool, AllocError>
         requires there { root < length self.old.operands.items }
         requires search { IsSearch self.old }
         requires way { self.old.way.items ≡ [] }
         ensures cyclic { IfOk result (λ found. found ≡ true
             → (n : ℕ) → comes_to_end n (needs_in self.old.operands.items) root ≡ false) }
-        ensures done { IfOk result (λ found. found ≡ false → slice_index self.new.states.items root ≡ DONE) }
+        ensures done { IfOk result (λ found. found ≡ false
+            → slice_index self.new.states.items root ≡ DONE) }
         ensures search { IfOk result (λ found. found ≡ false → IsSearch self.new) }
         ensures way { IfOk result (λ found. found ≡ false → self.new.way.items ≡ []) }
         ensures rises { OnOk result (IsRisen self.old.states.items self.new.states.items) }
@@ -185,7 +186,8 @@ impl Search {
 /// The position of the first gate that depends on a cycle.
 pub fn first_cyclic_gate(alloc: Global, circuit: &Circuit) -> Result<Option<usize>, AllocError>
     requires { length circuit.now.gates ≤ LARGEST }
-    ensures { IfOk result (λ found. found ≡ position (depends_on_cycle circuit.now.gates) circuit.now.gates) }
+    ensures { IfOk result (λ found. found
+        ≡ position (depends_on_cycle circuit.now.gates) circuit.now.gates) }
 {
     let mut search = Search::new(alloc, circuit)?;
     for gate in 0..circuit.gates.len() {

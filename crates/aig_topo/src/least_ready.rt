@@ -13,8 +13,9 @@ use std::alloc::Global;
 mod ready;
 mod taking;
 
-/// The least ready order of a circuit's gates, by what they need. Each listed gate is one step, and so is each operand
-/// over its variable; every gate still waits for its operands over gates that are not listed.
+/// The least ready order of a circuit's gates, by what they need. Each listed gate is one step, and
+/// so is each operand over its variable; every gate still waits for its operands over gates that
+/// are not listed.
 pub fn order_by_needs(
     alloc: Global,
     circuit: &Circuit,
@@ -25,8 +26,10 @@ pub fn order_by_needs(
     ensures least { IfOk result (λ order. IsLeastReadyOrder circuit.now order.list) }
     ensures as_many { IfOk result (λ order. length order.waiting ≡ length circuit.now.gates) }
     ensures waiting { IfOk result (λ order. (gate : ℕ) → gate < length circuit.now.gates
-        → slice_index order.waiting gate ≡ left_over order.list (gate_operands circuit.now.gates gate)) }
-    ensures steps { IfOk result (λ order. order.steps ≡ length order.list + operands_over circuit.now order.list) }
+        → slice_index order.waiting gate
+        ≡ left_over order.list (gate_operands circuit.now.gates gate)) }
+    ensures steps { IfOk result (λ order. order.steps
+        ≡ length order.list + operands_over circuit.now order.list) }
     ensures few { IfOk result (λ order. order.steps ≤ 3 * length circuit.now.gates) }
 {
     let lists = needs.lists;
@@ -42,15 +45,17 @@ pub fn order_by_needs(
     Ok(search.order)
 }
 
-/// The least ready order of a circuit's gates. Each listed gate is one step, and so is each operand over its variable;
-/// every gate still waits for its operands over gates that are not listed.
+/// The least ready order of a circuit's gates. Each listed gate is one step, and so is each operand
+/// over its variable; every gate still waits for its operands over gates that are not listed.
 pub fn gate_order(alloc: Global, circuit: &Circuit) -> Result<Order, OutOfMemory>
     requires { length circuit.now.gates ≤ LARGEST }
     ensures least { IfOk result (λ order. IsLeastReadyOrder circuit.now order.list) }
     ensures as_many { IfOk result (λ order. length order.waiting ≡ length circuit.now.gates) }
     ensures waiting { IfOk result (λ order. (gate : ℕ) → gate < length circuit.now.gates
-        → slice_index order.waiting gate ≡ left_over order.list (gate_operands circuit.now.gates gate)) }
-    ensures steps { IfOk result (λ order. order.steps ≡ length order.list + operands_over circuit.now order.list) }
+        → slice_index order.waiting gate
+        ≡ left_over order.list (gate_operands circuit.now.gates gate)) }
+    ensures steps { IfOk result (λ order. order.steps
+        ≡ length order.list + operands_over circuit.now order.list) }
     ensures few { IfOk result (λ order. order.steps ≤ 3 * length circuit.now.gates) }
 {
     let needs = GateNeeds::new(alloc, circuit)?;

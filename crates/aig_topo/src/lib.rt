@@ -1,8 +1,8 @@
 //! The order of a circuit's gates, and cycles among them.
 //!
-//! Others call `gate_order`, which makes the least ready order of the gates and counts its steps; `Order`, which it is;
-//! `GateNeeds`, by which a caller sees first what gates need, with `order_by_needs`; and `first_cyclic_gate`, which finds
-//! a cycle without an order.
+//! Others call `gate_order`, which makes the least ready order of the gates and counts its steps;
+//! `Order`, which it is; `GateNeeds`, by which a caller sees first what gates need, with
+//! `order_by_needs`; and `first_cyclic_gate`, which finds a cycle without an order.
 //!
 //! The definition that matters most is `IsLeastReadyOrder`.
 #![tactic(auto)]

@@ -1,5 +1,6 @@
 //! What is still to be asked of each gate, and a list of gates for each gate, in one table.
-ghost use Rattle.std.specs.Prelude.{◌≡◌, ◌≢◌, ◌<◌, ◌≤◌, ℕ, List, [], ◌∷◌, length, map, slice_index_or, slice_set, IfOk};
+ghost use Rattle.std.specs.Prelude.{◌≡◌, ◌≢◌, ◌<◌, ◌≤◌, ℕ, List, [], ◌∷◌, length};
+ghost use Rattle.std.specs.Prelude.{map, slice_index_or, slice_set, IfOk};
 ghost use Rattle.std.specs.List.{AllByRecursion};
 ghost use Rattle.std.specs.Option.{IfSome, IfNone};
 ghost use Rattle.aig_circuit.specs.Wellformed.{IsAmong};
@@ -11,35 +12,36 @@ use crate::operands::{Needs, gate_index, look_up};
 use aig_circuit::{Circuit, LARGEST};
 use std::alloc::{AllocError, Global};
 
-/// All that is asked of a gate where it is entered or released. It stands together, since gates are released in any
-/// order: what stands apart comes from memory apart. What a gate needs is asked for in full once, where it is looked
-/// at; from then on the node has what is left to ask, and the link of the list in which the gate waits takes the other
-/// place. So a node has 12 bytes, and more of them are in the cache. Each number is one more than a position, or 0 for
-/// none.
+/// All that is asked of a gate where it is entered or released. It stands together, since gates are
+/// released in any order: what stands apart comes from memory apart. What a gate needs is asked for
+/// in full once, where it is looked at; from then on the node has what is left to ask, and the link
+/// of the list in which the gate waits takes the other place. So a node has 12 bytes, and more of
+/// them are in the cache. Each number is one more than a position, or 0 for none.
 #[derive(Clone, Copy)]
 struct GateNode {
     /// What the left operand needs; once the gate waits, the gate behind it in its list.
     next: u32,
-    /// What the right operand needs; once the gate waits, what it needs beside the gate that it waits for.
+    /// What the right operand needs; once the gate waits, what it needs beside that.
     rest: u32,
     /// The first of the gate's own list.
     first: u32,
 }
 
-/// What is still to be asked of each gate, and a list of gates for each gate. A gate is in one list at most, so one
-/// table has them all.
+/// What is still to be asked of each gate, and a list of gates for each gate. A gate is in one list
+/// at most, so one table has them all.
 #[derive(Drop)]
 pub(crate) struct Lists {
     rows: Vec<GateNode>,
 }
 
 impl Lists {
-    /// What the gates of a circuit need, and empty lists of them; and how many each of them needs, 0 to 2.
+    /// What the gates of a circuit need, and empty lists; and how many each of them needs, 0 to 2.
     pub(crate) fn new(alloc: Global, circuit: &Circuit) -> Result<(Self, Vec<u8>), AllocError>
         requires { length circuit.now.gates ≤ LARGEST }
         ensures needs { IfOk result (λ made.
             needs_in made.0.rows.items ≡ map (needs_of circuit.now.gates) circuit.now.gates) }
-        ensures counts { IfOk result (λ made. made.1.items ≡ map how_many (needs_in made.0.rows.items)) }
+        ensures counts { IfOk result (λ made. made.1.items
+            ≡ map how_many (needs_in made.0.rows.items)) }
         ensures lists { IfOk result (λ made. AreLists (links_in made.0.rows.items)) }
         ensures empty { IfOk result (λ made. (g : ℕ) → list_in made.0.rows.items g ≡ []) }
     {
@@ -59,7 +61,6 @@ impl Lists {
         Ok((Lists { rows }, counts))
     }
 
-    /// How many gates there are.
     pub(crate) fn len(&self) -> usize
         ensures { result ≡ length self.now.rows.items }
     {
@@ -79,7 +80,6 @@ impl Lists {
         }
     }
 
-    /// What a gate that waits needs beside the gate that it waits for.
     pub(crate) fn rest(&self, gate: u32) -> u32
         requires { gate < length self.now.rows.items }
         ensures { linked result ≡ rest_by self.now.rows.items gate }
@@ -87,7 +87,7 @@ impl Lists {
         self.rows[gate as usize].rest
     }
 
-    /// What the first gate of a list needs beside the gate that it waits for; nothing, where the list is empty.
+    /// What the first gate of a list needs beside what it waits for; nothing in an empty list.
     #[inline(always)]
     pub(crate) fn first_rest(&self, list: u32) -> u32
         requires needs { AreThere (needs_in self.now.rows.items) }
@@ -115,8 +115,10 @@ impl Lists {
         ensures lists { AreLists (links_in self.new.rows.items) }
         ensures needs { needs_in self.new.rows.items ≡ slice_set (needs_in self.old.rows.items) gate
             (record { left = first_of (links_in self.old.rows.items) list; right = rest }) }
-        ensures pushed { list_in self.new.rows.items list ≡ gate ∷ list_in self.old.rows.items list }
-        ensures others { (g : ℕ) → g ≢ list → list_in self.new.rows.items g ≡ list_in self.old.rows.items g }
+        ensures pushed { list_in self.new.rows.items list
+            ≡ gate ∷ list_in self.old.rows.items list }
+        ensures others { (g : ℕ) → g ≢ list
+            → list_in self.new.rows.items g ≡ list_in self.old.rows.items g }
     {
         let first = self.rows[list as usize].first;
         let row = &mut self.rows[gate as usize];
@@ -125,7 +127,6 @@ impl Lists {
         self.rows[list as usize].first = gate + 1;
     }
 
-    /// Takes the gate at the front out of a list.
     #[inline(always)]
     pub(crate) fn pop(&mut self, list: u32) -> Option<u32>
         requires lists { AreLists (links_in self.old.rows.items) }
@@ -136,7 +137,8 @@ impl Lists {
         ensures same { IfNone result (self.new ≡ self.old) }
         ensures first { IfSome result (λ gate.
             list_in self.old.rows.items list ≡ gate ∷ list_in self.new.rows.items list) }
-        ensures others { (g : ℕ) → g ≢ list → list_in self.new.rows.items g ≡ list_in self.old.rows.items g }
+        ensures others { (g : ℕ) → g ≢ list
+            → list_in self.new.rows.items g ≡ list_in self.old.rows.items g }
     {
         let first = self.rows[list as usize].first;
         if first == 0 {
@@ -148,7 +150,8 @@ impl Lists {
     }
 }
 
-/// What the gates of a circuit need. Each operand is looked up once, and what comes behind goes by positions.
+/// What the gates of a circuit need. Each operand is looked up once, and what comes behind goes by
+/// positions.
 #[derive(Drop)]
 pub struct GateNeeds {
     pub(crate) lists: Lists,

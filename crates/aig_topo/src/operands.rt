@@ -11,7 +11,7 @@ use aig_circuit::{Circuit, Gate, LARGEST};
 use aig_tables::VarMap;
 use std::alloc::{AllocError, Global};
 
-/// The gates that a gate's operands are over: each is one more than its position, or 0 where there is none.
+/// The gates that a gate's operands are over: each one more than its position, or 0 for none.
 #[derive(Clone, Copy)]
 pub struct Needs {
     pub left: u32,
@@ -19,7 +19,6 @@ pub struct Needs {
 }
 
 impl Needs {
-    /// How many operands are over gates, 0 to 2.
     #[inline(always)]
     pub(crate) fn count(self) -> u8
         ensures { result ≡ length (under self) }
@@ -31,8 +30,8 @@ impl Needs {
 /// How many variables are read ahead together.
 const AHEAD: usize = 32;
 
-/// Reads ahead where the variables of gates from this position on have their places. None is overfull: that is asked
-/// for the sake of the reads alone.
+/// Reads ahead where the variables of gates from this position on have their places. None is
+/// overfull: that is asked for the sake of the reads alone.
 fn is_any_overfull(index: &VarMap<u32>, gates: &[Gate], from: usize) -> bool
     ensures { result ≡ false }
 {
@@ -44,7 +43,7 @@ fn is_any_overfull(index: &VarMap<u32>, gates: &[Gate], from: usize) -> bool
     any
 }
 
-/// The positions of gates by the variables that they define. Of two gates that define one, it has the first.
+/// Of two gates that define one variable, it has the first.
 pub(crate) fn gate_index(alloc: Global, circuit: &Circuit) -> Result<VarMap<u32>, AllocError>
     requires { length circuit.now.gates ≤ LARGEST }
     ensures { IfOk result (λ index. (v : ℕ) → get index v ≡ gate_of circuit.now.gates v) }
@@ -60,7 +59,6 @@ pub(crate) fn gate_index(alloc: Global, circuit: &Circuit) -> Result<VarMap<u32>
     Ok(index)
 }
 
-/// What a gate needs.
 #[inline(always)]
 pub(crate) fn look_up(index: &VarMap<u32>, gate: &Gate) -> Needs
     requires { (v : ℕ) → IfSome (get index.now v) (λ at. at < LARGEST) }

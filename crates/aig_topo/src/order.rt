@@ -1,6 +1,7 @@
-//! An order of gates that is being made. No module stands in this one: its fields are private, so steps change through
-//! `take` and `count_down` alone.
-ghost use Rattle.std.specs.Prelude.{◌≡◌, ◌==◌, ◌+◌, ◌-◌, ◌*◌, ◌/◌, ◌<◌, ◌≤◌, ℕ, [], ◌∷◌, ◌++◌, length, map};
+//! An order of gates that is being made. No module stands in this one: its fields are private, so
+//! steps change through `take` and `count_down` alone.
+ghost use Rattle.std.specs.Prelude.{◌≡◌, ◌==◌, ◌+◌, ◌-◌, ◌*◌, ◌/◌, ◌<◌};
+ghost use Rattle.std.specs.Prelude.{◌≤◌, ℕ, [], ◌∷◌, ◌++◌, length, map};
 ghost use Rattle.std.specs.Prelude.{slice_index, slice_set, true, if◌then◌else◌, IfOk};
 ghost use Rattle.std.specs.List.{AllByRecursion};
 ghost use Rattle.std.specs.Option.{IfSome, IfNone};
@@ -14,13 +15,13 @@ use aig_circuit::{Circuit, LARGEST, OutOfMemory};
 use std::alloc::{AllocError, Global};
 use std::marker::Model;
 
-/// An order of gates that is being made: the positions of the gates that are taken, how many operands each gate still
-/// waits for, and how many steps were made.
+/// An order of gates that is being made: the positions of the gates that are taken, how many
+/// operands each gate still waits for, and how many steps were made.
 #[derive(Drop)]
 pub struct Order {
     positions: Vec<u32>,
     taken: usize,
-    /// A bit for each gate, 64 to a word, which is set once the gate is taken. They stay in the processor's cache.
+    /// A bit for each gate, set once it is taken: 64 to a word, so that they stay in the cache.
     marks: Vec<u64>,
     /// How many operands each gate waits for, at most 2.
     waiting: Vec<u8>,
@@ -42,10 +43,10 @@ impl Model for Order {
       steps = o.taken + o.counted;
     } };
 
-    ghost invariant = { λ o. IsCounted o.positions.items o.taken o.marks.items o.waiting.items o.counted };
+    ghost invariant = { λ o. IsCounted o.positions.items o.taken o.marks.items
+        o.waiting.items o.counted };
 }
 
-/// Whether the bit of this number is set.
 #[inline(always)]
 fn has_mark(marks: &[u64], number: usize) -> bool
     requires { number / 64 < length marks.now }
@@ -55,12 +56,12 @@ fn has_mark(marks: &[u64], number: usize) -> bool
 }
 
 impl Order {
-    /// No gate taken, where each waits for so many operands.
     #[tactic(auto, using(crate::proofs::Ordering::Counted::begins))]
     pub(crate) fn waiting_for(alloc: Global, waiting: Vec<u8>) -> Result<Self, AllocError>
         requires few { length waiting.items ≤ LARGEST }
         requires at_most_two { AllByRecursion (λ w. w ≤ 2) waiting.items }
-        ensures { IfOk result (λ order. order ≡ record { list = []; waiting = waiting.items; steps = 0 }) }
+        ensures { IfOk result (λ order. order
+            ≡ record { list = []; waiting = waiting.items; steps = 0 }) }
     {
         Ok(Order {
             positions: vec![in alloc; 0; waiting.len()]?,
@@ -71,7 +72,7 @@ impl Order {
         })
     }
 
-    /// No gate taken: each gate waits for its operands that are over gates, left and right counted apart.
+    /// No gate taken: each waits for its operands over gates, left and right counted apart.
     pub fn new(alloc: Global, circuit: &Circuit) -> Result<Self, OutOfMemory>
         requires { length circuit.now.gates ≤ LARGEST }
         ensures { IfOk result (λ order. order ≡ record {
@@ -107,7 +108,6 @@ impl Order {
         u32::from(self.waiting[gate as usize])
     }
 
-    /// Whether the gate is taken.
     #[inline(always)]
     pub(crate) fn has(&self, gate: u32) -> bool
         requires { gate < length self.now.waiting }
@@ -122,7 +122,8 @@ impl Order {
         requires there { gate < length self.old.waiting }
         requires left { ¬ IsAmong gate self.old.list }
         requires ready { slice_index self.old.waiting gate ≡ 0 }
-        ensures { self.new ≡ record self.old { list = self.old.list ++ gate ∷ []; steps = self.old.steps + 1 } }
+        ensures { self.new
+            ≡ record self.old { list = self.old.list ++ gate ∷ []; steps = self.old.steps + 1 } }
     {
         self.positions[self.taken] = gate;
         self.taken += 1;
@@ -134,7 +135,8 @@ impl Order {
     pub fn count_down(&mut self, gate: u32)
         requires there { gate < length self.old.waiting }
         requires waiting { 0 < slice_index self.old.waiting gate }
-        ensures waiting { self.new.waiting ≡ slice_set self.old.waiting gate (slice_index self.old.waiting gate - 1) }
+        ensures waiting { self.new.waiting
+            ≡ slice_set self.old.waiting gate (slice_index self.old.waiting gate - 1) }
         ensures steps { self.new.steps ≡ self.old.steps + 1 }
         ensures list { self.new.list ≡ self.old.list }
     {
@@ -144,7 +146,8 @@ impl Order {
 
     /// The first gate that is not taken.
     pub fn first_left(&self) -> Option<usize>
-        ensures none { IfNone result ((g : ℕ) → g < length self.now.waiting → IsAmong g self.now.list) }
+        ensures none { IfNone result ((g : ℕ) → g < length self.now.waiting
+            → IsAmong g self.now.list) }
         ensures there { IfSome result (λ gate. gate < length self.now.waiting) }
         ensures left { IfSome result (λ gate. ¬ IsAmong gate self.now.list) }
         ensures first { IfSome result (λ gate. (g : ℕ) → g < gate → IsAmong g self.now.list) }

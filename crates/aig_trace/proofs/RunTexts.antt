@@ -1,17 +1,148 @@
--- The text of a simulation from the reset state is the trace text of its lines.
-use Rattle.std.proofs.Common.{◌≡◌, ◌&&◌, ◌||◌, ℕ, List, [], ◌∷◌, ◌++◌, Bool, true, false, Option, length, nat_lt}
-use Rattle.std.proofs.Common.{is_none, codes, if◌then◌else◌, refl, sym, ap, ap₂, subst, ◌∙◌, append_assoc}
-use Rattle.std.proofs.Common.{arith, lt-ltb}
+-- The text of a simulation, which goes on by lines and says what they say.
+use Rattle.std.proofs.Common.{◌≡◌, ◌&&◌, ◌∷◌, ◌++◌, ◌∙◌, if◌then◌else◌, ◌||◌, ℕ, List, [], Bool, true, false, Option}
+use Rattle.std.proofs.Common.{Some, None, is_some, option_and_then, option_map, refl, sym, ap, subst, append_assoc}
+use Rattle.std.proofs.Common.{append-nil, suc, length, inl, inr, nat_lt, is_none, codes, ap₂, arith, lt-ltb}
 use Rattle.std.specs.List.{AllZip, flat_map}
-use Rattle.aig_circuit.specs.declared.circuit.Circuit.{Circuit}
+use Rattle.std.proofs.lemmas.Bool.{cases_lt, le-leb, lt-leb}
 use Rattle.aig_circuit.specs.declared.value.Val.{Val}
+use Rattle.aig_circuit.specs.declared.circuit.Circuit.{Circuit}
 use Rattle.aig_meaning.specs.Meaning.{Row}
 use Rattle.aig_meaning.specs.Trace.{Follow, IsFirstState, IsTrace, reset_state}
-use Rattle.aig_step.specs.declared.trace.Columns.{Columns}
-use Rattle.aig_step.specs.Stimulus.{Entry, Step, Stop, runs_of, stimulus, with_step}
-use Rattle.aig_step.specs.TraceText.{IsTraceText, last_stop, row_text, rows_text, run_text}
-use Rattle.aig_trace.specs.Parts.Progress.{Point, begin_of, Steps, Goes}
+use Rattle.aig_lines.specs.Lines.{Line}
+use Rattle.aig_lines.specs.Fed.{Feeder, IsFed}
+use Rattle.aig_lines.specs.Feeding.{Told, Turn, ended_if, fed, heard, told, told_to}
+use Rattle.aig_lines.specs.Texts.{judged_lines, text_of}
+use Rattle.aig_lines.proofs.Tells.{has_told}
 use Rattle.aig_rows.proofs.Grammar.Rows.{or_yes as or_true}
+use Rattle.aig_step.specs.Stimulus.{value_of, values_of, Entry, Stimulus, before_rest, entry_in, lines_say, stimulus}
+use Rattle.aig_step.specs.Stimulus.{Step, Stop, runs_of, with_step}
+use Rattle.aig_step.specs.declared.trace.Columns.{Columns}
+use Rattle.aig_step.specs.TraceText.{IsTraceText, last_stop, row_text, rows_text, run_text}
+use Rattle.aig_step.proofs.LineValues.{too_long_text}
+use Rattle.aig_trace.specs.Parts.Progress.{Point, Does, Goes, begin_of, Steps}
+use Rattle.aig_trace.specs.Parts.Saying.{Saying, before_lines, entry_turn, longest_entry, nothing_said, say_line}
+
+first_some : (o : Option Val) (others : Option (List Val))
+    → is_some (option_and_then (λ u. option_map (λ us. u ∷ us) others) o) ≡ (is_some o && is_some others)
+first_some None others = refl
+first_some (Some u) None = refl
+first_some (Some u) (Some us) = refl
+
+and_in_turn : (a b c : Bool) → (a && (b && c)) ≡ ((a && b) && c)
+and_in_turn true b c = refl
+and_in_turn false b c = refl
+
+and_true : (a : Bool) → (a && true) ≡ a
+and_true true = refl
+and_true false = refl
+
+pub values_more : (text : List ℕ) (b : ℕ)
+    → is_some (values_of (text ++ b ∷ [])) ≡ (is_some (values_of text) && is_some (value_of b))
+values_more [] b = first_some (value_of b) (Some []) ∙ and_true (is_some (value_of b))
+values_more (a ∷ text) b =
+    first_some (value_of a) (values_of (text ++ b ∷ []))
+    ∙ ap (λ (s : Bool). is_some (value_of a) && s) (values_more text b)
+    ∙ and_in_turn (is_some (value_of a)) (is_some (values_of text)) (is_some (value_of b))
+    ∙ ap (λ (s : Bool). s && is_some (value_of b)) (sym (first_some (value_of a) (values_of text)))
+
+-- A simulation goes on by a line, and by lines behind lines.
+
+-- by one line
+pub goes_one : (c : Circuit) (columns : Columns) (p q : Point) (e : Entry) (t : List ℕ) → Does c columns p e q t
+    → Goes c columns p (e ∷ []) q t
+goes_one c columns p q e t does = (q, t, [], does, (refl, refl), sym (append-nil t))
+
+-- by lines behind lines
+pub goes_over : (c : Circuit) (columns : Columns) (p q u : Point) (es fs : List Entry) (t v : List ℕ)
+    → Goes c columns p es q t → Goes c columns q fs u v → Goes c columns p (es ++ fs) u (t ++ v)
+goes_over c columns p q u [] fs t v (same, none) more =
+    subst (λ (s : List ℕ). Goes c columns p fs u (s ++ v)) (sym none)
+    (subst (λ (s : Point). Goes c columns s fs u v) same more)
+goes_over c columns p q u (e ∷ es) fs t v (between, front, rest, does, goes, joined) more = (
+  between,
+  front,
+  rest ++ v,
+  does,
+  goes_over c columns between q u es fs rest v goes more,
+  ap (λ (s : List ℕ). s ++ v) joined ∙ append_assoc front rest v,
+)
+
+-- by one more line
+pub goes_on : (c : Circuit) (columns : Columns) (p q u : Point) (es : List Entry) (e : Entry) (t v : List ℕ)
+    → Goes c columns p es q t → Does c columns q e u v → Goes c columns p (es ++ e ∷ []) u (t ++ v)
+goes_on c columns p q u es e t v goes does =
+    goes_over c columns p q u es (e ∷ []) t v goes (goes_one c columns q u e v does)
+
+-- To tell the lines of a stimulus is to say what they say.
+
+-- a line that is too long says nothing
+heard_is : {K : Type 0} (s : Saying K) (text : List ℕ) → heard say_line (longest_entry s.inputs) s text ≡ say_line s text
+heard_is s text =
+    let limit = longest_entry s.inputs in
+    elim (cases_lt limit (length text)) [
+      | inl long ↦
+          rw (lt-leb (length text) limit long) (sym (ap (entry_turn s) (too_long_text s.inputs text long)))
+      | inr short ↦ rw (le-leb (length text) limit short) refl
+    ]
+
+-- what was told is what is said, behind what was said before
+pub record IsSaid {K : Type 0} (s : Saying K) (said : Stimulus) (t : Told (Saying K)) : Type 0 where
+  pub state : t.state ≡ record s { entries = s.entries ++ said.entries }
+  pub bad : said.bad ≡ (if t.refused then Some t.number else None)
+
+said_rest : {K : Type 0} (o : Option Entry) (s : Saying K) (number : ℕ) (ls : List Line)
+    → ((e : Entry) → IsSaid (record s { entries = s.entries ++ e ∷ [] }) (lines_say s.inputs (suc number) ls)
+    (told say_line (longest_entry s.inputs) (record s { entries = s.entries ++ e ∷ [] }) (suc number) ls))
+    → (let t = entry_turn s o in
+    IsSaid s (before_rest number o (lines_say s.inputs (suc number) ls))
+    (if t.goes_on then told say_line (longest_entry s.inputs) t.state (suc number) ls else told_to t.state number true))
+said_rest None s number ls again = record {
+  state = ap (λ (es : List Entry). record s { entries = es }) (sym (append-nil s.entries));
+  bad = refl;
+}
+said_rest (Some e) s number ls again =
+    let rest = again e in
+    record {
+      state = rest.state
+          ∙ ap (λ (es : List Entry). record s { entries = es })
+          (append_assoc s.entries (e ∷ []) (lines_say s.inputs (suc number) ls).entries);
+      bad = rest.bad;
+    }
+
+told_said : {K : Type 0} (ls : List Line) (s : Saying K) (number : ℕ)
+    → IsSaid s (lines_say s.inputs number ls) (told say_line (longest_entry s.inputs) s number ls)
+told_said [] s number = record {
+  state = ap (λ (es : List Entry). record s { entries = es }) (sym (append-nil s.entries));
+  bad = refl;
+}
+told_said {K} (l ∷ ls) s number =
+    let on : Turn (Saying K) → Told (Saying K) = λ t.
+    if t.goes_on then told say_line (longest_entry s.inputs) t.state (suc number) ls
+    else told_to t.state number true in
+    subst (IsSaid s (lines_say s.inputs number (l ∷ ls))) (ap on (sym (heard_is s (text_of l))))
+    (said_rest (entry_in s.inputs (text_of l)) s number ls
+    (λ e. told_said ls (record s { entries = s.entries ++ e ∷ [] }) (suc number)))
+
+-- what was said where a feeder stands
+pub record HasSaid {T K : Type 0} (IsAt : T → Saying K → Type 0) (known : K) (inputs : ℕ) (bytes : List ℕ)
+    (over : Bool) (f : Feeder) (t : T) : Type 0 where
+  pub taker : IsAt t (record {
+    known = known;
+    inputs = inputs;
+    entries = (stimulus inputs bytes over).entries;
+  })
+  pub bad : (stimulus inputs bytes over).bad ≡ (if f.refused then Some f.number else None)
+
+pub has_said : {T K : Type 0} (IsAt : T → Saying K → Type 0) (known : K) (inputs : ℕ) (bytes : List ℕ) (over : Bool)
+    (f : Feeder) (t : T)
+    → IsFed IsAt f t (ended_if say_line over (fed say_line (before_lines known inputs) bytes))
+    → HasSaid IsAt known inputs bytes over f t
+has_said IsAt known inputs bytes over f t stands =
+    let has = has_told say_line IsAt f t over (longest_entry inputs) (nothing_said known inputs) bytes stands in
+    let said = told_said (judged_lines bytes over) (nothing_said known inputs) 1 in
+    record { taker = subst (IsAt t) said.state has.taker; bad = rw (has.number, has.refused) said.bad }
+
+-- The text of a simulation from the reset state is the trace text of its lines.
 
 -- the text of runs, the first of which goes on from a point, and the point that they lead to
 abbrev Leads : Circuit → Columns → Point → List (List (List Val)) → List (List Val) → Point → List ℕ → Type 0

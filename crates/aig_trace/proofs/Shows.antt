@@ -1,7 +1,6 @@
 -- What the lanes show of steps that were taken side by side, where the circuit has no latches.
-use Rattle.std.proofs.Common.{◌≡◌, ◌∙◌, ◌<◌, ℕ, List, [], ◌∷◌, ap, append-nil, arith, length, map, refl, subst}
-use Rattle.std.proofs.Common.{sym}
-use Rattle.std.proofs.Common.{true, false, ◌++◌, ◌+◌, Bool, Some, None, append_assoc, get_or, take}
+use Rattle.std.proofs.Common.{◌≡◌, ◌∙◌, ◌<◌, ◌∷◌, ◌++◌, ◌+◌, ℕ, List, [], ap, append-nil, arith, length, map, refl}
+use Rattle.std.proofs.Common.{subst, sym, true, false, Bool, Some, None, append_assoc, get_or, take}
 use Rattle.std.proofs.lemmas.List.{take_more}
 use Rattle.aig_lanes.specs.declared.bench.Bench.{Bench}
 use Rattle.aig_lanes.specs.Parts.Benches.{HasRoomForSteps, IsBench}
@@ -22,7 +21,7 @@ use Rattle.aig_lanes.proofs.Benches.ShownTexts.{line_kept}
 use Rattle.aig_trace.specs.declared.waiting.Waiting.{Waiting}
 use Rattle.aig_trace.specs.Parts.Tracing.{Did, HeardLine, IsSameTracer, LineTracing, Moved, TookLine, Tracing, point_of}
 use Rattle.aig_trace.specs.Parts.Waits.{IsSameBench, Serves, ShowsSteps}
-use Rattle.aig_trace.proofs.Going.{goes_one}
+use Rattle.aig_trace.proofs.RunTexts.{goes_one}
 use Rattle.aig_trace.proofs.Traced.{did_twice}
 
 -- the row that a lane shows

@@ -1,6 +1,6 @@
 -- Lines that a line tracer took, and the text for them.
-use Rattle.std.proofs.Common.{◌≡◌, ◌++◌, ◌&&◌, ℕ, List, [], ◌∷◌, Bool, true, false, not, Option, Some, None, length}
-use Rattle.std.proofs.Common.{refl, sym, ap, subst, ◌∙◌, append-nil, append_assoc, codes, if◌then◌else◌}
+use Rattle.std.proofs.Common.{◌≡◌, ◌++◌, ◌&&◌, ◌∷◌, ◌∙◌, if◌then◌else◌, ℕ, List, [], Bool, true, false, not, Option}
+use Rattle.std.proofs.Common.{Some, None, length, refl, sym, ap, subst, append-nil, append_assoc, codes}
 use Rattle.aig_circuit.specs.declared.circuit.Circuit.{Circuit}
 use Rattle.aig_io.specs.Devices.{Past}
 use Rattle.aig_io.specs.Output.{Out, Put}
@@ -8,7 +8,7 @@ use Rattle.aig_io.proofs.Puts.{put_nothing, put_twice}
 use Rattle.aig_lines.specs.Fed.{Feeder, IsFed, IsUnfed}
 use Rattle.aig_lines.specs.Feeding.{Feeding, ended, ended_if, fed, feeding}
 use Rattle.aig_lines.proofs.Feeds.{fed_nothing}
-use Rattle.aig_lines.proofs.Sources.{Reached}
+use Rattle.aig_lines.proofs.Tells.{Reached}
 use Rattle.aig_meaning.proofs.Traces.{reset_state_is_first}
 use Rattle.aig_step.specs.declared.trace.Columns.{Columns}
 use Rattle.aig_step.specs.Outcome.{first_bad_line}
@@ -17,11 +17,8 @@ use Rattle.aig_trace.specs.Parts.Progress.{Goes, Point, begin_of}
 use Rattle.aig_trace.specs.Parts.Saying.{Saying, before_lines, entry_turn, longest_entry, nothing_said, say_line}
 use Rattle.aig_trace.specs.Parts.Streaming.{IsTraced}
 use Rattle.aig_trace.specs.Parts.Tracing.{Did, HasTraced, HeardLine, IsFresh, IsSameTracer, LineTracing, PutText}
-use Rattle.aig_trace.specs.Parts.Tracing.{Reading}
-use Rattle.aig_trace.specs.Parts.Tracing.{Task, TookLine, Tracing, point_of, task_of}
-use Rattle.aig_trace.proofs.Going.{goes_one, goes_over}
-use Rattle.aig_trace.proofs.RunTexts.{closing, goes_is_text}
-use Rattle.aig_trace.proofs.Saying.{has_said}
+use Rattle.aig_trace.specs.Parts.Tracing.{Reading, Task, TookLine, Tracing, point_of, task_of}
+use Rattle.aig_trace.proofs.RunTexts.{goes_one, goes_over, closing, goes_is_text, has_said}
 
 -- what was done, and then more
 pub did_twice : {W : Type 0} (c : Circuit) (columns : Columns) (p q u : Point) (es fs : List Entry) (x y z : Out W)
@@ -200,14 +197,14 @@ traced task bytes over f t to stands none put =
     let did = at.did in
     let end = closing over (first_bad_line task.circuit bytes over) t.tracing.has_step in
     record {
-      traced = record {
-        text = did.text ++ end;
+      text = did.text ++ end;
+      is_trace = record {
+        first = said.bad;
         is_text = goes_is_text task.circuit task.columns (point_of t.tracing) at.done did.text
             (reset_state_is_first task.circuit) did.goes bytes over
             (at.all ∙ ap (λ (es : List Entry). at.done ++ es) none ∙ append-nil at.done);
-        done = put_twice task.from t.output to did.text end did.put put;
       };
-      bad = said.bad;
+      put = put_twice task.from t.output to did.text end did.put put;
     }
 
 ended_run : (refused : Bool) (number : ℕ) (has_step : Bool)

@@ -1,15 +1,13 @@
 -- Lines that wait for their text.
-use Rattle.std.proofs.Common.{◌≡◌, ◌+◌, ◌*◌, ◌<◌, ◌≤◌, ◌==◌, ℕ, suc, List, [], ◌∷◌, ◌++◌, Bool, true, false}
-use Rattle.std.proofs.Common.{Option, Some, None, ap, ap₂, arith, drop, get_or, if◌then◌else◌, inl, inr, is_some}
-use Rattle.std.proofs.Common.{length}
-use Rattle.std.proofs.Common.{map, refl, set, sym, take, ◌∙◌}
+use Rattle.std.proofs.Common.{◌≡◌, ◌+◌, ◌*◌, ◌<◌, ◌≤◌, ◌==◌, ◌∷◌, ◌++◌, if◌then◌else◌, ◌∙◌, ℕ, suc, List, [], Bool}
+use Rattle.std.proofs.Common.{true, false, Option, Some, None, ap, ap₂, arith, drop, get_or, inl, inr, is_some, length}
+use Rattle.std.proofs.Common.{map, refl, set, sym, take}
 use Rattle.std.proofs.lemmas.Bool.{cases_lt}
 use Rattle.std.proofs.lemmas.List.{get_or-map, get_or-set_other, get_or-set_same, get_or-take, length-set}
 use Rattle.std.proofs.lemmas.List.{length-take-le, map-append, take_more_set}
 use Rattle.aig_circuit.specs.declared.value.Val.{Val}
 use Rattle.aig_lanes.specs.Parts.Vectors.{AreVectors, said}
-use Rattle.aig_lanes.proofs.Side.Sheets.{part_same, steps_within}
-use Rattle.aig_lanes.proofs.Side.Vectors.{more_vectors, said_is}
+use Rattle.aig_lanes.proofs.Side.Sheets.{part_same, steps_within, more_vectors, said_is}
 use Rattle.aig_step.specs.Parts.Lines.{vector_in}
 use Rattle.aig_step.specs.Stimulus.{Entry, Step, Stop, entry_in, values_of}
 use Rattle.aig_step.proofs.LineValues.{vector_says}

@@ -1,9 +1,10 @@
 //! A circuit over a stimulus text.
-ghost use Rattle.std.specs.Prelude.{◌≡◌, ◌+◌, ◌-◌, ◌^◌, ◌<◌, ◌≤◌, [], ℕ, List, IfErr, OnOk, false, length, not, true};
+ghost use Rattle.std.specs.Prelude.{◌≡◌, ◌+◌, ◌-◌, ◌^◌, ◌<◌, ◌≤◌, [], ℕ, List, false, length, not, true};
 ghost use Rattle.aig_io.specs.Devices.{CanFail};
+ghost use Rattle.aig_io.specs.Runs.{Ran};
 ghost use Rattle.aig_lines.specs.Fed.{IsFed, IsUnfed};
 ghost use Rattle.aig_lines.specs.Feeding.{Feeding, fed};
-ghost use Rattle.aig_step.specs.Outcome.{NotSimulated, Simulated};
+ghost use Rattle.aig_step.specs.Outcome.{TraceSays};
 ghost use Rattle.aig_trace.specs.Parts.Progress.{begin_of};
 ghost use Rattle.aig_trace.specs.Parts.Saying.{Saying, before_lines, longest_entry, say_line};
 ghost use Rattle.aig_trace.specs.Parts.Streaming.{Ends, IsTraced, ended_so};
@@ -123,10 +124,8 @@ pub fn simulate<R: Source, W: Sink>(
 ) -> Result<(), SimFault>
     requires source { CanFail (R.past source.old) }
     requires sink { CanFail (W.past sink.old) }
-    ensures ok { OnOk result (Simulated checked.now columns
-        (R.past source.old) (R.past source.new) (W.past sink.old) (W.past sink.new)) }
-    ensures err { IfErr result (λ error. NotSimulated checked.now columns error
-        (R.past source.old) (R.past source.new) (W.past sink.old) (W.past sink.new)) }
+    ensures ran { Ran (TraceSays checked.now columns result)
+        (R.past source.old) (R.past source.new) (W.past sink.old) (W.past sink.new) }
 {
     let mut block = vec![in alloc; 0; block_room(checked)]?;
     let reader = match StimulusReader::new(alloc, checked, columns) {

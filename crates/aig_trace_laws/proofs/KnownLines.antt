@@ -1,20 +1,17 @@
 -- A stimulus in which characters x became 0 or 1 says the same, with 0 or 1 in the place of x.
-use Rattle.std.proofs.Common.{◌≡◌, ◌≢◌, ◌&&◌, ◌||◌, ◌==◌, ℕ, suc, List, [], ◌∷◌, Bool, true, false, cond}
-use Rattle.std.proofs.Common.{length, filter, eqb}
-use Rattle.std.proofs.Common.{Option, Some, None, codes, nat_eq, option_map, option_and_then, if◌then◌else◌}
-use Rattle.std.proofs.Common.{bytes_eq, refl, sym}
-use Rattle.std.proofs.Common.{ap, ap₂, subst, ◌∙◌, inl, inr}
+use Rattle.std.proofs.Common.{◌≡◌, ◌≢◌, ◌&&◌, ◌||◌, ◌==◌, ◌∷◌, if◌then◌else◌, ◌∙◌, ℕ, suc, List, [], Bool, true, false}
+use Rattle.std.proofs.Common.{cond, length, filter, eqb, Option, Some, None, codes, nat_eq, option_map, option_and_then}
+use Rattle.std.proofs.Common.{bytes_eq, refl, sym, ap, ap₂, subst, inl, inr, ne_eqb}
 use Rattle.std.specs.List.{AllZip}
-use Rattle.std.proofs.lemmas.Bool.{ne_eqb}
 use Rattle.std.proofs.lemmas.Slice.Zip.{AllZip-long}
 use Rattle.aig_circuit.specs.declared.value.Val.{Val}
 use Rattle.aig_circuit.specs.declared.value.Val.TheVariants.{Zero, One, X}
 use Rattle.aig_meaning.specs.Completion.{Stays}
-use Rattle.aig_rows.specs.Lines.{Line, line, begun_by, lines_of}
+use Rattle.aig_lines.specs.Lines.{Line, line, begun_by, lines_of}
 use Rattle.aig_trace_laws.specs.Laws.{IsAsKnown}
 use Rattle.aig_step.specs.Stimulus.{Entry, Step, Stop, Stimulus, before_rest, entry_in, entry_of, judged_lines}
-use Rattle.aig_step.specs.Stimulus.{lines_say, runs_of}
-use Rattle.aig_step.specs.Stimulus.{stimulus, text_of, value_of, values_of, with_step, without_return}
+use Rattle.aig_step.specs.Stimulus.{lines_say, runs_of, stimulus, text_of, value_of, values_of, with_step}
+use Rattle.aig_step.specs.Stimulus.{without_return}
 
 pub stays_itself : (v : Val) → Stays v v
 stays_itself Zero = refl

@@ -1,4 +1,2 @@
 pub mod KnownLines
-pub mod KnownTexts
-pub mod OneText
-pub mod SameTexts
+pub mod Texts

@@ -1,33 +1,62 @@
 -- A frame: by its table stands what stands in the frame, and there is room for it.
-use Rattle.std.proofs.Common.{◌≡◌, ◌+◌, ◌-◌, ◌*◌, ◌<◌, ◌≤◌, ℕ, zero, suc, List, [], ◌∷◌, length, map, rules}
-use Rattle.std.proofs.Common.{add-one, get_or, refl, ap, ap₂, ◌∙◌, arith}
-use Rattle.std.proofs.Common.{length-append}
-use Rattle.std.proofs.Math.Nat.{suc-mul}
-use mathlib.Core.Path.{fun_ext}
-use Rattle.std.proofs.Math.Dec.{eqb-suc-zero}
+use Rattle.std.proofs.Common.{◌≡◌, ◌+◌, ◌*◌, ◌%◌, ◌<◌, ◌-◌, ◌≤◌, ◌∷◌, ◌∙◌, ℕ, List, length, get_or, rules, arith, inl}
+use Rattle.std.proofs.Common.{inr, zero, suc, [], map, add-one, refl, ap, ap₂, length-append}
+use Rattle.std.specs.Int.Bits.{bit_and, bit_xor, xor_add_and, xor_zero_r}
 use Rattle.std.specs.List.{All, AllByRecursion, range_with_len}
-use Rattle.std.proofs.lemmas.Bool.{cases_lt, le-leb, le-ltb, lt-leb, lt-ltb}
-use Rattle.std.proofs.lemmas.List.{get_or_append_left, get_or-append_right}
+use Rattle.std.proofs.lemmas.Bool.{cases_lt, lt-ltb, le-leb, le-ltb, lt-leb}
+use Rattle.std.proofs.lemmas.List.{get_or_default, get_or_append_left, get_or-append_right}
+use Rattle.std.proofs.lemmas.Nat.{and_mask}
+use Rattle.std.proofs.Math.Nat.{suc-mul}
+use Rattle.std.proofs.Math.Dec.{eqb-suc-zero}
 use Rattle.std.proofs.lemmas.List.Elements.{All-from_recursion}
 use Rattle.std.proofs.lemmas.List.FromFn.{get_or-map-range_with_len, length-map-range_with_len}
+use mathlib.Core.Path.{fun_ext}
+use Rattle.aig_circuit.specs.Literal.{variable_of, literal_of}
 use Rattle.aig_circuit.specs.declared.circuit.Circuit.{Circuit}
 use Rattle.aig_circuit.specs.declared.circuit.Gate.{Gate}
 use Rattle.aig_circuit.specs.declared.circuit.Latch.{Latch}
 use Rattle.aig_circuit.specs.declared.circuit.TheConstants.{LARGEST}
-use Rattle.aig_checked.specs.BinaryOrder.{AreOrderedGates, IsInBinaryOrder}
-use Rattle.aig_circuit.specs.Literal.{literal_of, variable_of}
 use Rattle.aig_circuit.specs.Wellformed.{IsKnown, IsWellFormed, defined_variables}
-use Rattle.aig_circuit.proofs.Checking.Fitting.{all_weaker, known_in_range}
-use Rattle.aig_meaning.proofs.Known.{AreDefined, known_next, known_outputs, known_bad, known_constraints}
+use Rattle.aig_circuit.proofs.Checking.{all_weaker, known_in_range}
+use Rattle.aig_checked.specs.BinaryOrder.{AreOrderedGates, IsInBinaryOrder}
+use Rattle.aig_meaning.proofs.Related.{AreDefined, known_next, known_outputs, known_bad, known_constraints}
+use Rattle.aig_unroll.specs.Parts.Standing.{stood, with_sign, GateHasRoom, HasRoom}
 use Rattle.aig_unroll.specs.Unrolled.{IsTooLarge, all_inputs, at, first_gate, first_input, frame_size, latches_at}
 use Rattle.aig_unroll.specs.Unrolled.{chain_at, chain_behind, first_constraint, first_latches, next_of, resets_of}
 use Rattle.aig_unroll.specs.Unrolled.{standing_for, uninitialised}
-use Rattle.aig_unroll.specs.Parts.Standing.{GateHasRoom, HasRoom, stood, with_sign}
 use Rattle.aig_unroll.specs.Parts.Frames.{IsFrame, table, table_at}
-use Rattle.aig_unroll.proofs.Ordering.Frames.{latches_length}
-use Rattle.aig_unroll.proofs.Ordering.Frames.{row_end}
+use Rattle.aig_unroll.proofs.Ordering.Frames.{latches_length, row_end}
 
-pub table_length : (first inputs : ℕ) (latches : List ℕ)
+-- exclusive or with the last bit carries the sign over
+sign_carried : (literal stands : ℕ) → bit_xor stands (bit_and literal 1) ≡ with_sign literal stands
+sign_carried literal stands =
+    let bit : bit_and literal 1 ≡ literal % 2 = and_mask literal 1 in
+    let one : bit_and stands 1 ≡ stands % 2 = and_mask stands 1 in
+    let sum : bit_xor stands 1 + bit_and stands 1 * 2 ≡ stands + 1 = xor_add_and stands 1 in
+    elim (cases_lt 0 (literal % 2)) [
+      | inl odd ↦
+          let sign : literal % 2 ≡ 1 = omega arith in
+          elim (cases_lt 0 (stands % 2)) [
+            | inl odd_too ↦
+                let sign_too : stands % 2 ≡ 1 = omega arith in
+                rw (bit, sign, sign_too) (omega (arith, sum, one, sign_too))
+            | inr even_too ↦
+                let sign_too : stands % 2 ≡ 0 = omega arith in
+                rw (bit, sign, sign_too) (omega (arith, sum, one, sign_too))
+          ]
+      | inr even ↦
+          let sign : literal % 2 ≡ 0 = omega arith in
+          rw (bit, sign) (xor_zero_r stands)
+    ]
+
+-- what is looked up in the table stands for the literal
+pub looked_up : (standing : List ℕ) (first literal variable stands : ℕ) → variable ≡ variable_of literal
+    → variable < length standing → stands ≡ get_or standing variable stands
+    → bit_xor stands (bit_and literal 1) ≡ stood standing first literal
+looked_up standing first literal variable stands same below is = search (rules, get_or_default, sign_carried, lt-ltb)
+
+-- A frame: by its table stands what stands in the frame, and there is room for it.
+table_length : (first inputs : ℕ) (latches : List ℕ)
     → length (table first inputs latches) ≡ 1 + inputs + length latches
 table_length first inputs latches = search (rules, length-map-range_with_len, length-append)
 
@@ -56,12 +85,12 @@ module _ (c : Circuit) (frames t : ℕ) (latches : List ℕ) (all : length latch
   behind_table (suc w) behind =
       rw (eqb-suc-zero w, lt-leb (suc w) n (omega arith), lt-leb (suc w) (n + m) (omega arith)) refl
 
-  pub stands_as : (literal : ℕ) → stood (table (first_input c t) n latches) (first_gate c frames t) literal
+  stands_as : (literal : ℕ) → stood (table (first_input c t) n latches) (first_gate c frames t) literal
       ≡ with_sign literal (standing_for c frames t latches (variable_of literal))
   stands_as literal = search (rules, table_length, cases_lt, lt-ltb, in_table, le-ltb, behind_table)
 
 -- by the table of a frame stands what stands in the frame
-pub stands_in_frame : (c : Circuit) (frames t literal : ℕ)
+stands_in_frame : (c : Circuit) (frames t literal : ℕ)
     → stood (table_at c frames t) (first_gate c frames t) literal ≡ at c frames t literal
 stands_in_frame c frames t literal = stands_as c frames t (latches_at c frames t) (latches_length c frames t) literal
 

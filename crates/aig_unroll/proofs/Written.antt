@@ -1,16 +1,14 @@
 -- The text of an unrolled circuit, frame by frame.
-use Rattle.std.proofs.Common.{◌≡◌, ◌+◌, ◌*◌, ◌<◌, ℕ, List, ◌++◌, ap, arith, subst, sym, ◌∙◌, rules}
-use Rattle.std.proofs.Common.{append-nil, append_assoc, drop, length, take}
-use Rattle.std.specs.List.{All, flat_map, range_with_len}
-use Rattle.std.proofs.Math.Seq.{take-add}
-use Rattle.std.proofs.lemmas.List.{take-append-drop}
+use Rattle.std.proofs.Common.{◌≡◌, ◌+◌, ◌*◌, ◌<◌, ◌++◌, ◌∙◌, ℕ, List, ap, arith, subst, sym, rules, append-nil}
+use Rattle.std.proofs.Common.{append_assoc, drop, length, take, All, flat_map, take-add, take-append-drop}
+use Rattle.std.specs.List.{range_with_len}
 use Rattle.std.proofs.lemmas.List.Concat.{flat_map-append}
 use Rattle.std.proofs.lemmas.List.FromFn.{length-range_with_len}
 use Rattle.aig_circuit.specs.declared.circuit.Circuit.{Circuit}
 use Rattle.aig_checked.specs.BinaryOrder.{IsInBinaryOrder}
 use Rattle.aig_circuit.specs.Wellformed.{IsWellFormed}
 use Rattle.aig_circuit.specs.declared.circuit.Gate.{Gate}
-use Rattle.aig_checked.proofs.Numbered.Ranges.{range_more}
+use Rattle.aig_checked.proofs.Numbered.{range_more}
 use Rattle.aig_io.specs.Output.{Out, Put}
 use Rattle.aig_io.proofs.Puts.{put_twice}
 use Rattle.aig_text.specs.AsciiText.{ascii_text, header_text, line_text}
@@ -18,13 +16,12 @@ use Rattle.aig_text.specs.Sections.{ascii_word, header_row, literal_rows_of, row
 use Rattle.aig_text.proofs.Written.{literal_sections_text, sections_text}
 use Rattle.aig_binary.specs.BinaryGrammar.{binary_word}
 use Rattle.aig_binary.specs.BinaryText.{HasDeltas, binary_text, gate_text}
-use Rattle.aig_binary.proofs.Written.{has_deltas, lines_text}
+use Rattle.aig_binary.proofs.Files.{has_deltas, lines_text}
 use Rattle.aig_unroll.specs.Unrolled.{IsTooLarge, frame_size, gates_at, unrolled, all_inputs, bad_at, outputs_at}
 use Rattle.aig_unroll.specs.Parts.Frames.{Frame, circuit_with}
 use Rattle.aig_unroll.specs.Parts.Writing.{gate_lines, input_lines, literal_lines}
-use Rattle.aig_unroll.proofs.Ordering.Frames.{frame_length, gate_stands, gates_length}
+use Rattle.aig_unroll.proofs.Ordering.Frames.{frame_length, gate_stands, gates_length, in_row, one_row_more}
 use Rattle.aig_unroll.proofs.Ordering.Ordered.{unrolled_ordered, unrolled_well_formed}
-use Rattle.aig_unroll.proofs.Ordering.Frames.{in_row, one_row_more}
 
 module _ {W : Type 0} where
   -- the texts of so many frames, and that of the next one

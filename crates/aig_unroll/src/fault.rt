@@ -5,7 +5,7 @@ ghost use Rattle.aig_unroll.specs.Messages.{unroll_fault_text};
 ghost use Rattle.aig_unroll.specs.declared.fault.UnrollFault.TheVariants.{OutOfMemory as IsOutOfMemory};
 
 use aig_core::OutOfMemory;
-use aig_text::Message;
+use aig_text::{Message, OUT_OF_MEMORY};
 use std::alloc::AllocError;
 use std::error::Error;
 use std::fmt;
@@ -29,7 +29,7 @@ impl UnrollFault {
         match self {
             UnrollFault::Unsupported => Message::new("justice or fairness cannot be unrolled"),
             UnrollFault::TooLarge => Message::new("too large to unroll"),
-            UnrollFault::OutOfMemory => Message::new("out of memory"),
+            UnrollFault::OutOfMemory => Message::new(OUT_OF_MEMORY),
         }
     }
 }

@@ -7,7 +7,8 @@ ghost use Rattle.aig_checked.specs.BinaryOrder.{IsInBinaryOrder};
 ghost use Rattle.aig_circuit.specs.Literal.{literal_of};
 ghost use Rattle.aig_circuit.specs.Wellformed.{IsWellFormed};
 ghost use Rattle.aig_binary.specs.BinaryText.{HasDeltas};
-ghost use Rattle.aig_unroll.specs.Unrolled.{IsTooLarge, all_inputs, bad_at, chain_at, first_latches, frame_size};
+ghost use Rattle.aig_unroll.specs.Unrolled.{IsTooLarge, all_inputs, bad_at};
+ghost use Rattle.aig_unroll.specs.Unrolled.{chain_at, first_latches, frame_size};
 ghost use Rattle.aig_unroll.specs.Unrolled.{gates_at, outputs_at, resets_of, uninitialised};
 ghost use Rattle.aig_unroll.specs.Parts.Frames.{behind_by, table};
 ghost use Rattle.aig_unroll.specs.Parts.Standing.{GateHasRoom, HasRoom, stood};
@@ -43,11 +44,10 @@ impl Model for Frames {
 
     ghost view = { λ f. record { circuit = f.circuit; frames = f.frames; frame = f.frame } };
 
-    ghost invariant = { λ f. IsFrame f.circuit f.frames f.frame f.first_input f.first_gate f.standing.items
-        f.next.items };
+    ghost invariant = { λ f. IsFrame f.circuit f.frames f.frame f.first_input f.first_gate
+        f.standing.items f.next.items };
 }
 
-/// How many latches are uninitialised.
 pub(crate) fn count_uninitialised(latches: &[Latch]) -> usize
     ensures count { result ≡ uninitialised (map (λ (l : LatchRecord). l.reset) latches.now) }
     ensures bound { result ≤ length latches.now }
@@ -62,7 +62,6 @@ pub(crate) fn count_uninitialised(latches: &[Latch]) -> usize
     count
 }
 
-/// How many gates a frame has.
 pub(crate) fn gates_of_frame(circuit: &Circuit) -> usize
     requires { IsWellFormed circuit.now }
     ensures { result ≡ frame_size circuit.now }
@@ -77,13 +76,13 @@ fn put_standing(first_input: u32, inputs: usize, latches: &[Latch], standing: &m
     requires latches { length latches.now ≤ LARGEST }
     requires constant { standing.old ≡ 0 ∷ drop 1 standing.old }
     ensures { standing.new
-        ≡ table first_input inputs (first_latches 1 (map (λ (l : LatchRecord). l.reset) latches.now)) }
+        ≡ table first_input inputs (first_latches 1
+        (map (λ (l : LatchRecord). l.reset) latches.now)) }
 {
     put_numbered(first_input, &mut standing[1..1 + inputs]);
     put_first(latches, &mut standing[1 + inputs..]);
 }
 
-/// The table of frame 0.
 fn first_standing(
     alloc: Global,
     first_input: u32,
@@ -93,14 +92,14 @@ fn first_standing(
     requires inputs { first_input + inputs ≤ LARGEST + 1 }
     requires latches { length latches.now ≤ LARGEST }
     ensures { IfOk result (λ standing. standing.items
-        ≡ table first_input inputs (first_latches 1 (map (λ (l : LatchRecord). l.reset) latches.now))) }
+        ≡ table first_input inputs (first_latches 1
+        (map (λ (l : LatchRecord). l.reset) latches.now))) }
 {
     let mut standing = vec![in alloc; Lit(0); 1 + inputs + latches.len()]?;
     put_standing(first_input, inputs, latches, &mut standing);
     Ok(standing)
 }
 
-/// The table of frame 0, and room for what stands for the latches in the next frame.
 fn make_tables(
     alloc: Global,
     first_input: u32,
@@ -108,7 +107,8 @@ fn make_tables(
 ) -> Result<(Vec<Lit>, Vec<Lit>), OutOfMemory>
     requires inputs { first_input + length circuit.now.inputs ≤ LARGEST + 1 }
     requires latches { length circuit.now.latches ≤ LARGEST }
-    ensures standing { IfOk result (λ tables. tables.0.items ≡ table first_input (length circuit.now.inputs)
+    ensures standing { IfOk result (λ tables. tables.0.items
+        ≡ table first_input (length circuit.now.inputs)
         (first_latches 1 (map (λ (l : LatchRecord). l.reset) circuit.now.latches))) }
     ensures next { IfOk result (λ tables. length tables.1.items ≡ length circuit.now.latches) }
 {
@@ -118,20 +118,21 @@ fn make_tables(
     Ok((standing, next))
 }
 
-/// Changes a table to one whose inputs are the variables from this one on, with this for the latches.
+/// Changes a table: its inputs are the variables from this one on, and this stands for the latches.
 fn change_standing(first_input: u32, next: &[Lit], standing: &mut [Lit])
     requires room { 1 + length next.now ≤ length standing.old }
     requires inputs { first_input + length standing.old ≤ LARGEST + 2 + length next.now }
     requires constant { standing.old ≡ 0 ∷ drop 1 standing.old }
-    ensures { standing.new ≡ table first_input (length standing.old - 1 - length next.now) next.now }
+    ensures { standing.new ≡ table first_input
+        (length standing.old - 1 - length next.now) next.now }
 {
     let inputs = standing.len() - 1 - next.len();
     put_numbered(first_input, &mut standing[1..1 + inputs]);
     standing[1 + inputs..].copy_from_slice(next);
 }
 
-/// Puts the chain of a circuit's constraints behind this one, and the gates of its bad states, by what stands for their
-/// literals where the circuit's gates have the variables from this one on.
+/// Puts the chain of a circuit's constraints behind this one, and the gates of its bad states, by
+/// what stands for their literals where the circuit's gates have the variables from this one on.
 fn put_behind(standing: &[Lit], first: u32, chain: Lit, circuit: &Circuit, out: &mut [Gate])
     requires room { length out.old ≡ length circuit.now.constraints + length circuit.now.bad }
     requires constraints { All (HasRoom (length standing.now) first) circuit.now.constraints }
@@ -156,7 +157,6 @@ fn put_behind(standing: &[Lit], first: u32, chain: Lit, circuit: &Circuit, out: 
 }
 
 impl Frames {
-    /// The circuit in frame 0.
     pub(crate) fn new(alloc: Global, image: Ordered, frames: u32) -> Result<Self, OutOfMemory>
         requires some { 1 ≤ frames }
         requires fits { ¬ IsTooLarge image frames }
@@ -178,13 +178,12 @@ impl Frames {
                 next,
             }),
             Err(refused) => {
-                drop(circuit);
+                drop(circuit); // for the proof
                 Err(refused)
             }
         }
     }
 
-    /// The circuit that is unrolled.
     pub(crate) fn circuit(&self) -> &Circuit
         ensures value { result.now ≡ self.now.circuit }
         ensures formed { IsWellFormed self.now.circuit }
@@ -194,7 +193,6 @@ impl Frames {
         &self.circuit
     }
 
-    /// Over how many frames it is unrolled.
     pub(crate) fn frames(&self) -> u32
         ensures value { result ≡ self.now.frames }
         ensures within { self.now.frame < self.now.frames }
@@ -202,7 +200,6 @@ impl Frames {
         self.frames
     }
 
-    /// How many inputs the unrolled circuit has.
     pub(crate) fn count_inputs(&self) -> u32
         requires { self.now.frame ≡ 0 }
         ensures { result ≡ all_inputs self.now.circuit self.now.frames }
@@ -210,7 +207,6 @@ impl Frames {
         self.first_gate - 1
     }
 
-    /// How many gates a frame has.
     pub(crate) fn count_gates(&self) -> usize
         ensures { result ≡ frame_size self.now.circuit }
     {
@@ -228,7 +224,6 @@ impl Frames {
         }
     }
 
-    /// Puts the outputs of the frame.
     pub(crate) fn put_outputs(&self, out: &mut [Lit])
         requires { length out.old ≡ length self.now.circuit.outputs }
         ensures { out.new ≡ outputs_at self.now.circuit self.now.frames self.now.frame }
@@ -242,7 +237,6 @@ impl Frames {
         );
     }
 
-    /// Puts the bad states of the frame.
     pub(crate) fn put_bad(&self, out: &mut [Lit])
         requires { length out.old ≡ length self.now.circuit.bad }
         ensures { out.new ≡ bad_at self.now.circuit self.now.frames self.now.frame }
@@ -251,11 +245,12 @@ impl Frames {
         put_numbered(self.first_gate + before as u32, out);
     }
 
-    /// Puts copies of the circuit's gates in the frame, from the gate at this place on, as many as there is room for.
+    /// Puts copies of gates, from the one at this place on, as many as there is room for.
     pub(crate) fn put_copies(&self, at: usize, out: &mut [Gate])
         requires { at + length out.old ≤ length self.now.circuit.gates }
         ensures gates { out.new
-            ≡ take (length out.old) (drop at (gates_at self.now.circuit self.now.frames self.now.frame)) }
+            ≡ take (length out.old) (drop at
+            (gates_at self.now.circuit self.now.frames self.now.frame)) }
         ensures deltas { All HasDeltas out.new }
     {
         let standing = self.standing.as_slice();
@@ -266,7 +261,8 @@ impl Frames {
 
     /// Puts the gates of constraints and of bad states in the frame, which are behind the copies.
     fn put_behind(&self, out: &mut [Gate])
-        requires { length out.old ≡ length self.now.circuit.constraints + length self.now.circuit.bad }
+        requires { length out.old
+            ≡ length self.now.circuit.constraints + length self.now.circuit.bad }
         ensures { out.new ≡ drop (length self.now.circuit.gates)
             (gates_at self.now.circuit self.now.frames self.now.frame) }
     {
@@ -274,11 +270,11 @@ impl Frames {
         put_behind(standing, self.first_gate, self.chain(), &self.circuit, out);
     }
 
-    /// Puts the gates of the frame, from the copy at this place on.
     pub(crate) fn put_gates(&self, at: usize, out: &mut [Gate])
         requires within { at ≤ length self.now.circuit.gates }
         requires room { at + length out.old ≡ frame_size self.now.circuit }
-        ensures gates { out.new ≡ drop at (gates_at self.now.circuit self.now.frames self.now.frame) }
+        ensures gates { out.new ≡ drop at
+            (gates_at self.now.circuit self.now.frames self.now.frame) }
         ensures deltas { All HasDeltas out.new }
     {
         let copies = self.circuit.gates.len() - at;
@@ -286,7 +282,6 @@ impl Frames {
         self.put_behind(&mut out[copies..]);
     }
 
-    /// Goes back to frame 0.
     fn restart(&mut self)
         ensures { self.new ≡ record self.old { frame = 0 } }
     {
@@ -298,7 +293,6 @@ impl Frames {
         put_standing(self.first_input, inputs, latches, &mut self.standing);
     }
 
-    /// Goes to the next frame.
     pub(crate) fn advance(&mut self)
         requires { self.old.frame + 1 < self.old.frames }
         ensures { self.new ≡ record self.old { frame = self.old.frame + 1 } }

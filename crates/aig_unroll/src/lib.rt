@@ -1,7 +1,7 @@
 //! The unroller: copies of a circuit in time, as one circuit without latches.
 //!
-//! Others call `Unrolling`, which writes the unrolled circuit frame by frame and never holds it, and `unroll`, which
-//! makes it as a whole.
+//! Others call `Unrolling`, which writes the unrolled circuit frame by frame and never holds it,
+//! and `unroll`, which makes it as a whole.
 //!
 //! The definitions that matter most are `unrolled`, `IsUnrolled` and `side_by_side`.
 #![tactic(auto)]

@@ -1,18 +1,20 @@
-//! What stands for literals in a frame, and the loops that put it. A table says what stands for each variable up to the
-//! last latch; the variables behind them are those of gates, which follow on one another in each frame.
+//! What stands for literals in a frame, and the loops that put it. A table says what stands for
+//! each variable up to the last latch; the variables behind them are those of gates, which follow
+//! on one another in each frame.
 ghost use Rattle.std.specs.Prelude.{◌≡◌, ◌+◌, ◌≤◌, length, map};
 ghost use Rattle.std.specs.List.{All, range_with_len};
 ghost use Rattle.aig_circuit.specs.declared.circuit.Latch.{Latch as LatchRecord};
 ghost use Rattle.aig_circuit.specs.declared.circuit.TheConstants.{LARGEST};
 ghost use Rattle.aig_circuit.specs.Literal.{literal_of};
-ghost use Rattle.aig_unroll.specs.Unrolled.{chain_behind, chained, copied, first_latches, gate_of, guarded};
+ghost use Rattle.aig_unroll.specs.Unrolled.{chain_behind, chained, copied};
+ghost use Rattle.aig_unroll.specs.Unrolled.{first_latches, gate_of, guarded};
 ghost use Rattle.aig_unroll.specs.Parts.Standing.{GateHasRoom, HasRoom, stood};
 
 use aig_core::{Gate, Latch, Lit, Reset, Var};
 
-/// What stands for a literal. The sign carries over without a branch.
+/// The sign carries over without a branch.
 #[inline(always)]
-#[tactic(auto, using(crate::proofs::Standings::looked_up))]
+#[tactic(auto, using(crate::proofs::InFrame::looked_up))]
 fn stands_for(standing: &[Lit], first_gate: u32, literal: Lit) -> Lit
     requires { HasRoom (length standing.now) first_gate literal }
     ensures { result ≡ stood standing.now first_gate literal }
@@ -26,7 +28,6 @@ fn stands_for(standing: &[Lit], first_gate: u32, literal: Lit) -> Lit
     }
 }
 
-/// A gate with these operands, the larger one first.
 #[inline(always)]
 fn make_gate(variable: u32, one: Lit, other: Lit) -> Gate
     ensures { result ≡ gate_of variable one other }
@@ -38,7 +39,6 @@ fn make_gate(variable: u32, one: Lit, other: Lit) -> Gate
     }
 }
 
-/// Puts the literals of variables, from this one on.
 pub(crate) fn put_numbered(first: u32, out: &mut [Lit])
     requires { first + length out.old ≤ LARGEST + 1 }
     ensures { out.new ≡ map literal_of (range_with_len first (length out.old)) }
@@ -69,7 +69,6 @@ pub(crate) fn put_first(latches: &[Latch], out: &mut [Lit])
     }
 }
 
-/// Puts what stands for literals.
 pub(crate) fn put_literals(standing: &[Lit], first_gate: u32, literals: &[Lit], out: &mut [Lit])
     requires room { length out.old ≡ length literals.now }
     requires below { All (HasRoom (length standing.now) first_gate) literals.now }
@@ -80,11 +79,12 @@ pub(crate) fn put_literals(standing: &[Lit], first_gate: u32, literals: &[Lit], 
     }
 }
 
-/// Puts what stands for the next literals of latches.
 pub(crate) fn put_nexts(standing: &[Lit], first_gate: u32, latches: &[Latch], out: &mut [Lit])
     requires room { length out.old ≡ length latches.now }
-    requires below { All (λ (l : LatchRecord). HasRoom (length standing.now) first_gate l.next) latches.now }
-    ensures { out.new ≡ map (stood standing.now first_gate) (map (λ (l : LatchRecord). l.next) latches.now) }
+    requires below { All
+        (λ (l : LatchRecord). HasRoom (length standing.now) first_gate l.next) latches.now }
+    ensures { out.new ≡ map (stood standing.now first_gate)
+        (map (λ (l : LatchRecord). l.next) latches.now) }
 {
     for i in 0..latches.len() {
         out[i] = stands_for(standing, first_gate, latches[i].next);
@@ -113,8 +113,7 @@ pub(crate) fn put_copies(
     }
 }
 
-/// Puts the gates of constraints, each of the chain so far and of what stands for its literal. They have the variables
-/// from this one on. The chain behind them.
+/// Each gate is of the chain so far and of what stands for its literal. Answers the new chain.
 pub(crate) fn put_chain(
     standing: &[Lit],
     first_gate: u32,
@@ -126,7 +125,8 @@ pub(crate) fn put_chain(
     requires room { length out.old ≡ length literals.now }
     requires below { All (HasRoom (length standing.now) first_gate) literals.now }
     requires small { first + length literals.now ≤ LARGEST + 1 }
-    ensures gates { out.new ≡ chained first chain (map (stood standing.now first_gate) literals.now) }
+    ensures gates { out.new ≡ chained first chain
+        (map (stood standing.now first_gate) literals.now) }
     ensures chain { result ≡ chain_behind first chain literals.now }
 {
     let mut variable = first;
@@ -143,8 +143,6 @@ pub(crate) fn put_chain(
     behind
 }
 
-/// Puts the gates of bad states, each of the chain and of what stands for its literal. They have the variables from
-/// this one on.
 pub(crate) fn put_guards(
     standing: &[Lit],
     first_gate: u32,

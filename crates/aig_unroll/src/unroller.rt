@@ -1,5 +1,4 @@
-//! The unrolled circuit, written frame by frame: it is never held. A circuit and its frames are dropped by name, since
-//! a proof goes through all that goes out of scope by itself.
+//! The unrolled circuit, written frame by frame: it is never held.
 ghost use Rattle.std.specs.Prelude.{◌≡◌, ◌<◌, ◌≤◌, length, IfErr, IfOk, OnErr, OnOk};
 ghost use Rattle.aig_circuit.specs.Wellformed.{IsWellFormed};
 ghost use Rattle.aig_io.specs.Output.{Put};
@@ -24,8 +23,8 @@ use aig_text::{ASCII_WORD, WriteFault, put_header};
 use std::alloc::Global;
 use std::marker::Model;
 
-/// A circuit unrolled over so many frames, ready to be written. It holds the circuit and room for the outputs, the bad
-/// states and some of the gates of one frame, however many frames there are.
+/// A circuit unrolled over so many frames, ready to be written. It holds the circuit and room for
+/// the outputs, the bad states and some of the gates of one frame, however many frames there are.
 #[derive(Drop)]
 pub struct Unrolling {
     copies: Frames,
@@ -49,7 +48,6 @@ impl Model for Unrolling {
     ghost invariant = { λ u. IsReady u.copies u.outputs.items u.bad.items u.gates.items };
 }
 
-/// Room for the outputs and the bad states of a frame, and for a piece of its gates.
 fn make_room(
     alloc: Global,
     circuit: &Circuit,
@@ -71,7 +69,6 @@ fn make_room(
 }
 
 impl Unrolling {
-    /// Of a circuit in binary order.
     fn of_image(alloc: Global, image: Ordered, frames: u32) -> Result<Self, OutOfMemory>
         requires some { 1 ≤ frames }
         requires fits { ¬ IsTooLarge image frames }
@@ -86,21 +83,22 @@ impl Unrolling {
                 gates,
             }),
             Err(refused) => {
-                drop(copies);
+                drop(copies); // for the proof
                 Err(refused)
             }
         }
     }
 
-    /// The circuit unrolled over so many frames, as `unroll` makes it. All memory that is ever taken is taken here:
-    /// what the binary image takes, and room for what is written of one frame.
+    /// The circuit unrolled over so many frames, as `unroll` makes it. All memory that is ever
+    /// taken is taken here: what the binary image takes, and room for what is written of one frame.
     ///
-    /// A circuit with justice properties or fairness constraints is refused, and so is one whose unrolled circuit would
-    /// be too large: both before any memory is taken.
+    /// A circuit with justice properties or fairness constraints is refused, and so is one whose
+    /// unrolled circuit would be too large: both before any memory is taken.
     pub fn new(alloc: Global, checked: Checked, frames: u32) -> Result<Self, UnrollFault>
         requires { (1 ≤ frames) × (frames ≤ 1000000) }
         ensures ok { IfOk result (λ d. IsUnrolled checked frames d) }
-        ensures supported { OnOk result ((¬ IsUnsupported checked) × (¬ IsTooLarge checked frames)) }
+        ensures supported { OnOk result ((¬ IsUnsupported checked)
+            × (¬ IsTooLarge checked frames)) }
         ensures err { IfErr result (NotUnrolled checked frames) }
     {
         match check_supported(checked.circuit(), frames) {
@@ -109,13 +107,12 @@ impl Unrolling {
                 Ok(Unrolling::of_image(alloc, image, frames)?)
             }
             Err(fault) => {
-                drop(checked);
+                drop(checked); // for the proof
                 Err(fault)
             }
         }
     }
 
-    /// Puts the canonical ASCII text.
     fn put_ascii<W: Sink>(self, output: &mut Output<W>)
         ensures { Put output.old output.new (ascii_text self) }
     {
@@ -130,10 +127,9 @@ impl Unrolling {
         put_section::<OutputLines, W>(output, &mut copies, &mut outputs);
         put_section::<BadLines, W>(output, &mut copies, &mut bad);
         put_section::<GateLines, W>(output, &mut copies, &mut gates);
-        drop(copies);
+        drop(copies); // for the proof
     }
 
-    /// Puts the canonical binary text.
     fn put_binary<W: Sink>(self, output: &mut Output<W>)
         ensures { Put output.old output.new (binary_text self) }
     {
@@ -147,15 +143,17 @@ impl Unrolling {
         put_section::<OutputLines, W>(output, &mut copies, &mut outputs);
         put_section::<BadLines, W>(output, &mut copies, &mut bad);
         put_section::<GateDeltas, W>(output, &mut copies, &mut gates);
-        drop(copies);
+        drop(copies); // for the proof
     }
 
-    /// Writes the canonical ASCII text of the unrolled circuit, in slices of at most 8,192 bytes. It takes no memory
-    /// and fails only where the sink fails; the sink then took a beginning of the text, and is not called again.
+    /// Writes the canonical ASCII text of the unrolled circuit, in slices of at most 8,192 bytes.
+    /// It takes no memory and fails only where the sink fails; the sink then took a beginning of
+    /// the text, and is not called again.
     pub fn write_ascii<W: Sink>(self, sink: &mut W) -> Result<(), WriteFault>
         requires { CanFail (W.past sink.old) }
         ensures ok { OnOk result (W.past sink.new ≡ took (ascii_text self) (W.past sink.old)) }
-        ensures err { OnErr result (TookBeginning (ascii_text self) (W.past sink.old) (W.past sink.new)) }
+        ensures err { OnErr result (TookBeginning (ascii_text self) (W.past sink.old)
+            (W.past sink.new)) }
     {
         let mut output = Output::new(sink);
         self.put_ascii(&mut output);
@@ -164,12 +162,14 @@ impl Unrolling {
         Ok(())
     }
 
-    /// Writes the canonical binary text of the unrolled circuit, in slices of at most 8,192 bytes. It takes no memory
-    /// and fails only where the sink fails; the sink then took a beginning of the text, and is not called again.
+    /// Writes the canonical binary text of the unrolled circuit, in slices of at most 8,192 bytes.
+    /// It takes no memory and fails only where the sink fails; the sink then took a beginning of
+    /// the text, and is not called again.
     pub fn write_binary<W: Sink>(self, sink: &mut W) -> Result<(), WriteFault>
         requires { CanFail (W.past sink.old) }
         ensures ok { OnOk result (W.past sink.new ≡ took (binary_text self) (W.past sink.old)) }
-        ensures err { OnErr result (TookBeginning (binary_text self) (W.past sink.old) (W.past sink.new)) }
+        ensures err { OnErr result (TookBeginning (binary_text self) (W.past sink.old)
+            (W.past sink.new)) }
     {
         let mut output = Output::new(sink);
         self.put_binary(&mut output);

@@ -2,7 +2,8 @@
 ghost use Rattle.std.specs.Prelude.{◌≡◌, ◌↔◌, ◌+◌, ◌*◌, ◌≤◌, length, IfErr, IfOk, IsTrue, OnOk};
 ghost use Rattle.std.specs.List.{flat_map, range_with_len};
 ghost use Rattle.aig_circuit.specs.Wellformed.{IsWellFormed};
-ghost use Rattle.aig_unroll.specs.Unrolled.{IsTooLarge, IsUnrolled, IsUnsupported, all_inputs, bad_at};
+ghost use Rattle.aig_unroll.specs.Unrolled.{IsTooLarge, IsUnrolled};
+ghost use Rattle.aig_unroll.specs.Unrolled.{IsUnsupported, all_inputs, bad_at};
 ghost use Rattle.aig_unroll.specs.Unrolled.{frame_size, gates_at, outputs_at, unrolled};
 ghost use Rattle.aig_unroll.specs.Outcome.{NotUnrolled};
 ghost use Rattle.aig_unroll.specs.Parts.Frames.{IsPutAt, circuit_with};
@@ -15,8 +16,7 @@ use aig_core::{
 use aig_image::binary_image;
 use std::alloc::{AllocError, Global};
 
-/// Whether the unrolled circuit would be too large. Each bad state has a gate, so there are never too many of these
-/// alone.
+/// Each bad state has a gate, so there are never too many of these alone.
 fn is_too_large(circuit: &Circuit, frames: u32) -> bool
     requires formed { IsWellFormed circuit.now }
     requires frames { frames ≤ 1000000 }
@@ -34,7 +34,8 @@ fn is_too_large(circuit: &Circuit, frames: u32) -> bool
 pub(crate) fn check_supported(circuit: &Circuit, frames: u32) -> Result<(), UnrollFault>
     requires formed { IsWellFormed circuit.now }
     requires frames { frames ≤ 1000000 }
-    ensures supported { OnOk result ((¬ IsUnsupported circuit.now) × (¬ IsTooLarge circuit.now frames)) }
+    ensures supported { OnOk result ((¬ IsUnsupported circuit.now)
+        × (¬ IsTooLarge circuit.now frames)) }
     ensures err { IfErr result (NotUnrolled circuit.now frames) }
 {
     if !circuit.justice.sizes.is_empty() || !circuit.fairness.is_empty() {
@@ -46,7 +47,6 @@ pub(crate) fn check_supported(circuit: &Circuit, frames: u32) -> Result<(), Unro
     }
 }
 
-/// The variables from 1 on.
 fn first_variables(alloc: Global, count: u32) -> Result<Vec<Var>, AllocError>
     ensures { IfOk result (λ variables. variables.items ≡ range_with_len 1 count) }
 {
@@ -86,7 +86,6 @@ fn put_frame(
     copies.put_gates(0, &mut gates[frame * width..frame * width + width]);
 }
 
-/// Puts the outputs, the bad states and the gates of all frames. The frames are dropped by name.
 fn put_frames(mut copies: Frames, outputs: &mut [Lit], bad: &mut [Lit], gates: &mut [Gate])
     requires first { copies.frame ≡ 0 }
     requires outputs { length outputs.old ≡ copies.frames * length copies.circuit.outputs }
@@ -94,18 +93,19 @@ fn put_frames(mut copies: Frames, outputs: &mut [Lit], bad: &mut [Lit], gates: &
     requires gates { length gates.old ≡ copies.frames * frame_size copies.circuit }
     ensures outputs { outputs.new
         ≡ flat_map (outputs_at copies.circuit copies.frames) (range_with_len 0 copies.frames) }
-    ensures bad { bad.new ≡ flat_map (bad_at copies.circuit copies.frames) (range_with_len 0 copies.frames) }
-    ensures gates { gates.new ≡ flat_map (gates_at copies.circuit copies.frames) (range_with_len 0 copies.frames) }
+    ensures bad { bad.new ≡ flat_map (bad_at copies.circuit copies.frames)
+        (range_with_len 0 copies.frames) }
+    ensures gates { gates.new ≡ flat_map (gates_at copies.circuit copies.frames)
+        (range_with_len 0 copies.frames) }
 {
     put_frame(&copies, 0, outputs, bad, gates);
     for frame in 1..copies.frames() {
         copies.advance();
         put_frame(&copies, frame as usize, outputs, bad, gates);
     }
-    drop(copies);
+    drop(copies); // for the proof
 }
 
-/// The circuit of these lists.
 fn circuit_of(
     alloc: Global,
     inputs: Vec<Var>,
@@ -134,8 +134,7 @@ fn circuit_of(
     }
 }
 
-/// The inputs of the unrolled circuit, and lists as long as its outputs, its bad states and its gates. Each takes its
-/// memory once.
+/// Each list takes its memory once.
 fn make_lists(
     alloc: Global,
     copies: &Frames,
@@ -164,8 +163,6 @@ fn make_lists(
     Ok((inputs, outputs, bad, gates))
 }
 
-/// The unrolled circuit of a circuit in binary order. Where memory is refused its frames are dropped by name, since a
-/// proof goes through all that goes out of scope by itself.
 fn unroll_image(alloc: Global, image: Ordered, frames: u32) -> Result<Circuit, OutOfMemory>
     requires some { 1 ≤ frames }
     requires fits { ¬ IsTooLarge image frames }
@@ -178,23 +175,24 @@ fn unroll_image(alloc: Global, image: Ordered, frames: u32) -> Result<Circuit, O
             Ok(circuit_of(alloc, inputs, outputs, bad, gates))
         }
         Err(refused) => {
-            drop(copies);
+            drop(copies); // for the proof
             Err(refused)
         }
     }
 }
 
-/// The circuit unrolled over so many frames: copies of it in time, as one circuit without latches. It takes the inputs
-/// of all frames; an uninitialised latch has an input of its own for its first value. Its outputs are those of all
-/// frames, and its bad states are those of all frames, each while all constraints have held so far. It has no
-/// constraints and no names.
+/// The circuit unrolled over so many frames: copies of it in time, as one circuit without latches.
+/// It takes the inputs of all frames; an uninitialised latch has an input of its own for its first
+/// value. Its outputs are those of all frames, and its bad states are those of all frames, each
+/// while all constraints have held so far. It has no constraints and no names.
 ///
-/// A circuit with justice properties or fairness constraints is refused, and so is one whose unrolled circuit would be
-/// too large: both before any memory is taken.
+/// A circuit with justice properties or fairness constraints is refused, and so is one whose
+/// unrolled circuit would be too large: both before any memory is taken.
 pub fn unroll(alloc: Global, checked: &Checked, frames: u32) -> Result<Ordered, UnrollFault>
     requires { (1 ≤ frames) × (frames ≤ 1000000) }
     ensures ok { IfOk result (λ d. IsUnrolled checked.now frames d) }
-    ensures supported { OnOk result ((¬ IsUnsupported checked.now) × (¬ IsTooLarge checked.now frames)) }
+    ensures supported { OnOk result ((¬ IsUnsupported checked.now)
+        × (¬ IsTooLarge checked.now frames)) }
     ensures err { IfErr result (NotUnrolled checked.now frames) }
 {
     check_supported(checked.circuit(), frames)?;

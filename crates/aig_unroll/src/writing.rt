@@ -13,7 +13,6 @@ use aig_binary::put_gates;
 use aig_core::{Circuit, Gate, Lit, Output, Sink, Var};
 use aig_text::{HEADER_NUMBERS, NumberedLine, put_lines};
 
-/// The numbers of the unrolled circuit's header: the largest index, and the counts.
 pub(crate) fn header_numbers(copies: &Frames) -> [u64; HEADER_NUMBERS]
     requires { copies.now.frame ≡ 0 }
     ensures { result ≡ header_row (unrolled copies.now.circuit copies.now.frames) }
@@ -27,7 +26,6 @@ pub(crate) fn header_numbers(copies: &Frames) -> [u64; HEADER_NUMBERS]
     [inputs + gates, inputs, 0, outputs, gates, bad, 0, 0, 0]
 }
 
-/// Puts the lines of the inputs, so many.
 #[inline(never)]
 pub(crate) fn put_inputs<W: Sink>(output: &mut Output<W>, count: u32)
     requires { count ≤ LARGEST }
@@ -45,7 +43,6 @@ pub(crate) trait FrameSection {
     ghost use Rattle.aig_circuit.specs.declared.circuit.Circuit.{Circuit as CircuitRecord};
     ghost use Rattle.aig_io.specs.Output.{Put};
 
-    /// What it lists.
     type Item;
 
     /// How many of them a frame of a circuit has.
@@ -57,20 +54,16 @@ pub(crate) trait FrameSection {
     /// The text of one.
     ghost text: { Self.Item → List ℕ };
 
-    /// Puts the text of those in the frame. There is room for them.
     fn put<W: Sink>(output: &mut Output<W>, copies: &Frames, room: &mut [Self::Item])
         requires { length room.old ≡ size copies.now.circuit }
         ensures { Put output.old output.new
             (flat_map text (at copies.now.circuit copies.now.frames copies.now.frame)) };
 }
 
-/// The lines of the outputs.
 pub(crate) struct OutputLines;
 
-/// The lines of the bad states.
 pub(crate) struct BadLines;
 
-/// The lines of the gates.
 pub(crate) struct GateLines;
 
 /// The gates by their deltas.
@@ -87,7 +80,6 @@ trait GateText {
     /// The text of one.
     ghost one: { GateRecord → List ℕ };
 
-    /// Puts the text of some.
     fn put_some<W: Sink>(output: &mut Output<W>, gates: &[Gate])
         requires { All HasDeltas gates.now }
         ensures { Put output.old output.new (flat_map one gates.now) };
@@ -116,7 +108,7 @@ impl GateText for GateDeltas {
 /// How many gates are made at once, and more where a frame ends.
 const PIECE: usize = 256;
 
-/// How much room the gates of a frame take: that of a piece of the copies, and of what is behind them.
+/// How much room the gates of a frame take: a piece of the copies, and what is behind them.
 pub(crate) fn room_of_gates(circuit: &Circuit) -> usize
     requires { IsWellFormed circuit.now }
     ensures { result ≡ gate_room circuit.now }
@@ -124,8 +116,7 @@ pub(crate) fn room_of_gates(circuit: &Circuit) -> usize
     PIECE + circuit.constraints.len() + circuit.bad.len()
 }
 
-/// Puts the text of copies of the circuit's gates in the frame, as many at once as there is room for, and leaves the
-/// last ones. The place where they begin.
+/// Leaves the last copies, and answers where they begin.
 fn put_pieces<F: GateText, W: Sink>(
     output: &mut Output<W>,
     copies: &Frames,
@@ -148,7 +139,6 @@ fn put_pieces<F: GateText, W: Sink>(
     at
 }
 
-/// Puts the text of the gates of the frame, from the copy at this place on.
 fn put_rest<F: GateText, W: Sink>(
     output: &mut Output<W>,
     copies: &Frames,
@@ -158,14 +148,15 @@ fn put_rest<F: GateText, W: Sink>(
     requires within { at ≤ length copies.now.circuit.gates }
     requires room { frame_size copies.now.circuit ≤ at + length room.old }
     ensures { Put output.old output.new
-        (flat_map F.one (drop at (gates_at copies.now.circuit copies.now.frames copies.now.frame))) }
+        (flat_map F.one
+        (drop at (gates_at copies.now.circuit copies.now.frames copies.now.frame))) }
 {
     let count = copies.count_gates() - at;
     copies.put_gates(at, &mut room[..count]);
     F::put_some(output, &room[..count]);
 }
 
-/// Puts the text of the gates of the frame, what is behind the copies together with the last of these.
+/// What is behind the copies is put together with the last of these.
 fn put_frame_gates<F: GateText, W: Sink>(output: &mut Output<W>, copies: &Frames, room: &mut [Gate])
     requires { length room.old ≡ gate_room copies.now.circuit }
     ensures { Put output.old output.new
@@ -248,7 +239,7 @@ impl FrameSection for GateDeltas {
     }
 }
 
-/// Puts the text of a section in a frame, unless the sink failed: nobody takes it then.
+/// Nothing is put where the sink failed: nobody takes it then.
 fn put_frame<S: FrameSection, W: Sink>(
     output: &mut Output<W>,
     copies: &mut Frames,
@@ -279,7 +270,8 @@ pub(crate) fn put_section<S: FrameSection, W: Sink>(
     requires { length room.old ≡ S.size copies.old.circuit }
     ensures kept { copies.new ≡ record copies.old { frame = copies.new.frame } }
     ensures put { Put output.old output.new (flat_map S.text
-        (flat_map (S.at copies.old.circuit copies.old.frames) (range_with_len 0 copies.old.frames))) }
+        (flat_map (S.at copies.old.circuit copies.old.frames)
+        (range_with_len 0 copies.old.frames))) }
 {
     for frame in 0..copies.frames() {
         put_frame::<S, W>(output, copies, room, frame);

@@ -1,8 +1,7 @@
 -- Circuits that show the same.
-use Rattle.std.proofs.Common.{◌≡◌, ◌==◌, ◌+◌, ◌∙◌, ℕ, List, [], ◌∷◌, ◌++◌}
-use Rattle.std.proofs.Common.{Bool, fold, length, map, replicate, codes, refl, sym, ap, ap₂}
-use Rattle.std.proofs.Common.{if◌then◌else◌, arith}
-use Rattle.std.specs.List.{AllByRecursion, flat_map}
+use Rattle.std.proofs.Common.{◌≡◌, ◌==◌, ◌+◌, ◌∙◌, ◌∷◌, ◌++◌, if◌then◌else◌, ℕ, List, [], Bool, fold, length, map}
+use Rattle.std.proofs.Common.{replicate, codes, refl, sym, ap, ap₂, arith, flat_map}
+use Rattle.std.specs.List.{AllByRecursion}
 use Rattle.std.proofs.lemmas.List.{length-map}
 use Rattle.aig_circuit.specs.declared.circuit.Circuit.{Circuit}
 use Rattle.aig_circuit.specs.declared.circuit.Kind.{Kind}

@@ -1,7 +1,6 @@
 -- The signals of a kind show its column of a line, and the columns of a step's line are the lists of its row.
-use Rattle.std.proofs.Common.{◌≡◌, ◌+◌, ◌∙◌, ℕ, zero, suc, List, [], ◌∷◌, ◌++◌, refl}
-use Rattle.std.proofs.Common.{length, take, drop, replicate, sym, ap, subst, arith, inl, inr, append_assoc}
-use Rattle.std.proofs.Common.{append-nil, length-append, ◌-◌}
+use Rattle.std.proofs.Common.{◌≡◌, ◌+◌, ◌∙◌, ◌∷◌, ◌++◌, ◌-◌, ℕ, zero, suc, List, [], refl, length, take, drop}
+use Rattle.std.proofs.Common.{replicate, sym, ap, subst, arith, inl, inr, append_assoc, append-nil, length-append}
 use Rattle.std.proofs.Math.Seq.{drop-append-add, take-add, take-append_seam}
 use Rattle.std.proofs.lemmas.Bool.{cases_Bool}
 use Rattle.std.proofs.lemmas.List.{drop-drop, length-map, length-replicate}
@@ -12,9 +11,9 @@ use Rattle.aig_circuit.specs.declared.circuit.Kind.TheVariants.{Input, Latch, Ou
 use Rattle.aig_circuit.specs.declared.value.Val.{Val}
 use Rattle.aig_circuit.specs.declared.value.Val.TheVariants.{Zero, One, X}
 use Rattle.aig_circuit.specs.Wellformed.{count_of}
-use Rattle.aig_circuit.proofs.Checking.InForm.{back, front, joined}
+use Rattle.aig_circuit.proofs.Checking.{back, front, joined}
 use Rattle.aig_meaning.specs.Meaning.{IsRow, Row, literal_value}
-use Rattle.aig_meaning.proofs.Rows.{bad_length, constraints_length, inputs_length, next_length, state_length}
+use Rattle.aig_meaning.proofs.Traces.{bad_length, constraints_length, inputs_length, next_length, state_length}
 use Rattle.aig_step.specs.TraceText.{character_of, values_text}
 use Rattle.aig_wave.specs.declared.signal.Signal.{Signal}
 use Rattle.aig_wave.specs.Frames.{closing_line, frame}
@@ -25,7 +24,7 @@ use Rattle.aig_wave.specs.Signals.{followers, names_of, signals_behind, signals_
 use Rattle.aig_wave.specs.Wave.{bits}
 use Rattle.aig_wave.proofs.Alike.{each_same}
 use Rattle.aig_wave.proofs.Decoding.{IsShown, ShowSame, ShowValues}
-use Rattle.aig_wave.proofs.Naming.{names_count}
+use Rattle.aig_wave.proofs.Distinct.{names_count}
 use Rattle.aig_wave.proofs.Tagged.{AreValues}
 
 -- the characters of a kind in a line

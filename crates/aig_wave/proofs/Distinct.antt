@@ -1,18 +1,37 @@
--- The codes of a circuit's signals.
-use Rattle.std.proofs.Common.{◌≡◌, ◌≢◌, ◌+◌, ◌^◌, ◌<◌, ◌≤◌, ◌∙◌, ℕ, List, [], ◌∷◌, ◌++◌, Bool, true, false}
-use Rattle.std.proofs.Common.{length, decimal, if◌then◌else◌, refl, sym, ap, subst, arith}
+-- The names and the codes of a circuit's signals.
+use Rattle.std.proofs.Common.{◌≡◌, ◌==◌, ◌∙◌, ◌∷◌, if◌then◌else◌, ◌≢◌, ◌+◌, ◌^◌, ◌<◌, ◌≤◌, ◌++◌, ℕ, List, [], Bool}
+use Rattle.std.proofs.Common.{true, false, fold, length, refl, decimal, sym, ap, subst, arith, slice_set, flat_map}
+use Rattle.std.proofs.Common.{length-set}
+use Rattle.std.specs.List.{AllByRecursion}
+use Rattle.std.proofs.lemmas.List.{length-replicate}
 use Rattle.std.proofs.lemmas.Fmt.{decimal_injective}
-use Rattle.std.specs.List.{AllByRecursion, flat_map}
 use Rattle.aig_circuit.specs.declared.circuit.Circuit.{Circuit}
 use Rattle.aig_circuit.specs.declared.circuit.Kind.{Kind}
-use Rattle.aig_circuit.specs.Wellformed.{IsWithinLimits, count_of}
+use Rattle.aig_circuit.specs.declared.circuit.Symbol.{Symbol}
+use Rattle.aig_circuit.specs.Wellformed.{count_of, IsWithinLimits}
+use Rattle.aig_wave.specs.Places.{letter, kinds}
+use Rattle.aig_wave.specs.Signals.{named, names_of, followers, signal, signals_behind, signals_of}
 use Rattle.aig_wave.specs.declared.signal.Signal.{Signal}
 use Rattle.aig_wave.specs.Head.{code}
 use Rattle.aig_wave.specs.Laws.{HaveDistinctCodes}
 use Rattle.aig_wave.specs.Names.{follows}
-use Rattle.aig_wave.specs.Places.{kinds, letter}
-use Rattle.aig_wave.specs.Signals.{followers, names_of, signal, signals_behind, signals_of}
-use Rattle.aig_wave.proofs.Naming.{names_count}
+
+named_if : (is : Bool) (names : List (List ℕ)) (position : ℕ) (name : List ℕ)
+    → length (if is then slice_set names position name else names) ≡ length names
+named_if true names position name = length-set names position name
+named_if false names position name = refl
+
+named_length : (kind : Kind) (names : List (List ℕ)) (symbols : List Symbol)
+    → length (fold (named kind) names symbols) ≡ length names
+named_length kind names [] = refl
+named_length kind names (s ∷ ss) =
+    named_length kind (named kind names s) ss
+    ∙ named_if (letter s.kind == letter kind) names s.position s.name
+
+pub names_count : (c : Circuit) (kind : Kind) → length (names_of c kind) ≡ count_of c kind
+names_count c kind = named_length kind _ c.symbols ∙ length-replicate (count_of c kind) []
+
+-- The codes of a circuit's signals.
 
 -- signals of a kind whose first positions rise, from one on and below another
 AreRising : Kind → ℕ → ℕ → List Signal → Type 0

@@ -1,18 +1,17 @@
 -- The head of a dump is plain text.
-use Rattle.std.proofs.Common.{◌≡◌, ◌==◌, ◌<◌, ◌/◌, ◌%◌, ◌&&◌, ◌∙◌, ℕ, zero, suc, List, [], ◌∷◌, ◌++◌, Bool, true, false}
-use Rattle.std.proofs.Common.{None, Option, Some, codes, decimal, if◌then◌else◌, length, refl, ap₂, arith}
+use Rattle.std.proofs.Common.{◌≡◌, ◌==◌, ◌<◌, ◌/◌, ◌%◌, ◌&&◌, ◌∙◌, ◌∷◌, ◌++◌, if◌then◌else◌, ℕ, zero, suc, List, []}
+use Rattle.std.proofs.Common.{Bool, true, false, None, Option, Some, codes, decimal, length, refl, ap₂, arith}
+use Rattle.std.proofs.Common.{slice_index_or, flat_map}
 use Rattle.std.proofs.lemmas.Bool.Decides.{nat_tests}
 use Rattle.std.proofs.lemmas.List.Folds.{list_all-append}
-use Rattle.std.specs.Prelude.{slice_index_or}
 use Rattle.std.specs.Fmt.{digit_glyph, digits, digits_onto}
-use Rattle.std.specs.List.{flat_map, list_all}
+use Rattle.std.specs.List.{list_all}
 use Rattle.aig_circuit.specs.declared.circuit.Circuit.{Circuit}
 use Rattle.aig_circuit.specs.declared.circuit.Kind.{Kind}
 use Rattle.aig_circuit.specs.declared.circuit.Kind.TheVariants.{Input, Latch, Output, Bad, Constraint, Justice}
 use Rattle.aig_circuit.specs.declared.circuit.Kind.TheVariants.{Fairness}
 use Rattle.aig_wave.specs.declared.signal.Signal.{Signal}
-use Rattle.aig_wave.specs.Head.{closing, code, head, opening, range_text, scope, scope_text, sort, var_text}
-use Rattle.aig_wave.specs.Head.{words_for}
+use Rattle.aig_wave.specs.Head.{closing, code, head, opening, range_text, scope, scope_text, sort, var_text, words_for}
 use Rattle.aig_wave.specs.Laws.{is_plain}
 use Rattle.aig_wave.specs.Names.{Indexed, indexed, shown, shown_byte}
 use Rattle.aig_wave.specs.Places.{kinds, letter}

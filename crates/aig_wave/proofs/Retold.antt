@@ -1,35 +1,34 @@
 -- A dump gives its trace text back.
-use Rattle.std.proofs.Common.{◌≡◌, ◌≢◌, ◌+◌, ◌∙◌, ◌||◌, ℕ, suc, List, [], ◌∷◌, ◌++◌, Bool, true, false, None, Option}
-use Rattle.std.proofs.Common.{Some, codes, filter, length, refl, sym, ap, ap₂, subst, arith, inl, inr, append_assoc}
-use Rattle.std.proofs.Common.{append-nil, take, drop}
-use Rattle.std.proofs.lemmas.Bool.{eq-eqb, lt-ltb}
+use Rattle.std.proofs.Common.{◌≡◌, ◌≢◌, ◌+◌, ◌∙◌, ◌||◌, ◌∷◌, ◌++◌, ◌^◌, ◌≤◌, ℕ, suc, List, [], Bool, true, false, None}
+use Rattle.std.proofs.Common.{Option, Some, codes, filter, length, refl, sym, ap, ap₂, subst, arith, inl, inr}
+use Rattle.std.proofs.Common.{append_assoc, append-nil, take, drop, eq-eqb, lt-ltb, take_all, flat_map}
 use Rattle.std.proofs.lemmas.Grind.{flat_map-append}
 use Rattle.std.proofs.lemmas.List.{length-map}
 use Rattle.std.proofs.lemmas.List.Sums.{fold-append}
-use Rattle.std.specs.List.{AllByRecursion, AllZip, flat_map}
+use Rattle.std.specs.List.{AllByRecursion, AllZip}
 use Rattle.aig_circuit.specs.declared.circuit.Circuit.{Circuit}
 use Rattle.aig_circuit.specs.declared.circuit.Latch.{Latch}
 use Rattle.aig_circuit.specs.declared.value.Val.{Val}
 use Rattle.aig_circuit.specs.declared.value.Val.TheVariants.{Zero, One, X}
-use Rattle.aig_circuit.proofs.Checking.InForm.{joined}
-use Rattle.aig_lines.specs.Texts.{HasNoLineFeed}
+use Rattle.aig_circuit.proofs.Checking.{joined}
+use Rattle.aig_lines.specs.Lines.{HasNoLineFeed}
 use Rattle.aig_meaning.specs.Meaning.{IsRow, Row}
 use Rattle.aig_meaning.specs.Trace.{Follow, IsTrace, reset_state, reset_value}
-use Rattle.aig_meaning.proofs.Rows.{next_length, same_row}
+use Rattle.aig_meaning.proofs.Traces.{next_length, same_row}
 use Rattle.aig_step.specs.declared.trace.Columns.TheVariants.{Properties}
 use Rattle.aig_step.specs.Outcome.{first_bad_line}
 use Rattle.aig_step.specs.Stimulus.{runs_of, stimulus, value_of}
 use Rattle.aig_step.specs.TraceText.{IsTraceText, character_of, last_stop, row_text, rows_text, run_text, values_text}
 use Rattle.aig_wave.specs.Frames.{Frame, closing_line, frame, frames, frames_of, is_stop, is_trace_line, next_state}
-use Rattle.aig_wave.specs.Frames.{trace_lines}
+use Rattle.aig_wave.specs.Frames.{most_frames, trace_lines}
 use Rattle.aig_wave.specs.Laws.{DumpsLoseNothing}
 use Rattle.aig_wave.specs.Layout.{Layout, layout_of}
 use Rattle.aig_wave.specs.Parts.Cuts.{Cut, cut_byte, cut_more}
 use Rattle.aig_wave.specs.Places.{kinds}
 use Rattle.aig_wave.specs.Wave.{dump}
-use Rattle.aig_wave.proofs.Columns.{closing_shown, closing_state, has_columns, row_line, row_shown}
-use Rattle.aig_wave.proofs.Columns.{same_columns}
-use Rattle.aig_wave.proofs.Cutting.{cut_line, too_long_to_stop, whole_lines_are}
+use Rattle.aig_wave.proofs.Columns.{closing_shown, closing_state, has_columns, row_line, row_shown, same_columns}
+use Rattle.aig_wave.proofs.Counting.{no_line_is_left_out}
+use Rattle.aig_wave.proofs.Growing.{cut_line, too_long_to_stop, whole_lines_are}
 use Rattle.aig_wave.proofs.Decoding.{AreFrames, AreSame, GoesOn, same_dump}
 use Rattle.aig_wave.proofs.Distinct.{codes_are_distinct}
 
@@ -354,17 +353,21 @@ module _ (c : Circuit) where
       ap₂ (λ (rs : List Row) (rest : List (List Row)). rs ∷ rest) one.rows_same
       (runs_told (run + 1) runs others are.1 are_too.1 one.rest)
 
-  abbrev frames_back : (runs : List (List Row)) → AreRuns c runs
-      → frames_of w (flat_map (run_text Properties) runs) ≡ all_frames 0 runs
-  frames_back runs are = ap (frames w 0 w.resets) (lines_back runs are) ∙ all_are 0 runs are
+  frames_back : (bytes text : List ℕ) (has : HasRuns c text) → length bytes ≤ 2 ^ 62
+      → IsTraceText c Properties bytes true text → frames_of w text ≡ all_frames 0 has.runs
+  frames_back bytes text has short p =
+      ap (frames w 0 w.resets)
+      (take_all most_frames (trace_lines w text) (no_line_is_left_out c bytes text true short p)
+      ∙ ap (trace_lines w) has.is ∙ lines_back has.runs has.are)
+      ∙ all_are 0 has.runs has.are
 
 pub dumps_lose_nothing : DumpsLoseNothing
-dumps_lose_nothing c limits bytes more text other p none q none_too e =
+dumps_lose_nothing c limits bytes more text other short short_too p none q none_too e =
     let w = layout_of c in
     let a = has_runs c bytes text p none in
     let b = has_runs c more other q none_too in
-    let of_text = ap (frames_of w) a.is ∙ frames_back c a.runs a.are in
-    let of_other = ap (frames_of w) b.is ∙ frames_back c b.runs b.are in
+    let of_text = frames_back c bytes text a short p in
+    let of_other = frames_back c more other b short_too q in
     let dumps : dump w (all_frames c 0 a.runs) true ≡ dump w (all_frames c 0 b.runs) true =
     ap (λ (fs : List Frame). dump w fs true) (sym of_text) ∙ e ∙ ap (λ (fs : List Frame). dump w fs true) of_other in
     let same = same_dump w (all_frames c 0 a.runs) (all_frames c 0 b.runs) (codes_are_distinct c limits)

@@ -1,8 +1,7 @@
 -- The text of a change tells the code of its signal, and beside that code the signal's characters.
-use Rattle.std.proofs.Common.{◌≡◌, ◌≢◌, ◌==◌, ◌||◌, ◌<◌, ◌/◌, ◌%◌, ◌∙◌, ◌+◌, ℕ, zero, suc, List, [], ◌∷◌, ◌++◌, Bool}
-use Rattle.std.proofs.Common.{true, false, codes, decimal, if◌then◌else◌, length, reverse, refl, sym, ap, ap₂, arith}
-use Rattle.std.proofs.Common.{append_assoc, append-nil, length-append, drop}
-use Rattle.std.proofs.lemmas.Bool.{ne_eqb}
+use Rattle.std.proofs.Common.{◌≡◌, ◌≢◌, ◌==◌, ◌||◌, ◌<◌, ◌/◌, ◌%◌, ◌∙◌, ◌+◌, ◌∷◌, ◌++◌, if◌then◌else◌, ℕ, zero, suc}
+use Rattle.std.proofs.Common.{List, [], Bool, true, false, codes, decimal, length, reverse, refl, sym, ap, ap₂, arith}
+use Rattle.std.proofs.Common.{append_assoc, append-nil, length-append, drop, ne_eqb}
 use Rattle.std.proofs.lemmas.Bool.Decides.{nat_tests}
 use Rattle.std.proofs.lemmas.List.{append_cancel_right, length-reverse, reverse-reverse}
 use Rattle.std.specs.Fmt.{digit_glyph, digits, digits_onto}

@@ -1,41 +1,29 @@
 -- A trace text, piece by piece.
-use Rattle.std.proofs.Common.{◌≡◌, ◌∙◌, ◌+◌, ℕ, List, [], ◌∷◌, ◌++◌, Bool, true, false, filter, fold, take}
-use Rattle.std.proofs.Common.{if◌then◌else◌, refl, sym, ap, ap₂, subst, append_assoc, append-nil, ◌≤◌, inl, inr, arith}
-use Rattle.std.proofs.lemmas.Bool.{cases_Bool}
+use Rattle.std.proofs.Common.{◌≡◌, ◌∙◌, ◌+◌, ◌∷◌, ◌++◌, if◌then◌else◌, ℕ, List, [], Bool, true, false, fold, take, refl}
+use Rattle.std.proofs.Common.{sym, ap, ap₂, subst, append_assoc, append-nil}
 use Rattle.std.proofs.lemmas.List.Sums.{fold-append}
 use Rattle.aig_io.specs.Output.{Out, Put}
 use Rattle.aig_io.proofs.Puts.{put_nothing, put_twice}
 use Rattle.aig_lines.specs.Keeping.{Keeping, keeping_more}
-use Rattle.aig_lines.specs.Texts.{HasNoLineFeed}
-use Rattle.aig_lines.proofs.LineBytes.{kept_twice, take_none}
+use Rattle.aig_lines.specs.Lines.{HasNoLineFeed}
+use Rattle.aig_lines.proofs.Feeds.{kept_twice, take_none}
 use Rattle.aig_wave.specs.Dumping.{Dumps, Waving}
-use Rattle.aig_wave.specs.Frames.{frames_of, is_trace_line, whole_lines}
+use Rattle.aig_wave.specs.Frames.{frames_of, most_frames, whole_lines}
 use Rattle.aig_wave.specs.Layout.{Layout}
 use Rattle.aig_wave.specs.Wave.{dump, time_text}
 use Rattle.aig_wave.specs.Parts.Cuts.{Cut, cut, cut_byte}
 use Rattle.aig_wave.specs.Parts.Points.{Point, Taping, begin_of, behind_line, head_at, line_piece}
 use Rattle.aig_wave.specs.Parts.Taking.{TookEnded, line_kept}
-use Rattle.aig_wave.proofs.Cutting.{behind_kept, cut_line, cut_piece, piece_kept, whole_lines_are}
-use Rattle.aig_wave.proofs.Framed.{after_lines, dump_done, dumped_line, framed}
+use Rattle.aig_wave.proofs.Growing.{behind_kept, cut_line, cut_piece, piece_kept, whole_lines_are, after_framed}
+use Rattle.aig_wave.proofs.Growing.{dump_done, dumped_line, framed, framed_lines}
 
 abbrev start : Cut
 start = record { lines = []; begun = [] }
 
-step_time : (w : Layout) (p : Point) (l : List ℕ) → (behind_line w p l).time ≤ p.time + 1
-step_time w p l =
-    elim (cases_Bool (is_trace_line w l)) [
-      | inl so ↦ rw so (omega arith)
-      | inr not_so ↦ rw not_so (omega arith)
-    ]
-
-pub took_time : {W : Type 0} (a b : Waving W) (last : List ℕ) → TookEnded a b last
-    → b.dump_state.point.time ≤ a.dump_state.point.time + 1
-took_time a b last took = rw took.dump_state (step_time a.dump_state.layout a.dump_state.point (line_kept a last))
-
 module _ {W : Type 0} (w : Layout) (o : Out W) where
   -- the dump of whole lines
   abbrev of_lines : List (List ℕ) → List ℕ
-  of_lines ls = dump w (framed w (filter (is_trace_line w) ls)) false
+  of_lines ls = dump w (framed w (framed_lines w ls)) false
 
   abbrev point_of : List (List ℕ) → Point
   point_of ls = fold (behind_line w) (begin_of w) ls
@@ -88,6 +76,7 @@ module _ {W : Type 0} (w : Layout) (o : Out W) where
   -- nothing was taken yet
   pub dumps_nothing : (s : Waving W) → s.dump_state ≡ record { layout = w; point = begin_of w }
       → s.kept ≡ record { bytes = []; room = w.width + 2 } → s.output ≡ o → Dumps w o s []
+  unfolding most_frames
   dumps_nothing s dump_state kept same = record {
     dump_state = dump_state;
     kept = kept ∙ ap (λ (bytes : List ℕ). record { bytes = bytes; room = w.width + 2 }) (sym (take_none (w.width + 2)));
@@ -115,8 +104,8 @@ module _ {W : Type 0} (w : Layout) (o : Out W) where
       ap (λ (ls : List (List ℕ)). of_lines (whole_lines text)
       ++ (head_at w (point_of ls).time ++ time_text (point_of ls).time)) (sym (whole_lines_are text))
       ∙ ap (λ (p : Point). of_lines (whole_lines text) ++ (head_at w p.time ++ time_text p.time))
-      (after_lines w (begin_of w) (whole_lines text))
-      ∙ sym (dump_done w (filter (is_trace_line w) (whole_lines text)))
+      (after_framed w (whole_lines text))
+      ∙ sym (dump_done w (framed_lines w (whole_lines text)))
 
   pub dumps_end : (a : Waving W) (b c : Out W) (text : List ℕ) (done : Bool) → Dumps w o a text
       → Put a.output b (ending done a.dump_state) → Put b c [] → Put o c (dump w (frames_of w text) done)

@@ -1,8 +1,9 @@
 -- The frames of a trace: what is shown from one time to the next (this project's profile). Frame T is shown at time T,
--- and stands for line T + 1 of the trace.
-use Rattle.std.specs.Prelude.{◌+◌, ◌-◌, ◌==◌, ◌||◌, ℕ, List, [], ◌∷◌, ◌++◌, Bool, codes, length, take, drop, replicate}
+-- and stands for line T + 1 of the trace. There are no more frames than times of 64 bits, which is more than any stimulus
+-- has lines.
+use Rattle.std.specs.Prelude.{◌+◌, ◌-◌, ◌^◌, ◌==◌, ◌||◌, ℕ, List, [], ◌∷◌, ◌++◌, Bool, codes, length, take, drop, replicate}
 use Rattle.std.specs.Prelude.{bytes_eq, filter, map, if◌then◌else◌}
-use Rattle.aig_rows.specs.Lines.{Line, lines_of}
+use Rattle.aig_lines.specs.Lines.{Line, lines_of}
 use Rattle.aig_wave.specs.Layout.{Layout}
 
 -- the run that it belongs to, and the characters that it shows, as they stand in the line of a step
@@ -44,6 +45,10 @@ frames w run state (l ∷ ls) =
     if is_stop l then frame run (closing_line w state) ∷ frames w (run + 1) w.resets ls
     else frame run l ∷ frames w run (next_state w l) ls
 
+-- how many frames there are at most: the last of them ends at a time of 64 bits
+unfoldable pub most_frames : ℕ
+most_frames = 2 ^ 64 - 1
+
 -- the frames of a trace text
 abbrev pub frames_of : Layout → List ℕ → List Frame
-frames_of w text = frames w 0 w.resets (trace_lines w text)
+frames_of w text = frames w 0 w.resets (take most_frames (trace_lines w text))

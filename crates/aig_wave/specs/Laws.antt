@@ -1,5 +1,5 @@
 -- What the definitions of a dump say of one another.
-use Rattle.std.specs.Prelude.{◌≡◌, ◌≢◌, ◌==◌, ◌&&◌, ◌||◌, ◌++◌, ℕ, List, [], ◌∷◌}
+use Rattle.std.specs.Prelude.{◌≡◌, ◌≢◌, ◌≤◌, ◌^◌, ◌==◌, ◌&&◌, ◌||◌, ◌++◌, ℕ, List, [], ◌∷◌}
 use Rattle.std.specs.Prelude.{Bool, None, false, true, IsTrue, length, map, nat_le}
 use Rattle.std.specs.List.{AllByRecursion, list_all}
 use Rattle.aig_circuit.specs.declared.circuit.Circuit.{Circuit}
@@ -9,6 +9,7 @@ use Rattle.aig_step.specs.declared.trace.Columns.TheVariants.{Properties}
 use Rattle.aig_step.specs.Outcome.{first_bad_line}
 use Rattle.aig_step.specs.TraceText.{IsTraceText}
 use Rattle.aig_wave.specs.declared.signal.Signal.{Signal}
+use Rattle.aig_wave.specs.Frames.{most_frames, trace_lines}
 use Rattle.aig_wave.specs.Head.{code, head}
 use Rattle.aig_wave.specs.Layout.{layout_of}
 use Rattle.aig_wave.specs.Wave.{wave_text}
@@ -45,10 +46,16 @@ abbrev pub SameShownSameWave : Type 0
 SameShownSameWave = (c d : Circuit) → ShowTheSame c d → (text : List ℕ) (done : Bool)
     → wave_text d text done ≡ wave_text c text done
 
+-- each line of the trace of a stimulus has its frame, since no source gives more than 2^62 bytes
+abbrev pub NoLineIsLeftOut : Type 0
+NoLineIsLeftOut = (c : Circuit) (stimulus text : List ℕ) (ended : Bool) → length stimulus ≤ 2 ^ 62
+    → IsTraceText c Properties stimulus ended text → length (trace_lines (layout_of c) text) ≤ most_frames
+
 -- A dump loses nothing. Where two stimuli have no bad line, and their trace texts with the properties have one dump,
 -- that is one trace text.
 abbrev pub DumpsLoseNothing : Type 0
 DumpsLoseNothing = (c : Circuit) → IsWithinLimits c → (stimulus other text other_text : List ℕ)
+    → length stimulus ≤ 2 ^ 62 → length other ≤ 2 ^ 62
     → IsTraceText c Properties stimulus true text → first_bad_line c stimulus true ≡ None
     → IsTraceText c Properties other true other_text → first_bad_line c other true ≡ None
     → wave_text c text true ≡ wave_text c other_text true → text ≡ other_text

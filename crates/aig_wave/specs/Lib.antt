@@ -7,6 +7,5 @@ pub mod Frames
 pub mod Wave
 pub mod Dumping
 pub mod Standing
-pub mod Fresh
 pub mod Laws
 pub mod Parts

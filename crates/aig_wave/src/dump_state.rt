@@ -313,13 +313,6 @@ impl DumpState {
         self.layout.width()
     }
 
-    /// The time of the next frame.
-    pub(crate) fn time(&self) -> u64
-        ensures { result ≡ self.now.point.time }
-    {
-        self.time
-    }
-
     /// Puts the frame of a step.
     #[inline(always)]
     fn take_step<W: Sink>(&mut self, output: &mut Output<W>, text: &[u8])
@@ -384,13 +377,15 @@ impl DumpState {
         self.time += 1;
     }
 
-    /// Takes a line, and puts its frame. One that is no line of a trace is passed over.
+    /// Takes a line, and puts its frame. One that is no line of a trace, or has no time of 64 bits, is passed over.
     #[inline(always)]
     pub(crate) fn take_line<W: Sink>(&mut self, output: &mut Output<W>, text: &[u8])
-        requires { self.old.point.time < 2 ^ 64 - 1 }
         ensures point { self.new ≡ record self.old { point = behind_line self.old.layout self.old.point text.now } }
         ensures put { Put output.old output.new (line_piece self.old.layout self.old.point text.now) }
     {
+        if self.time == u64::MAX {
+            return;
+        }
         if is_stop(text) {
             self.take_stop(output);
         } else if text.len() == self.layout.width() {

@@ -1,9 +1,7 @@
 //! What takes a trace text, and puts the dump of it.
-ghost use Rattle.std.specs.Prelude.{◌≡◌, ◌+◌, ◌-◌, ◌^◌, ◌<◌, ◌≤◌, ◌++◌, ℕ, List, [], ◌⊎◌, ◌↔◌, IfOk, IsTrue};
-ghost use Rattle.std.specs.Prelude.{false, true, is_err, length};
+ghost use Rattle.std.specs.Prelude.{◌≡◌, ◌++◌, ℕ, List, [], false, true, is_err};
 ghost use Rattle.aig_io.specs.Devices.{CanFail};
 ghost use Rattle.aig_io.specs.Output.{Out, Put, output_to};
-ghost use Rattle.aig_wave.specs.declared.dump_writer.TheConstants.{LAST};
 ghost use Rattle.aig_wave.specs.Dumping.{Dumps};
 ghost use Rattle.aig_wave.specs.Frames.{frames_of};
 ghost use Rattle.aig_wave.specs.Layout.{Layout as LayoutRecord};
@@ -13,13 +11,10 @@ ghost use Rattle.memchr.specs.Find.{IsFirstByte, is_byte};
 
 use crate::dump_state::DumpState;
 use crate::room::WaveMemory;
-use aig_io::{DeviceFault, Output, ROOM, Sink};
+use aig_io::{DeviceFault, Output, Sink};
 use aig_lines::PartialLine;
 use memchr::memchr;
 use std::marker::Model;
-
-/// The last time at which a block may still come.
-const LAST: u64 = u64::MAX - ROOM as u64 - 1;
 
 /// Among so many first bytes a line feed is looked for without a search, which costs most where lines are short.
 const FEW: usize = 16;
@@ -79,7 +74,6 @@ impl<'a, W: Sink> DumpWriter<'a, W> {
     /// Takes the rest of a line, which has ended.
     #[inline(always)]
     fn take_ended(&mut self, piece: &[u8])
-        requires { self.old.dump_state.point.time < 2 ^ 64 - 1 }
         ensures { TookEnded self.old self.new piece.now }
     {
         if self.kept.is_empty() && piece.len() <= self.dump_state.width() {
@@ -94,7 +88,6 @@ impl<'a, W: Sink> DumpWriter<'a, W> {
 
     /// Takes bytes of the text.
     pub(crate) fn take_bytes(&mut self, bytes: &[u8])
-        requires { self.old.dump_state.point.time + length bytes.now < 2 ^ 64 - 1 }
         ensures { (w : LayoutRecord) (o : Out W) (text : List ℕ) → Dumps w o self.old text
             → Dumps w o self.new (text ++ bytes.now) }
     {
@@ -111,7 +104,8 @@ impl<'a, W: Sink> DumpWriter<'a, W> {
     /// Ends the dump, with the time at which the last frame ends where the trace is done, and hands the sink back. Ok
     /// means that the sink took all of it.
     pub(crate) fn finish(self, done: bool) -> (Result<(), DeviceFault>, &'a mut W)
-        ensures { (w : LayoutRecord) (o : Out W) (text : List ℕ) → Dumps w o self.entry text
+        ensures reported { self.entry.output.failed ≡ true → is_err result.0 ≡ true }
+        ensures put { (w : LayoutRecord) (o : Out W) (text : List ℕ) → Dumps w o self.entry text
             → Put o (output_to W.past result.1 [] (is_err result.0)) (dump w (frames_of w text) done) }
     {
         let DumpWriter {
@@ -125,11 +119,11 @@ impl<'a, W: Sink> DumpWriter<'a, W> {
         output.finish()
     }
 
-    /// Whether nothing more can be taken: the sink failed, or no later time can be counted.
-    pub(crate) fn is_over(&self) -> bool
-        ensures { IsTrue result ↔ ((self.now.output.failed ≡ true) ⊎ (LAST ≤ self.now.dump_state.point.time)) }
+    /// Whether the sink failed.
+    pub(crate) fn has_failed(&self) -> bool
+        ensures { result ≡ self.now.output.failed }
     {
-        self.output.has_failed() || self.dump_state.time() >= LAST
+        self.output.has_failed()
     }
 
     /// Sends what was put. A failure is remembered.

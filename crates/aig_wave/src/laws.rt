@@ -1,5 +1,6 @@
 //! Laws: facts about the definitions alone, each the contract of a function with an empty body.
-ghost use Rattle.aig_wave.specs.Laws.{CodesAreDistinct, DumpsLoseNothing, HeadIsPlain, SameShownSameWave, WaveGrows};
+ghost use Rattle.aig_wave.specs.Laws.{CodesAreDistinct, DumpsLoseNothing, HeadIsPlain, NoLineIsLeftOut};
+ghost use Rattle.aig_wave.specs.Laws.{SameShownSameWave, WaveGrows};
 
 /// The head of a dump is plain text, whatever the names are.
 #[tactic(auto, using(crate::proofs::Plain::plain_head))]
@@ -21,6 +22,11 @@ pub fn same_shown_same_wave()
 /// The dump of a beginning of a trace text is a beginning of its dump.
 pub fn wave_grows()
     ensures { WaveGrows }
+{}
+
+/// Each line of the trace of a stimulus has its frame.
+pub fn no_line_is_left_out()
+    ensures { NoLineIsLeftOut }
 {}
 
 /// A dump loses nothing: it is the dump of one trace text at most.

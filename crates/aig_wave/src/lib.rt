@@ -1,17 +1,15 @@
 //! The waveform of a trace: a Value Change Dump, made of the lines of the trace as they come.
 //!
-//! Others call `WaveMemory`, which takes all memory; `WaveSink`, a sink for a trace text, which sends the dump of it on
-//! to a sink that nothing was sent to; and `FreshSink`, which makes one of any sink.
+//! Others call `WaveMemory`, which takes all memory, and `WaveSink`, a sink for a trace text, which sends the dump of it
+//! on to another sink.
 //!
-//! The definitions that matter most are `frames`, `wave_text`, and `wave_origin` with `fresh_origin`, by which a past
-//! tells what it stands on.
+//! The definitions that matter most are `frames`, `wave_text`, and `wave_origin`, by which a past tells what it stands on.
 #![tactic(auto)]
 
 mod bits;
 mod digit;
 mod dump_state;
 mod dump_writer;
-mod fresh;
 mod group;
 mod head;
 pub mod laws;
@@ -24,6 +22,5 @@ mod signal;
 mod signal_code;
 mod wave;
 
-pub use crate::fresh::FreshSink;
 pub use crate::room::WaveMemory;
 pub use crate::wave::WaveSink;

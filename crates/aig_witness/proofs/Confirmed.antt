@@ -1,9 +1,8 @@
 -- The first step that confirms a claim, row behind row.
-use Rattle.std.proofs.Common.{rules}
-use Rattle.std.proofs.Common.{◌≡◌, ◌<◌, ◌&&◌, ◌⊎◌, ℕ, List, [], ◌∷◌, ◌++◌, Bool, true, false}
-use Rattle.std.proofs.Common.{length, Option, Some, None, is_none, refl, sym, ap, ap₂, subst, ◌∙◌, append_assoc, arith}
-use Rattle.std.proofs.Common.{inl, inr, if◌then◌else◌}
-use Rattle.std.specs.List.{All, AllByRecursion}
+use Rattle.std.proofs.Common.{◌≡◌, ◌<◌, ◌&&◌, ◌⊎◌, ◌∷◌, ◌++◌, ◌∙◌, if◌then◌else◌, rules, ℕ, List, [], Bool, true, false}
+use Rattle.std.proofs.Common.{length, Option, Some, None, is_none, refl, sym, ap, ap₂, subst, append_assoc, arith, inl}
+use Rattle.std.proofs.Common.{inr, All}
+use Rattle.std.specs.List.{AllByRecursion}
 use Rattle.std.proofs.lemmas.List.{length_push}
 use Rattle.std.proofs.lemmas.List.Elements.{All-from_recursion, All-push, recursion_from_All}
 use Rattle.aig_meaning.specs.Meaning.{Row}

@@ -1,10 +1,6 @@
 pub mod Confirmed
 pub mod Hearing
 pub mod WitnessEnds
-pub mod WitnessRoom
-pub mod WitnessValues
 pub mod Witnessing
 pub mod WitnessTexts
 pub mod Verdicts
-pub mod WitnessFiles
-pub mod FirstWrong

@@ -1,7 +1,6 @@
 -- What comes of the bytes of a witness file.
-use Rattle.std.proofs.Common.{rules}
-use Rattle.std.proofs.Common.{◌≡◌, ◌≢◌, ◌∙◌, ◌+◌, ◌≤◌, ℕ, List, Bool, true, false, Some, Result, Ok, Err}
-use Rattle.std.proofs.Common.{length, refl, sym, ap, subst, arith}
+use Rattle.std.proofs.Common.{◌≡◌, ◌≢◌, ◌∙◌, ◌+◌, ◌≤◌, rules, ℕ, List, Bool, true, false, Some, Result, Ok, Err, length}
+use Rattle.std.proofs.Common.{refl, sym, ap, subst, arith}
 use Rattle.aig_circuit.specs.declared.circuit.Circuit.{Circuit}
 use Rattle.aig_circuit.specs.declared.circuit.TheConstants.{LARGEST}
 use Rattle.aig_meaning.specs.Meaning.{MeansTheSame}
@@ -9,16 +8,17 @@ use Rattle.aig_meaning.specs.Trace.{IsTrace}
 use Rattle.aig_meaning.proofs.Traces.{same_meaning_same_traces}
 use Rattle.aig_io.specs.declared.device.DeviceFault.{DeviceFault}
 use Rattle.aig_io.specs.Devices.{Past}
+use Rattle.aig_io.specs.Runs.{AtEnd, Broken, Ending, Open, Read, is_at_end}
 use Rattle.aig_lines.specs.Fed.{FedSource, Feeder}
 use Rattle.aig_lines.specs.Texts.{judged_lines}
 use Rattle.aig_step.specs.declared.fault.SimFault.{SimFault}
 use Rattle.aig_step.specs.declared.fault.SimFault.TheVariants as faults
 use Rattle.aig_witness.specs.declared.checker.Due.TheVariants as due
 use Rattle.aig_witness.specs.declared.verdict.Verdict.{Verdict}
-use Rattle.aig_witness.specs.Confirming.{Judged, NotJudged}
+use Rattle.aig_witness.specs.Confirming.{ConfirmSays, Judged}
 use Rattle.aig_witness.specs.Witness.{Claim, IsVerdict, IsVerdictOf, Nothing, Property, Said, SaysClaim, Shape, Steps}
-use Rattle.aig_witness.specs.Witness.{Version, Whole}
-use Rattle.aig_witness.specs.Witness.{first_bad_witness_line, missing_line, shape_of, witness_of, wrong_line}
+use Rattle.aig_witness.specs.Witness.{Version, Whole, first_bad_witness_line, missing_line, shape_of, witness_of}
+use Rattle.aig_witness.specs.Witness.{wrong_line}
 use Rattle.aig_witness.specs.Parts.Witnessing.{HasHeard, Stands, Witnessing, hear_line, hearing, longest_line}
 use Rattle.aig_witness.specs.Parts.Witnessing.{verdict_of}
 use Rattle.aig_witness.proofs.Hearing.{none_wrong, one_wrong}
@@ -46,45 +46,51 @@ module _ (c : Circuit) (few : length c.bad ≤ LARGEST) (source source_now : Pas
     came_so limit good known long is came =
         subst (λ (b : Bool). CameAt longest (Ok b)) is (subst (λ (n : ℕ). CameAt n (Ok good)) long came)
 
+    -- what an answer says of what came
+    abbrev Answers : Result Verdict SimFault → Type 0
+    Answers result = Read (ConfirmSays c result) source source_now
+
     -- a line was refused
-    pub wrong_among : CameAt longest (Ok false) → NotJudged c (faults.BadWitness f.number) source source_now
-    wrong_among (over, r) =
-        (r.bytes, over, record { past = r.past; first = one_wrong c few r.bytes over f w r.stands r.refused })
+    pub wrong_among : CameAt longest (Ok false) → Answers (Err (faults.BadWitness f.number))
+    wrong_among (true, r) = record {
+      bytes = r.bytes;
+      ending = AtEnd;
+      says = (tt, one_wrong c few r.bytes true f w r.stands r.refused);
+      came = r.past;
+    }
+    wrong_among (false, r) = record {
+      bytes = r.bytes;
+      ending = Open;
+      says = (tt, one_wrong c few r.bytes false f w r.stands r.refused);
+      came = r.past;
+    }
 
     -- the source failed
-    pub cut_off : (fault : DeviceFault) → CameAt longest (Err fault) → NotJudged c faults.ReadFailed source source_now
+    pub cut_off : (fault : DeviceFault) → CameAt longest (Err fault) → Answers (Err faults.ReadFailed)
     cut_off fault r =
         let right = none_wrong c few r.bytes false f w r.stands r.refused in
         let lines = length (judged_lines r.bytes false) in
-        (r.bytes, record { past = r.past; first = ap (wrong_line lines false) right.says })
+        record { bytes = r.bytes; ending = Broken; says = (refl, ap (wrong_line lines false) right.says); came = r.past }
 
     -- the bytes have ended where a line is due
-    pub wrong_behind : CameAt longest (Ok true) → w.due ≢ due.Nothing
-        → NotJudged c (faults.BadWitness f.number) source source_now
+    pub wrong_behind : CameAt longest (Ok true) → w.due ≢ due.Nothing → Answers (Err (faults.BadWitness f.number))
     wrong_behind r some =
         let right = none_wrong c few r.bytes true f w r.stands r.refused in
-        let lines = length (judged_lines r.bytes true) in (
-          r.bytes,
-          true,
-          record {
-            past = r.past;
-            first = ap (wrong_line lines true) right.says ∙ one_missing lines w right.said right.heard.1 some
-                ∙ ap (λ (n : ℕ). Some n) (sym right.number);
-          },
-        )
+        let lines = length (judged_lines r.bytes true) in
+        let first = ap (wrong_line lines true) right.says ∙ one_missing lines w right.said right.heard.1 some
+        ∙ ap (λ (n : ℕ). Some n) (sym right.number) in
+        record { bytes = r.bytes; ending = AtEnd; says = (tt, first); came = r.past }
 
     -- they have ended where none is
-    whole : (v : Verdict) (r : CameAt longest (Ok true)) (said : Said) → Stands w said → w.due ≡ due.Nothing
-        → w.circuit ≡ c → witness_of (shape_of c) r.bytes true ≡ Ok said
-        → v ≡ verdict_of w.search.found → Judged c v source source_now
-    whole v r Nothing stands none same says is = let other = stands.0 in cc
-    whole v r Version stands none same says is = let other = stands.0 in cc
-    whole v r (Property p) stands none same says is = let other = stands.0 in cc
-    whole v r (Steps claim) stands none same says is = let other = stands.0 in cc
-    whole v r (Whole claim) stands none same says is = record {
-      bytes = r.bytes;
+    whole : (v : Verdict) (bytes : List ℕ) (said : Said) → Stands w said → w.due ≡ due.Nothing → w.circuit ≡ c
+        → witness_of (shape_of c) bytes true ≡ Ok said → v ≡ verdict_of w.search.found → Judged c v bytes
+    whole v bytes Nothing stands none same says is = let other = stands.0 in cc
+    whole v bytes Version stands none same says is = let other = stands.0 in cc
+    whole v bytes (Property p) stands none same says is = let other = stands.0 in cc
+    whole v bytes (Steps claim) stands none same says is = let other = stands.0 in cc
+    whole v bytes (Whole claim) stands none same says is = record {
       claim = claim;
-      came = record { past = r.past; first = ap (wrong_line (length (judged_lines r.bytes true)) true) says };
+      none_bad = ap (wrong_line (length (judged_lines bytes true)) true) says;
       says = says;
       is_verdict = record {
         rows = stands.1.rows;
@@ -94,10 +100,11 @@ module _ (c : Circuit) (few : length c.bad ≤ LARGEST) (source source_now : Pas
     }
 
     pub judged : (v : Verdict) → CameAt longest (Ok true) → w.due ≡ due.Nothing → v ≡ verdict_of w.search.found
-        → Judged c v source source_now
+        → Answers (Ok v)
     judged v r none is =
         let right = none_wrong c few r.bytes true f w r.stands r.refused in
-        whole v r right.said right.heard.1 none right.heard.0 right.says is
+        let judged = whole v r.bytes right.said right.heard.1 none right.heard.0 right.says is in
+        record { bytes = r.bytes; ending = AtEnd; says = (refl, judged); came = r.past }
 
 -- circuits that mean the same, with as many bad states, have the same witness files
 module _ (c d : Circuit) (means : MeansTheSame c d) (bad : length d.bad ≡ length c.bad) where
@@ -119,14 +126,11 @@ module _ (c d : Circuit) (means : MeansTheSame c d) (bad : length d.bad ≡ leng
     is_verdict = is.is_verdict;
   }
 
-  pub judged_too : (v : Verdict) (source source_now : Past) → Judged d v source source_now
-      → Judged c v source source_now
-  judged_too v source source_now j = search (rules, same_wrong, same_shape, same_meaning_same_traces)
-
-  pub not_judged_too : (e : SimFault) (source source_now : Past) → NotJudged d e source source_now
-      → NotJudged c e source source_now
-  not_judged_too faults.OutOfMemory source source_now same = same
-  not_judged_too (faults.BadStimulus n) source source_now never = never
-  not_judged_too (faults.BadWitness n) source source_now came = search (rules, same_wrong)
-  not_judged_too faults.ReadFailed source source_now came = search (rules, same_wrong)
-  not_judged_too faults.WriteFailed source source_now never = never
+  pub confirm_says_too : (result : Result Verdict SimFault) (bytes : List ℕ) (ending : Ending)
+      → ConfirmSays d result bytes ending → ConfirmSays c result bytes ending
+  confirm_says_too (Ok v) bytes ending says = search (rules, same_wrong, same_shape, same_meaning_same_traces)
+  confirm_says_too (Err faults.OutOfMemory) bytes ending says = says
+  confirm_says_too (Err (faults.BadStimulus n)) bytes ending never = never
+  confirm_says_too (Err (faults.BadWitness n)) bytes ending says = (says.0, same_wrong bytes (is_at_end ending) ∙ says.1)
+  confirm_says_too (Err faults.ReadFailed) bytes ending says = (says.0, same_wrong bytes false ∙ says.1)
+  confirm_says_too (Err faults.WriteFailed) bytes ending never = never

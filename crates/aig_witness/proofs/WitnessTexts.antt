@@ -1,11 +1,9 @@
 -- What is read of a witness file, line by line, is what the file as a whole says.
-use Rattle.std.proofs.Common.{rules}
-use Rattle.std.proofs.Common.{◌≡◌, ◌≢◌, ◌&&◌, ◌||◌, ◌<◌, ◌++◌, ℕ, suc, List, [], ◌∷◌, Bool, true, false, length}
-use Rattle.std.proofs.Common.{Option, Some, None, Result, Ok, refl, sym, ap, ap₂, subst, ◌∙◌, append_assoc, append-nil}
-use Rattle.std.proofs.Common.{bytes_eq, codes, filter, inl, inr, map, if◌then◌else◌, nat_lt, option_map}
-use Rattle.std.specs.Bool.{Decides}
-use Rattle.std.specs.List.{AllByRecursion, AllZip, Contains}
-use Rattle.std.proofs.lemmas.Bool.{lt-ltb}
+use Rattle.std.proofs.Common.{◌≡◌, ◌≢◌, ◌&&◌, ◌||◌, ◌<◌, ◌++◌, ◌∷◌, ◌∙◌, if◌then◌else◌, rules, ℕ, suc, List, [], Bool}
+use Rattle.std.proofs.Common.{true, false, length, Option, Some, None, Result, Ok, refl, sym, ap, ap₂, subst}
+use Rattle.std.proofs.Common.{append_assoc, append-nil, bytes_eq, codes, filter, inl, inr, map, nat_lt, option_map}
+use Rattle.std.proofs.Common.{Decides, Contains, lt-ltb}
+use Rattle.std.specs.List.{AllByRecursion, AllZip}
 use Rattle.std.proofs.lemmas.List.{map-append}
 use Rattle.std.proofs.lemmas.List.Elements.{All-contains, All-from_recursion, Contains-push}
 use Rattle.std.proofs.lemmas.Slice.Eq.{bytes_eq-Decides}
@@ -14,7 +12,7 @@ use Rattle.aig_circuit.specs.declared.circuit.Reset.{Reset}
 use Rattle.aig_circuit.specs.declared.circuit.Reset.TheVariants as resets
 use Rattle.aig_circuit.specs.declared.value.Val.{Val}
 use Rattle.aig_meaning.specs.Trace.{IsFirstState, MayStartAt}
-use Rattle.aig_rows.specs.Lines.{Line, lines_of}
+use Rattle.aig_lines.specs.Lines.{Line, lines_of}
 use Rattle.aig_rows.specs.Spelling.{value_of as number_of}
 use Rattle.aig_witness.specs.Laws.{WitnessFilesAreRead}
 use Rattle.aig_step.specs.Stimulus.{Entry, Step, Stop, entry_in, judged_lines, text_of, values_of}
@@ -27,8 +25,7 @@ use Rattle.aig_witness.specs.WitnessText.{IsWitnessFile}
 use Rattle.aig_witness.specs.WrongLine.{IsRightBehind, NamesBadState}
 use Rattle.aig_step.proofs.LineValues.{says_values, values_back}
 use Rattle.aig_step.proofs.StimulusTexts.{IsEntryText, entry_read, says_step}
-use Rattle.aig_witness.proofs.Witnessing.{may_start}
-use Rattle.aig_witness.proofs.WitnessValues.{number_read}
+use Rattle.aig_witness.proofs.Witnessing.{may_start, number_read}
 
 -- what texts of lines say
 unfoldable pub said_texts : Shape → ℕ → Said → List (List ℕ) → Result Said ℕ

@@ -1,29 +1,26 @@
--- What came of judging a witness file, by the past of its source before it and after it (this project's profile).
-use Rattle.std.specs.Prelude.{◌≡◌, ℕ, List, Bool, true, false, None, Some}
-use Rattle.aig_io.specs.Devices.{Past, failed_once}
+-- What the answer of judging a witness file says (this project's profile).
+use Rattle.std.specs.Prelude.{◌≡◌, List, ℕ, [], true, false, None, Some, Result, Ok, Err}
+use Rattle.aig_io.specs.Runs.{AtEnd, Broken, Ending, IsUnbroken, Open, is_at_end}
 use Rattle.aig_circuit.specs.declared.circuit.Circuit.{Circuit}
 use Rattle.aig_step.specs.declared.fault.SimFault.{SimFault}
 use Rattle.aig_step.specs.declared.fault.SimFault.TheVariants as faults
 use Rattle.aig_witness.specs.declared.verdict.Verdict.{Verdict}
-use Rattle.aig_step.specs.Outcome.{Came}
 use Rattle.aig_witness.specs.Witness.{Claim, IsVerdict, SaysClaim, first_bad_witness_line}
 
--- The whole file came, no line of it is wrong, and this is the verdict on what it claims.
-pub record Judged (c : Circuit) (verdict : Verdict) (source source_now : Past) : Type 0 where
-  pub bytes : List ℕ
+-- no line of the file is wrong, and this is the verdict on what it claims
+pub record Judged (c : Circuit) (verdict : Verdict) (bytes : List ℕ) : Type 0 where
   pub claim : Claim
-  pub came : Came (first_bad_witness_line c) bytes true None source source_now
+  pub none_bad : first_bad_witness_line c bytes true ≡ None
   pub says : SaysClaim c bytes claim
   pub is_verdict : IsVerdict c claim verdict
 
--- What an error says where a witness file is judged: memory was refused, and the source was not called; this line of
--- what came is the first wrong one; or the source failed, and no whole line that came is wrong.
-abbrev pub NotJudged : Circuit → SimFault → (source source_now : Past) → Type 0
-NotJudged c faults.OutOfMemory source source_now = source_now ≡ source
-NotJudged c (faults.BadStimulus number) source source_now = ⊥
-NotJudged c (faults.BadWitness number) source source_now =
-    (bytes : List ℕ) × (ended : Bool)
-    × Came (first_bad_witness_line c) bytes ended (Some number) source source_now
-NotJudged c faults.ReadFailed source source_now =
-    (bytes : List ℕ) × Came (first_bad_witness_line c) bytes false None (failed_once source) source_now
-NotJudged c faults.WriteFailed source source_now = ⊥
+-- All came and was judged. Or memory was refused before the source was called; the line of this number is the first
+-- wrong one of what came; or the source failed, and no whole line that came is wrong.
+abbrev pub ConfirmSays : Circuit → Result Verdict SimFault → List ℕ → Ending → Type 0
+ConfirmSays c (Ok verdict) bytes ending = (ending ≡ AtEnd) × Judged c verdict bytes
+ConfirmSays c (Err faults.OutOfMemory) bytes ending = (bytes ≡ []) × (ending ≡ Open)
+ConfirmSays c (Err (faults.BadStimulus number)) bytes ending = ⊥
+ConfirmSays c (Err (faults.BadWitness number)) bytes ending =
+    IsUnbroken ending × (first_bad_witness_line c bytes (is_at_end ending) ≡ Some number)
+ConfirmSays c (Err faults.ReadFailed) bytes ending = (ending ≡ Broken) × (first_bad_witness_line c bytes false ≡ None)
+ConfirmSays c (Err faults.WriteFailed) bytes ending = ⊥

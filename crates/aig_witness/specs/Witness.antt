@@ -15,7 +15,7 @@ use Rattle.aig_circuit.specs.declared.value.Val.TheVariants.{Zero, One, X}
 use Rattle.aig_meaning.specs.Meaning.{Row}
 use Rattle.aig_meaning.specs.Trace.{IsTrace}
 use Rattle.aig_rows.specs.CanonicalNumber.{is_padded}
-use Rattle.aig_rows.specs.Lines.{Line}
+use Rattle.aig_lines.specs.Lines.{Line}
 use Rattle.aig_rows.specs.Spelling.{is_digit, value_of as number_of}
 use Rattle.aig_witness.specs.declared.verdict.Verdict.{Verdict}
 use Rattle.aig_witness.specs.declared.verdict.Verdict.TheVariants.{Confirmed, NotConfirmed}

@@ -4,7 +4,7 @@ use Rattle.std.specs.List.{AllByRecursion}
 use Rattle.aig_circuit.specs.declared.circuit.Circuit.{Circuit}
 use Rattle.aig_circuit.specs.declared.value.Val.{Val}
 use Rattle.aig_meaning.specs.Trace.{IsFirstState}
-use Rattle.aig_rows.specs.Lines.{lines_of}
+use Rattle.aig_lines.specs.Lines.{lines_of}
 use Rattle.aig_rows.specs.Spelling.{value_of as number_of}
 use Rattle.aig_step.specs.Stimulus.{text_of}
 use Rattle.aig_step.specs.TraceText.{values_text}

@@ -7,7 +7,7 @@ pub fn witness_files_are_read()
 {}
 
 /// The line of a witness file that is found to be the first wrong one, or missing, is what the texts of its lines say.
-#[tactic(auto, using(crate::proofs::FirstWrong::first_wrong_lines_are_found))]
+#[tactic(auto, using(crate::proofs::Verdicts::first_wrong_lines_are_found))]
 pub fn first_wrong_lines_are_found()
     ensures { FirstWrongLinesAreFound }
 {}
@@ -19,7 +19,7 @@ pub fn one_verdict()
 {}
 
 /// Each claim that can be made of a well-formed circuit, by a trace of it, is said by some witness file.
-#[tactic(auto, using(crate::proofs::WitnessFiles::claims_have_files))]
+#[tactic(auto, using(crate::proofs::Verdicts::claims_have_files))]
 pub fn claims_have_files()
     ensures { ClaimsHaveFiles }
 {}

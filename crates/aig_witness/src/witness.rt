@@ -1,9 +1,10 @@
 //! A witness file, judged for a circuit.
-ghost use Rattle.std.specs.Prelude.{◌≡◌, ◌≤◌, IfErr, IfOk, length};
+ghost use Rattle.std.specs.Prelude.{◌≡◌, ◌≤◌, length};
 ghost use Rattle.aig_circuit.specs.declared.circuit.TheConstants.{LARGEST};
 ghost use Rattle.aig_io.specs.Devices.{CanFail};
+ghost use Rattle.aig_io.specs.Runs.{Read};
 ghost use Rattle.aig_lines.specs.Fed.{IsUnfed};
-ghost use Rattle.aig_witness.specs.Confirming.{Judged, NotJudged};
+ghost use Rattle.aig_witness.specs.Confirming.{ConfirmSays};
 ghost use Rattle.aig_witness.specs.Witness.{Nothing, shape_of};
 ghost use Rattle.aig_witness.specs.Parts.Witnessing.{Stands, longest_line};
 
@@ -26,9 +27,7 @@ fn judge_all<R: Source>(
     requires begun { Stands checker.old Nothing }
     requires few { length checker.old.circuit.bad ≤ LARGEST }
     requires source { CanFail (R.past source.old) }
-    ensures ok { IfOk result (λ verdict.
-        Judged checker.old.circuit verdict (R.past source.old) (R.past source.new)) }
-    ensures err { IfErr result (λ e. NotJudged checker.old.circuit e (R.past source.old) (R.past source.new)) }
+    ensures { Read (ConfirmSays checker.old.circuit result) (R.past source.old) (R.past source.new) }
 {
     let Ok(good) = feed_source(feeder, checker, source) else {
         return Err(SimFault::ReadFailed);
@@ -49,8 +48,7 @@ pub fn confirm<R: Source>(
     source: &mut R,
 ) -> Result<Verdict, SimFault>
     requires { CanFail (R.past source.old) }
-    ensures ok { IfOk result (λ verdict. Judged checked.now verdict (R.past source.old) (R.past source.new)) }
-    ensures err { IfErr result (λ error. NotJudged checked.now error (R.past source.old) (R.past source.new)) }
+    ensures read { Read (ConfirmSays checked.now result) (R.past source.old) (R.past source.new) }
 {
     let mut checker = Checker::new(alloc, checked)?;
     let Ok(mut feeder) = LineFeeder::new(alloc, checker.longest_line()) else {

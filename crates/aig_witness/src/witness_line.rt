@@ -29,7 +29,7 @@ fn is_padded(text: &[u8]) -> bool
 }
 
 /// The number that digits spell, if there are but digits and it is below the bound.
-#[tactic(auto, using(crate::proofs::WitnessRoom::digits_high, crate::proofs::WitnessRoom::spelled_front))]
+#[tactic(auto, using(crate::proofs::Hearing::digits_high, crate::proofs::Hearing::spelled_front))]
 fn digits_below(text: &[u8], bound: usize) -> Option<usize>
     requires { bound ≤ LARGEST }
     ensures { result ≡ digits_below bound text.now }

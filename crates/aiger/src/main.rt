@@ -17,8 +17,8 @@ use std::process::ExitCode;
 use std::rt::Env;
 use std::{env, io};
 
-/// The environment of a program without a name. The name that the program is called by is a path, which may be no
-/// text, and nothing looks at it.
+/// The environment of a program without a name. The name that the program is called by is a path,
+/// which may be no text, and nothing looks at it.
 #[derive(Drop)]
 struct Nameless<'a, R> {
     rt: &'a R,
@@ -41,8 +41,7 @@ impl<R: Env> Env for Nameless<'_, R> {
     }
 }
 
-/// An empty name, and the arguments after the program's. They are pushed one by one, so that it ends when an allocation
-/// fails.
+/// The words are pushed one by one, so that it ends when an allocation fails.
 fn words_of<R: Env>(rt: &R, alloc: Global) -> io::Result<Vec<String>> {
     let mut words = Vec::new(alloc);
     for word in env::args(&(Nameless { rt }, alloc))? {

@@ -1,20 +1,19 @@
-//! The calls of `aig_library` for programs in C, and in languages that call C. `include/aigtools.h` declares and documents
-//! them.
+//! The calls of `aig_library` for programs in C, and in languages that call C. `include/aigtools.h` declares and
+//! documents them.
 #![tactic(auto)]
 
-ghost use Rattle.std.specs.Prelude.{◌≡◌, ◌⊎◌};
+ghost use Rattle.std.specs.Prelude.{◌≡◌, ◌≤◌};
+ghost use Rattle.aig_command.specs.declared.builder.TheConstants.{VERSION};
 ghost use Rattle.aig_engines.specs.Conversion.{IsConversionRefused, IsConversionText};
 ghost use Rattle.aig_engines.specs.Simulation.{IsWrittenText};
 ghost use Rattle.aig_engines.specs.Unrolling.{IsUnrollingRefused, IsUnrollingText};
 ghost use Rattle.aig_library.specs.Answers.{Answers, DumpAnswers, IsSimulationRefused, WitnessAnswers};
 ghost use Rattle.aig_library.specs.Asked.{CanConvert, CanSimulate, CanUnroll, conversion, simulation, unrolling};
 ghost use Rattle.aig_library.specs.Message.{IsWritten, message_text};
+ghost use Rattle.aigtools_c.specs.Version.{version_text};
 
 use aig_library::{Outcome, convert, dump_witness, message, simulate, unroll, witness};
 use std::alloc::Global;
-
-/// The version in three bytes: 1.1.0 is 0x010100.
-const VERSION: u32 = 0x01_01_00;
 
 /// Converts the bytes of an AIGER file.
 #[unsafe(no_mangle)]
@@ -110,17 +109,18 @@ pub extern "C" fn aigtools_dump(
 
 /// Puts the words for an outcome into the output, and answers how many bytes they have.
 #[unsafe(no_mangle)]
-pub extern "C" fn aigtools_message(alloc: Global, outcome: &Outcome, output: &mut [u8]) -> usize
-    ensures { IsWritten (message_text outcome.now) output.old output.new result
-        ⊎ ((result ≡ 0) × (output.new ≡ output.old)) }
+pub extern "C" fn aigtools_message(outcome: &Outcome, output: &mut [u8]) -> usize
+    ensures written { IsWritten (message_text outcome.now) output.old output.new result }
+    ensures short { result ≤ 80 }
 {
-    message(alloc, outcome, output)
+    message(outcome, output)
 }
 
-/// The version of the library.
+/// The version of the library, which is that of the program, in three bytes.
+#[tactic(auto, using(std::proofs::lemmas::Fmt::decimal_digit))]
 #[unsafe(no_mangle)]
 pub extern "C" fn aigtools_version() -> u32
-    ensures { result ≡ VERSION }
+    ensures { version_text result ≡ VERSION.now }
 {
-    VERSION
+    0x01_01_00
 }

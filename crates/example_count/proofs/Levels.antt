@@ -1,10 +1,9 @@
 -- The levels of variables, while gates are taken behind those that they use.
-use Rattle.std.proofs.Common.{◌≡◌, ◌≢◌, ◌<◌, ◌≤◌, ◌+◌, ◌⊎◌, ℕ, suc, List, [], ◌∷◌, ◌++◌, Option, None, Some, Bool}
+use Rattle.std.proofs.Common.{◌≡◌, ◌≢◌, ◌<◌, ◌≤◌, ◌+◌, ◌⊎◌, ◌∷◌, ◌++◌, ◌∙◌, ℕ, suc, List, [], Option, None, Some, Bool}
 use Rattle.std.proofs.Common.{length, map, max, unwrap_or, get_or, drop, drop-cons, eqb, true, false, true≢false, cond}
-use Rattle.std.proofs.Common.{refl, sym, ap, ap₂, subst, ◌∙◌, add-one, inl, inr, ⊎_elim, arith}
-use Rattle.std.specs.List.{AllByRecursion, Contains}
+use Rattle.std.proofs.Common.{refl, sym, ap, ap₂, subst, add-one, inl, inr, ⊎_elim, arith, Contains, nat_cmp}
+use Rattle.std.specs.List.{AllByRecursion}
 use Rattle.std.specs.Option.{option_or}
-use Rattle.std.specs.Ordering.{nat_cmp}
 use Rattle.std.specs.FinMap.{FinMap, get, empty, get-empty}
 use Rattle.std.proofs.lemmas.Bool.{cases_lt}
 use Rattle.std.proofs.lemmas.Bool.Decides.{Decides-eqb}
@@ -15,13 +14,13 @@ use Rattle.aig_circuit.specs.declared.circuit.Circuit.{Circuit}
 use Rattle.aig_circuit.specs.declared.circuit.Latch.{Latch}
 use Rattle.aig_circuit.specs.Literal.{variable_of}
 use Rattle.aig_circuit.specs.Wellformed.{IsAmong, IsWellFormed, AreDistinct, operands}
-use Rattle.aig_circuit.proofs.Checking.Fitting.{each}
+use Rattle.aig_circuit.proofs.Checking.{each}
 use Rattle.aig_tables.specs.VarMap.{with_new}
 use Rattle.aig_tables.proofs.Tables.Maps.{get-with_new}
 use Rattle.aig_topo.specs.Order.{IsLeastReadyOrder, TakesLeast, gate_of, gate_operands}
-use Rattle.aig_topo.proofs.Ordering.Ranked.{at, no_gate, variables, gate_here, needed_by}
-use Rattle.aig_topo.proofs.Ordering.Ranked.{distinct_back, rank_exactly_where_all_are_ordered}
-use Rattle.aig_topo.proofs.Ordering.TakenLeast.{no_longer}
+use Rattle.aig_topo.proofs.Ordering.Ranked.{at, no_gate, variables, gate_here, needed_by, distinct_back}
+use Rattle.aig_topo.proofs.Ordering.Ranked.{rank_exactly_where_all_are_ordered}
+use Rattle.aig_topo.proofs.Ordering.LeastReady.{no_longer}
 use Rattle.example_count.specs.Depth.{IsDepth, IsPath}
 
 -- the longest path from a variable has so many gates

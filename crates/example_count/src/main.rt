@@ -1,5 +1,5 @@
-//! Counts what the AIGER file on standard input holds, ASCII or binary: its inputs, latches and so on. Prints its depth
-//! too, which is how many gates stand on the longest path.
+//! Counts what the AIGER file on standard input holds, ASCII or binary: its inputs, latches and so
+//! on. Prints its depth too, which is how many gates stand on the longest path.
 #![tactic(auto)]
 
 ghost use Rattle.std.specs.Prelude.{◌≡◌, IfOk, unwrap_or};
@@ -13,14 +13,15 @@ use aig_core::{Circuit, Lit, OutOfMemory, ReadSource, VarMap, gate_order, read_a
 use std::alloc::Global;
 use std::io;
 
-/// How many gates stand on the longest path from the variable of a literal: none from an input or a latch.
+/// How many gates the longest path from a literal's variable has: none from an input or a latch.
 fn level_of(levels: &VarMap<u32>, literal: Lit) -> u32
     ensures { result ≡ unwrap_or (get levels.now (variable_of literal)) 0 }
 {
     levels.get(literal.var()).unwrap_or(0)
 }
 
-/// How many gates stand on the longest path of a circuit, each but the first an operand of the one before it.
+/// How many gates stand on the longest path of a circuit, each but the first an operand of the one
+/// before it.
 fn depth(alloc: Global, circuit: &Circuit) -> Result<u32, OutOfMemory>
     requires { IsWellFormed circuit.now }
     ensures { IfOk result (IsDepth circuit.now) }
@@ -40,7 +41,6 @@ fn depth(alloc: Global, circuit: &Circuit) -> Result<u32, OutOfMemory>
     Ok(depth)
 }
 
-/// Prints how many of each kind a circuit has.
 fn print_counts(rt: &impl Print, circuit: &Circuit) -> io::Result<()> {
     let counts = [
         ("inputs", circuit.inputs.len()),
@@ -73,6 +73,6 @@ fn main(rt: HostRuntime) -> anyhow::Result<()> {
     let bytes = read_all(alloc, &mut ReadSource::new(rt.stdin()))?;
     let checked = read_file(alloc, bytes.as_slice(), Limits::default())?;
     let printed = print_circuit(&rt, alloc, checked.circuit());
-    drop(checked);
+    drop(checked); // for the proof
     printed
 }

@@ -1,4 +1,5 @@
-//! Steps a lamp with a switch, and prints the row of each step as `aigsim` does: state, inputs, outputs and next state.
+//! Steps a lamp with a switch, and prints the row of each step as `aigsim` does: state, inputs,
+//! outputs and next state.
 #![tactic(auto)]
 
 ghost use Rattle.std.specs.Prelude.{◌≡◌, ◌++◌, string_bytes, IfOk, IfSome, OnOk};
@@ -11,7 +12,7 @@ use aig_core::{Checked, Circuit, Kind, Val};
 use aig_step::Simulator;
 use std::alloc::{AllocError, Global};
 
-/// The lamp, as an ASCII file. It is on in the next step where either it is on now or its switch is pressed.
+/// The lamp, as an ASCII file. It is on in the next step if it is on now or its switch is pressed.
 const LAMP: &[u8] = b"aag 5 1 1 1 3\n2\n4 11\n4\n6 4 3\n8 5 2\n10 7 9\ni0 switch\no0 lamp\n";
 
 /// What is given in each step: one value for each input, but for the third.
@@ -23,7 +24,6 @@ const GIVEN: [&[Val]; 5] = [
     &[Val::One],
 ];
 
-/// The character of a value.
 fn character_of(value: Val) -> char
     ensures { result ≡ character_of value }
 {
@@ -45,11 +45,12 @@ fn push_column(line: &mut String, values: &[Val], end: &str) -> Result<(), Alloc
     line.push_str(end)
 }
 
-/// Takes a step with these values, and gives its row as a line. Of another number of values than the circuit has inputs
-/// it takes none.
+/// Takes a step with these values, and gives its row as a line. Of another number of values than
+/// the circuit has inputs it takes none.
 fn step(alloc: Global, simulator: &mut Simulator, given: &[Val]) -> anyhow::Result<String>
     ensures stepped { OnOk result (Stepped simulator.old simulator.new given.now) }
-    ensures line { IfOk result (λ line. IfSome simulator.new.row (λ row. string_bytes line ≡ row_text Plain row)) }
+    ensures line { IfOk result (λ line. IfSome simulator.new.row
+        (λ row. string_bytes line ≡ row_text Plain row)) }
 {
     simulator.try_step(given)?;
     let mut line = String::new(alloc);
@@ -87,7 +88,7 @@ fn run(rt: &impl Print, alloc: Global, checked: &Checked) -> anyhow::Result<()> 
     println!(rt; "state, {input}, {output}, next state")?;
     let mut simulator = Simulator::new(alloc, checked)?;
     let printed = print_steps(rt, alloc, &mut simulator);
-    drop(simulator);
+    drop(simulator); // for the proof
     printed
 }
 
@@ -95,6 +96,6 @@ fn main(rt: HostRuntime) -> anyhow::Result<()> {
     let alloc = rt.alloc();
     let checked = read_file(alloc, LAMP, Limits::default())?;
     let ran = run(&rt, alloc, &checked);
-    drop(checked);
+    drop(checked); // for the proof
     ran
 }

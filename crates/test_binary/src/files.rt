@@ -57,7 +57,6 @@ j1 z
 f0 f
 ";
 
-/// The circuit of a text, in binary order.
 fn ordered_of(alloc: Global, text: &str) -> Result<Ordered, Fail> {
     let checked = read_binary(alloc, text.as_bytes(), Limits::default())?;
     Ok(
@@ -84,13 +83,14 @@ fn binary_texts_come_back(rt: HostRuntime) -> Result<(), Fail> {
     for text in TEXTS.split('#') {
         let ordered = ordered_of(rt.alloc(), text)?;
         let comes = comes_back(rt.alloc(), &ordered, text);
-        drop(ordered);
+        drop(ordered); // for the proof
         assert!(rt; comes?, "{text}");
     }
     Ok(())
 }
 
-/// Whether writing fails at the call of the sink behind so many of three bytes, which took a beginning of the text.
+/// Whether writing fails at the call of the sink behind so many of three bytes, which took a
+/// beginning of the text.
 fn fails_behind(alloc: Global, ordered: &Ordered, text: &str, calls: u8) -> Result<bool, Fail> {
     let mut sink = MemorySink::new(alloc, 200, 3, u64::from(calls) + 1)?;
     let failed = write_binary(ordered, &mut sink).is_err();
@@ -98,7 +98,6 @@ fn fails_behind(alloc: Global, ordered: &Ordered, text: &str, calls: u8) -> Resu
     Ok(failed && text.as_bytes().starts_with(taken) && taken.len() == 3 * usize::from(calls))
 }
 
-/// Whether it fails so at each of the first calls.
 fn fails_at_each(alloc: Global, ordered: &Ordered, text: &str) -> Result<bool, Fail> {
     for calls in 0..5 {
         if !fails_behind(alloc, ordered, text, calls)? {
@@ -113,7 +112,7 @@ fn failed_sends_of_binary_texts(rt: HostRuntime) -> Result<(), Fail> {
     for text in TEXTS.split('#') {
         let ordered = ordered_of(rt.alloc(), text)?;
         let fails = fails_at_each(rt.alloc(), &ordered, text);
-        drop(ordered);
+        drop(ordered); // for the proof
         assert!(rt; fails?, "{text}");
     }
     Ok(())

@@ -1,4 +1,5 @@
-//! Large circuits that are converted, undone and unrolled. What comes is in the contracts; that memory suffices is not.
+//! Large circuits that are converted, undone and unrolled. What comes is in the contracts; that
+//! memory suffices is not.
 use aig_core::Checked;
 use aig_order::{to_binary, to_binary_with_map, undo};
 use aig_text::{Limits, read_ascii};
@@ -22,19 +23,17 @@ fn chain_text(alloc: Global) -> Result<String, AllocError> {
     Ok(text)
 }
 
-/// A circuit of these gates.
 fn chain(alloc: Global) -> Result<Checked, Fail> {
     let text = chain_text(alloc)?;
     let read = read_ascii(alloc, text.as_str().as_bytes(), Limits::default());
-    drop(text);
+    drop(text); // for the proof
     Ok(read?)
 }
 
-/// Whether a circuit comes back by its map.
 fn comes_back(alloc: Global, checked: &Checked) -> Result<bool, Fail> {
     let image = to_binary_with_map(alloc, checked)?;
     let undone = undo(alloc, image.as_checked()).is_ok();
-    drop(image);
+    drop(image); // for the proof
     Ok(undone)
 }
 
@@ -43,7 +42,7 @@ fn many_gates_are_put_in_order(rt: HostRuntime) -> Result<(), Fail> {
     let checked = chain(rt.alloc())?;
     let has_image = to_binary(rt.alloc(), &checked).is_ok();
     let comes_back = comes_back(rt.alloc(), &checked);
-    drop(checked);
+    drop(checked); // for the proof
     assert!(rt; comes_back? && has_image);
     Ok(())
 }
@@ -53,7 +52,7 @@ fn many_frames_are_unrolled(rt: HostRuntime) -> Result<(), Fail> {
     let text = b"aag 3 1 1 1 1 1\n2\n4 6 1\n6\n7\n6 4 2\n";
     let checked = read_ascii(rt.alloc(), text, Limits::default())?;
     let is_unrolled = unroll(rt.alloc(), &checked, FRAMES).is_ok();
-    drop(checked);
+    drop(checked); // for the proof
     assert!(rt; is_unrolled);
     Ok(())
 }
@@ -62,7 +61,7 @@ fn many_frames_are_unrolled(rt: HostRuntime) -> Result<(), Fail> {
 fn many_gates_are_unrolled(rt: HostRuntime) -> Result<(), Fail> {
     let checked = chain(rt.alloc())?;
     let is_unrolled = unroll(rt.alloc(), &checked, 2).is_ok();
-    drop(checked);
+    drop(checked); // for the proof
     assert!(rt; is_unrolled);
     Ok(())
 }

@@ -26,7 +26,7 @@ fn circuits_are_unrolled(rt: HostRuntime) -> Result<(), Fail> {
     for text in TEXTS.split('#') {
         let checked = read_ascii(rt.alloc(), text.as_bytes(), Limits::default())?;
         let is_unrolled = unroll(rt.alloc(), &checked, 2).is_ok();
-        drop(checked);
+        drop(checked); // for the proof
         assert!(rt; is_unrolled, "{text}");
     }
     Ok(())

@@ -34,7 +34,6 @@ const NAMED: &str = "\
 i0 new,l0 new,o0 new,b0 new,c0 new,j0 new,f0 new,\
 i0 old,l0 old,o0 old,b0 old,c0 old,j0 old,f0 old,i9 new,i9 old";
 
-/// One thing of each kind that may have a name.
 const ONE_OF_EACH: NamedCounts = NamedCounts {
     inputs: 1,
     latches: 1,
@@ -45,7 +44,6 @@ const ONE_OF_EACH: NamedCounts = NamedCounts {
     fairness: 1,
 };
 
-/// The circuit of a text.
 pub(crate) fn circuit_of(alloc: Global, text: &str) -> Result<Circuit, Fail> {
     Ok(read_ascii(alloc, text.as_bytes(), Limits::default())?.into_circuit())
 }
@@ -66,7 +64,7 @@ fn literals(rt: HostRuntime) -> Result<(), Fail> {
         let (numbers, answer) = row.rsplit_once(' ').unwrap_or((row, ""));
         let numbers = numbers_of(rt.alloc(), numbers)?;
         let is_literal = is_literal(numbers.as_slice(), answer == "yes");
-        drop(numbers);
+        drop(numbers); // for the proof
         assert!(rt; is_literal, "{row}");
     }
     Ok(())
@@ -103,7 +101,6 @@ fn symbols_are_copied(rt: HostRuntime) -> Result<(), Fail> {
     Ok(())
 }
 
-/// Whether what is named in turn is told as new where its symbol says so.
 fn tells_what_is_new(names: &mut Names, symbols: &Symbols) -> Result<bool, Fail> {
     for symbol in symbols.iter() {
         let is_new = names.insert(symbol.kind, symbol.position)?;
@@ -118,7 +115,7 @@ fn tells_what_is_new(names: &mut Names, symbols: &Symbols) -> Result<bool, Fail>
 fn names_tell_what_is_new(alloc: Global, symbols: &Symbols) -> Result<bool, Fail> {
     let mut names = Names::new(alloc, ONE_OF_EACH)?;
     let tells = tells_what_is_new(&mut names, symbols);
-    drop(names);
+    drop(names); // for the proof
     tells
 }
 
@@ -126,7 +123,7 @@ fn names_tell_what_is_new(alloc: Global, symbols: &Symbols) -> Result<bool, Fail
 fn names(rt: HostRuntime) -> Result<(), Fail> {
     let symbols = symbols_of(rt.alloc(), NAMED)?;
     let tell = names_tell_what_is_new(rt.alloc(), &symbols);
-    drop(symbols);
+    drop(symbols); // for the proof
     assert!(rt; tell?);
     Ok(())
 }
@@ -137,14 +134,14 @@ fn devices_in_memory(rt: HostRuntime) -> Result<(), Fail> {
     let mut source = MemorySource::new(Vec::from_slice(rt.alloc(), b"abcdefghij")?, 4, 2);
     let failed = read_all(rt.alloc(), &mut source).is_err();
     let rest = read_all(rt.alloc(), &mut source);
-    drop(source);
+    drop(source); // for the proof
     assert!(rt; failed && rest.is_ok_and(|rest| rest.as_slice() == b"efghij".as_slice()));
     let mut sink = MemorySink::new(rt.alloc(), 100, 4, 2)?;
     let mut output = Output::new(&mut sink);
     output.put(b"efghij");
     let (sent, _sink) = output.finish();
     let took = sink.bytes() == b"efgh".as_slice() && sink.longest() == 6;
-    drop(sink);
+    drop(sink); // for the proof
     assert!(rt; sent.is_err() && took);
     Ok(())
 }

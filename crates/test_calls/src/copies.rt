@@ -6,10 +6,11 @@ use aig_text::{Limits, read_ascii, write_ascii};
 use std::alloc::Global;
 use std::test::Fail;
 
-/// A half adder, then others that differ from it in the comment alone, in the order of two symbols, in a name, in the
-/// order of a gate's operands, in the order of two gates, and in having no comment; with a `#` between them. Then a latch
-/// with properties, and others that differ from it in the reset, in a bad state, in a constraint, in the sizes of the justice
-/// properties, in the order of their literals, and in a fairness constraint.
+/// A half adder, then others that differ from it in the comment alone, in the order of two symbols,
+/// in a name, in the order of a gate's operands, in the order of two gates, and in having no
+/// comment; with a `#` between them. Then a latch with properties, and others that differ from it
+/// in the reset, in a bad state, in a constraint, in the sizes of the justice properties, in the
+/// order of their literals, and in a fairness constraint.
 const CIRCUITS: &str = "\
 aag 7 2 0 2 3\n2\n4\n6\n12\n6 13 15\n12 2 4\n14 3 5\ni0 x\ni1 y\no0 s\no1 c\nc\nhalf adder\n#\
 aag 7 2 0 2 3\n2\n4\n6\n12\n6 13 15\n12 2 4\n14 3 5\ni0 x\ni1 y\no0 s\no1 c\nc\nhalf adder#\
@@ -36,19 +37,16 @@ pub(crate) fn same_as_copy(alloc: Global, first: &Checked, second: &Checked) -> 
     Ok(same(first, &copy))
 }
 
-/// Whether a copy of a text's circuit is the same as this one.
 fn same_as_copy_of(alloc: Global, first: &Checked, text: &str) -> Result<bool, Fail> {
     let second = read_ascii(alloc, text.as_bytes(), Limits::default())?;
     same_as_copy(alloc, first, &second)
 }
 
-/// Whether a text has this circuit.
 fn is_circuit_of(alloc: Global, circuit: &Circuit, text: &str) -> Result<bool, Fail> {
     let read = circuit_of(alloc, text)?;
     Ok(read == *circuit)
 }
 
-/// Whether a circuit is the same as its copy.
 fn same_as_own_copy(circuit: &Circuit) -> Result<bool, Fail> {
     let copy = circuit.clone()?;
     Ok(copy == *circuit)
@@ -64,30 +62,26 @@ fn told_wrongly(alloc: Global, first: &Checked, text: &str) -> Result<Option<usi
     Ok(None)
 }
 
-/// Puts in symbols and a comment by hand.
 fn name_by_hand(alloc: Global, circuit: &mut Circuit) -> Result<(), Fail> {
     circuit.symbols = symbols_of(alloc, "o1 a b\r,l0 ,i0 c")?;
     circuit.comment = Some(Listing::from_vec(Vec::from_slice(alloc, b"made by hand\n\n")?));
     Ok(())
 }
 
-/// A circuit that is in form and well formed, as checked.
 pub(crate) fn checked_of(alloc: Global, circuit: Circuit) -> Result<Checked, Fail> {
     if !circuit.in_form() {
-        drop(circuit);
+        drop(circuit); // for the proof
         return Err("it is in form")?;
     }
     Ok(check(alloc, circuit).ok().ok_or("it is well formed")?)
 }
 
-/// A circuit whose symbols and comment are put in by hand.
 fn made_by_hand(alloc: Global) -> Result<Checked, Fail> {
     let mut circuit = circuit_of(alloc, "aag 7 1 1 2 0\n2\n4 3\n5\n0\n")?;
     name_by_hand(alloc, &mut circuit)?;
     checked_of(alloc, circuit)
 }
 
-/// Whether a circuit is written as this text.
 fn is_written_as(alloc: Global, checked: &Checked, text: &str) -> Result<bool, Fail> {
     let mut sink = MemorySink::new(alloc, 100, 7, 0)?;
     write_ascii(checked, &mut sink)?;
@@ -101,7 +95,7 @@ fn circuits_are_copied(rt: HostRuntime) -> Result<(), Fail> {
         "aag 2 1 1 1 0 1 1 1 1\n2\n4 3 4\n5\n2\n3\n1\n4\n5\no0 b\ni0 a\nc\nx",
     )?;
     let same = same_as_own_copy(&circuit);
-    drop(circuit);
+    drop(circuit); // for the proof
     assert!(rt; same?);
     Ok(())
 }
@@ -112,7 +106,7 @@ fn copies_and_others(rt: HostRuntime) -> Result<(), Fail> {
     for text in CIRCUITS.split('#') {
         let first = read_ascii(rt.alloc(), text.as_bytes(), Limits::default())?;
         let wrong = told_wrongly(rt.alloc(), &first, text);
-        drop(first);
+        drop(first); // for the proof
         let wrong = wrong?;
         assert!(rt; wrong.is_none(), "{text}{wrong:?}");
     }
@@ -123,7 +117,7 @@ fn copies_and_others(rt: HostRuntime) -> Result<(), Fail> {
 fn symbols_and_comments_are_written(rt: HostRuntime) -> Result<(), Fail> {
     let checked = made_by_hand(rt.alloc())?;
     let is_written = is_written_as(rt.alloc(), &checked, BY_HAND);
-    drop(checked);
+    drop(checked); // for the proof
     assert!(rt; is_written?);
     Ok(())
 }
@@ -132,7 +126,7 @@ fn symbols_and_comments_are_written(rt: HostRuntime) -> Result<(), Fail> {
 fn symbols_and_comments_come_back(rt: HostRuntime) -> Result<(), Fail> {
     let checked = made_by_hand(rt.alloc())?;
     let comes_back = is_circuit_of(rt.alloc(), checked.circuit(), BY_HAND);
-    drop(checked);
+    drop(checked); // for the proof
     assert!(rt; comes_back?);
     Ok(())
 }

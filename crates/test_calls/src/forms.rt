@@ -5,8 +5,8 @@ use aig_text::empty_circuit;
 use std::alloc::{AllocError, Global};
 use std::test::Fail;
 
-/// The largest index, the variables of an input, a latch and a gate, then the literals of the latch, an output and the
-/// gate's operands, and whether a circuit of these is in form.
+/// The largest index, the variables of an input, a latch and a gate, then the literals of the
+/// latch, an output and the gate's operands, and whether a circuit of these is in form.
 const SECTIONS: &str = "\
 4 1 2 3 0 1 2 7 yes
 4 1 4 4 9 9 9 9 yes
@@ -25,8 +25,8 @@ const SECTIONS: &str = "\
 4 1 2 3 0 0 0 10 no
 ";
 
-/// Bad states, constraints, sizes of justice properties, their literals and fairness constraints of a circuit with the
-/// largest index 4, and whether it is in form with them.
+/// Bad states, constraints, sizes of justice properties, their literals and fairness constraints of
+/// a circuit with the largest index 4, and whether it is in form with them.
 const PROPERTIES: &str = "\
 b 9 0,c 9,s 1 0 2,j 3 9 0,f 9:yes;\
 b 0 10:no;\
@@ -41,8 +41,8 @@ s 1 1,j 1 1 1:no;\
 s 4294967295 1:no;\
 s 4294967295 2,j 1:no";
 
-/// Symbols of a circuit of two inputs and one of each other kind, and whether it is in form with them. One of the names has
-/// a line feed.
+/// Symbols of a circuit of two inputs and one of each other kind, and whether it is in form with
+/// them. One of the names has a line feed.
 const SYMBOLS: &str = "\
 i0 a,i1 a,l0 a,o0 a,b0 a,c0 a,j0 a,f0 a:yes;\
 f0 a,j0 a,c0 a,b0 a,o0 a,l0 a,i0 a:yes;\
@@ -67,7 +67,6 @@ l0 a,i0 a,o0 a,i1 a,l0 b:no;\
 o0 a\nb:no;\
 i0 a,l0 a,o0 \n:no";
 
-/// The numbers of a row.
 pub(crate) fn numbers_of(alloc: Global, row: &str) -> Result<Vec<u32>, Fail> {
     let mut numbers = Vec::new(alloc);
     for word in row.split(' ') {
@@ -76,7 +75,6 @@ pub(crate) fn numbers_of(alloc: Global, row: &str) -> Result<Vec<u32>, Fail> {
     Ok(numbers)
 }
 
-/// Literals of these numbers.
 fn literals_of(alloc: Global, numbers: &[u32]) -> Result<Listing<Lit>, Fail> {
     let mut literals = Listing::new(alloc);
     for number in numbers {
@@ -85,7 +83,6 @@ fn literals_of(alloc: Global, numbers: &[u32]) -> Result<Listing<Lit>, Fail> {
     Ok(literals)
 }
 
-/// Gives a circuit its sections, by the numbers of a row.
 fn with_sections(circuit: &mut Circuit, numbers: &[u32]) -> Result<bool, AllocError> {
     let [max_var, input, latch, gate, next, output, left, right] = *numbers else {
         return Ok(false);
@@ -106,11 +103,10 @@ fn with_sections(circuit: &mut Circuit, numbers: &[u32]) -> Result<bool, AllocEr
     Ok(true)
 }
 
-/// Whether a circuit is in form with the sections of a row.
 fn in_form_with_sections(alloc: Global, circuit: &mut Circuit, row: &str) -> Result<bool, Fail> {
     let numbers = numbers_of(alloc, row)?;
     let given = with_sections(circuit, numbers.as_slice());
-    drop(numbers);
+    drop(numbers); // for the proof
     if !given? {
         return Err("a row has eight numbers")?;
     }
@@ -132,7 +128,6 @@ fn with_part(alloc: Global, circuit: &mut Circuit, part: &str) -> Result<(), Fai
     Ok(())
 }
 
-/// Whether a circuit is in form with the parts of a row.
 fn in_form_with_parts(alloc: Global, circuit: &mut Circuit, parts: &str) -> Result<bool, Fail> {
     for part in parts.split(',') {
         with_part(alloc, circuit, part)?;
@@ -140,7 +135,6 @@ fn in_form_with_parts(alloc: Global, circuit: &mut Circuit, parts: &str) -> Resu
     Ok(circuit.in_form())
 }
 
-/// What a symbol with this letter names.
 fn kind_of(letter: u8) -> Kind {
     match letter {
         b'i' => Kind::Input,
@@ -175,13 +169,11 @@ pub(crate) fn symbols_of(alloc: Global, text: &str) -> Result<Symbols, Fail> {
     Ok(symbols)
 }
 
-/// Whether a circuit is in form with the symbols of a text.
 fn in_form_with_symbols(alloc: Global, circuit: &mut Circuit, text: &str) -> Result<bool, Fail> {
     circuit.symbols = symbols_of(alloc, text)?;
     Ok(circuit.in_form())
 }
 
-/// What an answer says.
 fn told(in_form: bool) -> &'static str {
     if in_form { "yes" } else { "no" }
 }
@@ -192,7 +184,7 @@ fn variables_and_literals(rt: HostRuntime) -> Result<(), Fail> {
         let (numbers, answer) = row.rsplit_once(' ').unwrap_or((row, ""));
         let mut circuit = empty_circuit(rt.alloc(), 0);
         let in_form = in_form_with_sections(rt.alloc(), &mut circuit, numbers);
-        drop(circuit);
+        drop(circuit); // for the proof
         assert!(rt; told(in_form?) == answer, "{row}");
     }
     Ok(())
@@ -204,7 +196,7 @@ fn properties(rt: HostRuntime) -> Result<(), Fail> {
         let (parts, answer) = row.split_once(':').unwrap_or((row, ""));
         let mut circuit = empty_circuit(rt.alloc(), 4);
         let in_form = in_form_with_parts(rt.alloc(), &mut circuit, parts);
-        drop(circuit);
+        drop(circuit); // for the proof
         assert!(rt; told(in_form?) == answer, "{row}");
     }
     Ok(())
@@ -219,7 +211,7 @@ fn symbols(rt: HostRuntime) -> Result<(), Fail> {
         let (symbols, answer) = row.split_once(':').unwrap_or((row, ""));
         let mut circuit = circuit_of(rt.alloc(), NAMELESS)?;
         let in_form = in_form_with_symbols(rt.alloc(), &mut circuit, symbols);
-        drop(circuit);
+        drop(circuit); // for the proof
         assert!(rt; told(in_form?) == answer, "{row}");
     }
     Ok(())

@@ -23,7 +23,6 @@ fn put_chain(circuit: &mut Circuit) -> Result<(), AllocFailed<Gate>> {
     Ok(())
 }
 
-/// A circuit of one input and these gates.
 fn chain(alloc: Global) -> Result<Circuit, Fail> {
     let mut circuit = circuit_of(alloc, "aag 1000001 1 0 0 0\n2\n")?;
     put_chain(&mut circuit)?;
@@ -42,7 +41,7 @@ fn has_order(alloc: Global, circuit: &Circuit) -> bool {
 fn a_million_gates_have_an_order(rt: HostRuntime) -> Result<(), Fail> {
     let circuit = chain(rt.alloc())?;
     let has_order = has_order(rt.alloc(), &circuit);
-    drop(circuit);
+    drop(circuit); // for the proof
     assert!(rt; has_order);
     Ok(())
 }
@@ -51,12 +50,11 @@ fn a_million_gates_have_an_order(rt: HostRuntime) -> Result<(), Fail> {
 fn a_million_gates_are_checked(rt: HostRuntime) -> Result<(), Fail> {
     let checked = checked_of(rt.alloc(), chain(rt.alloc())?)?;
     let same = same_as_copy(rt.alloc(), &checked, &checked);
-    drop(checked);
+    drop(checked); // for the proof
     assert!(rt; same?);
     Ok(())
 }
 
-/// A file with a long comment.
 fn commented(alloc: Global) -> Result<Vec<u8>, AllocError> {
     let mut text = Vec::from_slice(alloc, b"aag 0 0 0 0 0\nc\n")?;
     let piece = vec![in alloc; b'c'; BYTES / 1_000]?;

@@ -12,7 +12,6 @@ const ORDERS: &str = "\
 4 6 2,6 4 2:0;\
 4 6 2,6 4 2,8 2 2,10 8 9:2 3 4";
 
-/// The gates of a row.
 fn gates_of(alloc: Global, row: &str) -> Result<Listing<Gate>, Fail> {
     let mut gates = Listing::new(alloc);
     for gate in row.split(',') {
@@ -36,7 +35,6 @@ fn circuit_with(alloc: Global, gates: Listing<Gate>) -> Result<Circuit, Fail> {
     Ok(circuit)
 }
 
-/// Whether a circuit's order of gates begins empty.
 fn begins_empty(alloc: Global, circuit: &Circuit) -> bool {
     if circuit.gates.len() > LARGEST as usize {
         return false;
@@ -47,7 +45,6 @@ fn begins_empty(alloc: Global, circuit: &Circuit) -> bool {
     }
 }
 
-/// Whether a circuit's gates have this order, in so many steps.
 fn has_order(alloc: Global, circuit: &Circuit, list: &[u32], steps: u32) -> bool {
     if circuit.gates.len() > LARGEST as usize {
         return false;
@@ -66,7 +63,6 @@ fn has_answer(alloc: Global, circuit: &Circuit, answer: &[u32]) -> bool {
     begins_empty(alloc, circuit) && has_order(alloc, circuit, list, *steps)
 }
 
-/// The same of the answer of a row.
 fn is_answered(alloc: Global, circuit: &Circuit, answer: &str) -> Result<bool, Fail> {
     let numbers = numbers_of(alloc, answer)?;
     Ok(has_answer(alloc, circuit, numbers.as_slice()))
@@ -78,7 +74,7 @@ fn orders_of_gates(rt: HostRuntime) -> Result<(), Fail> {
         let (gates, answer) = row.split_once(':').unwrap_or((row, ""));
         let circuit = circuit_with(rt.alloc(), gates_of(rt.alloc(), gates)?)?;
         let is_answered = is_answered(rt.alloc(), &circuit, answer);
-        drop(circuit);
+        drop(circuit); // for the proof
         assert!(rt; is_answered?, "{row}");
     }
     Ok(())

@@ -3,8 +3,8 @@ use aig_command::{Command, Sim, ToAig, Unroll, Usage, command};
 use std::alloc::{AllocError, Global};
 use std::test::Fail;
 
-/// Arguments after the program's name, and what they ask for: the options of the conversion, its limit, its source and
-/// its destination. `<>` is a name of no bytes.
+/// Arguments after the program's name, and what they ask for: the options of the conversion, its
+/// limit, its source and its destination. `<>` is a name of no bytes.
 const CONVERSIONS: &str = "\
 aigtoaig => 2147483647 - -;\
 aigtoaig a.aig => 2147483647 a.aig -;\
@@ -28,8 +28,8 @@ aigtoaig a <> => 2147483647 a <>;\
 aigtoaig -- --ascii --help => 2147483647 --ascii --help;\
 aigtoaig --strip -- - -x.aag => ascii strip 2147483647 - -x.aag";
 
-/// Arguments after the program's name, and what they ask for: the options of the simulation, its limit, its model and
-/// its stimulus or its witness file.
+/// Arguments after the program's name, and what they ask for: the options of the simulation, its
+/// limit, its model and its stimulus or its witness file.
 const SIMULATIONS: &str = "\
 aigsim m => 2147483647 m -;\
 aigsim m - => 2147483647 m -;\
@@ -65,8 +65,8 @@ aigsim --vcd m w --witness => witness vcd 2147483647 m w;\
 aigsim --witness - w --vcd --max-var 7 => witness vcd 7 - w;\
 aigsim --vcd -- --properties --witness => vcd 2147483647 --properties --witness";
 
-/// Arguments after the program's name, and what they ask for: the frames of the unrolling, its option, its limit, its
-/// source and its destination.
+/// Arguments after the program's name, and what they ask for: the frames of the unrolling, its
+/// option, its limit, its source and its destination.
 const UNROLLINGS: &str = "\
 aigunroll --frames 1 => 1 2147483647 - -;\
 aigunroll --frames 1000000 => 1000000 2147483647 - -;\
@@ -88,8 +88,8 @@ aigunroll --frames 2 aigsim help => 2 2147483647 aigsim help;\
 aigunroll --frames 2 - <> => 2 2147483647 - <>;\
 aigunroll --frames 2 -- --frames --help => 2 2147483647 --frames --help";
 
-/// Arguments after the program's name, and why they are refused (`words` where `clap` refuses them); or that they ask
-/// for help.
+/// Arguments after the program's name, and why they are refused (`words` where `clap` refuses
+/// them); or that they ask for help.
 const REFUSALS: &str = "\
 aigtoaig --keep-map --ascii => --keep-map needs binary output;\
 aigtoaig --keep-map - b.aag => --keep-map needs binary output;\
@@ -277,7 +277,6 @@ fn shown(file: &Option<String>) -> &str {
     }
 }
 
-/// A conversion, as a row shows it.
 fn shown_conversion(alloc: Global, request: &ToAig) -> Result<String, AllocError> {
     let ascii = if request.ascii { "ascii " } else { "" };
     let strip = if request.strip { "strip " } else { "" };
@@ -289,7 +288,6 @@ fn shown_conversion(alloc: Global, request: &ToAig) -> Result<String, AllocError
     format!(in alloc; "{ascii}{strip}{keep_map}{undo_map}{limit} {source} {destination}")
 }
 
-/// A simulation, as a row shows it.
 fn shown_simulation(alloc: Global, request: &Sim) -> Result<String, AllocError> {
     let batch = if request.batch { "batch " } else { "" };
     let properties = if request.properties {
@@ -305,7 +303,6 @@ fn shown_simulation(alloc: Global, request: &Sim) -> Result<String, AllocError> 
     format!(in alloc; "{batch}{properties}{witness}{vcd}{limit} {model} {stimulus}")
 }
 
-/// An unrolling, as a row shows it.
 fn shown_unrolling(alloc: Global, request: &Unroll) -> Result<String, AllocError> {
     let frames = request.frames;
     let ascii = if request.ascii { "ascii " } else { "" };
@@ -315,7 +312,6 @@ fn shown_unrolling(alloc: Global, request: &Unroll) -> Result<String, AllocError
     format!(in alloc; "{frames} {ascii}{limit} {source} {destination}")
 }
 
-/// What came of arguments, as a row shows it.
 fn shown_answer(alloc: Global, answered: &Result<Command, Usage>) -> Result<String, AllocError> {
     match answered {
         Ok(Command::ToAig(request)) => shown_conversion(alloc, request),
@@ -328,13 +324,11 @@ fn shown_answer(alloc: Global, answered: &Result<Command, Usage>) -> Result<Stri
     }
 }
 
-/// What is answered to the arguments of a line.
 fn answered_to(alloc: Global, line: &str) -> Result<Result<Command, Usage>, AllocError> {
     let words = words_of(alloc, line)?;
     Ok(command(alloc, words.as_slice()))
 }
 
-/// What is answered to the arguments of a line, as a row shows it.
 fn answer(alloc: Global, line: &str) -> Result<String, AllocError> {
     let answered = answered_to(alloc, line)?;
     shown_answer(alloc, &answered)
@@ -380,7 +374,6 @@ fn refusals(rt: HostRuntime) -> Result<(), Fail> {
     Ok(())
 }
 
-/// The longest line of a text.
 fn longest(text: &str) -> usize {
     let mut longest = 0;
     for line in text.split('\n') {
@@ -389,7 +382,6 @@ fn longest(text: &str) -> usize {
     longest
 }
 
-/// The longest line of an answer that is help.
 fn longest_of_help(answered: &Result<Command, Usage>) -> Option<usize> {
     match answered {
         Ok(Command::Help(text)) => Some(longest(text.as_str())),
@@ -397,11 +389,10 @@ fn longest_of_help(answered: &Result<Command, Usage>) -> Option<usize> {
     }
 }
 
-/// The longest line of the help that a line asks for.
 fn longest_shown(alloc: Global, line: &str) -> Result<usize, Fail> {
     let answered = answered_to(alloc, line)?;
     let longest = longest_of_help(&answered);
-    drop(answered);
+    drop(answered); // for the proof
     Ok(longest.ok_or("no help")?)
 }
 

@@ -20,7 +20,6 @@ const NAMED: &[u8] =
 
 const STRIPPED: &str = "aig 5 2 0 2 3\n10\n6\n\u{2}\u{2}\u{3}\u{2}\u{1}\u{2}";
 
-/// Whether the conversion succeeds, and writes what it should.
 fn converts(alloc: Global) -> Option<bool> {
     let mut source = MemorySource::new(Vec::from_slice(alloc, NAMED).ok()?, 7, 0);
     let mut sink = MemorySink::new(alloc, 100, 7, 0).ok()?;

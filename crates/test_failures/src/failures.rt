@@ -4,8 +4,8 @@ use std::alloc::{AllocError, Global};
 use std::rt::Files;
 use std::test::Fail;
 
-/// Texts, with a `#` between them. What is written is the text itself, or stands behind `=`. The words are those of the
-/// conversion to ASCII, or stand before `$`.
+/// Texts, with a `#` between them. What is written is the text itself, or stands behind `=`. The
+/// words are those of the conversion to ASCII, or stand before `$`.
 const TEXTS: &str = "\
 aiger aigtoaig --keep-map$aag 5 2 0 1 3
 2
@@ -156,7 +156,6 @@ fn long_text(alloc: Global) -> Result<String, AllocError> {
     Ok(text)
 }
 
-/// The texts and the long one, with a `#` between them.
 fn texts(alloc: Global) -> Result<String, AllocError> {
     let mut texts = long_text(alloc)?;
     texts.push_str("#")?;
@@ -178,7 +177,6 @@ fn in_a_dozen(text: &[u8]) -> Behaviour {
     Behaviour::pieces_of(text.len() / 12 + 1)
 }
 
-/// The number of reads of a row's run, and of its writes.
 fn calls_of<R: Files + AllocGlobal>(rt: &R, row: &str) -> Result<(u64, u64), AllocError> {
     let (words, text, _) = parts(row);
     let outcome = run(rt, rt.alloc(), words, text, in_a_dozen(text))?;
@@ -218,13 +216,13 @@ fn first_wrong_read<R: Files + AllocGlobal>(rt: &R, rows: &str) -> Result<Option
 fn failed_reads(rt: HostRuntime) -> Result<(), Fail> {
     let texts = texts(rt.alloc())?;
     let wrong = first_wrong_read(&rt, texts.as_str());
-    drop(texts);
+    drop(texts); // for the proof
     let wrong = wrong?;
     assert!(rt; wrong.is_none(), "read {wrong:?}");
     Ok(())
 }
 
-/// Whether a row's run whose write of this number fails tells so, wrote a beginning, and writes no more.
+/// Whether a run whose write of this number fails tells so, wrote a beginning, and writes no more.
 fn stops_at_write<R: Files + AllocGlobal>(rt: &R, row: &str, call: u64) -> bool {
     let (words, text, written) = parts(row);
     let mut behaviour = in_a_dozen(text);
@@ -239,7 +237,6 @@ fn stops_at_write<R: Files + AllocGlobal>(rt: &R, row: &str, call: u64) -> bool 
     }
 }
 
-/// The first write of these rows that does not stop its run so, if there is one.
 fn first_wrong_write<R: Files + AllocGlobal>(
     rt: &R,
     rows: &str,
@@ -260,13 +257,13 @@ fn first_wrong_write<R: Files + AllocGlobal>(
 fn failed_writes(rt: HostRuntime) -> Result<(), Fail> {
     let texts = texts(rt.alloc())?;
     let wrong = first_wrong_write(&rt, texts.as_str());
-    drop(texts);
+    drop(texts); // for the proof
     let wrong = wrong?;
     assert!(rt; wrong.is_none(), "write {wrong:?}");
     Ok(())
 }
 
-/// Whether a row's run whose devices move so many bytes writes what it should, in slices no longer than a block.
+/// Whether a run over devices of so many bytes writes what it should, in slices up to a block.
 fn is_written_in<R: Files + AllocGlobal>(rt: &R, row: &str, piece: usize) -> bool {
     let (words, text, written) = parts(row);
     match run(rt, rt.alloc(), words, text, Behaviour::pieces_of(piece)) {
@@ -279,7 +276,6 @@ fn is_written_in<R: Files + AllocGlobal>(rt: &R, row: &str, piece: usize) -> boo
     }
 }
 
-/// The first size of pieces in which a row is not written so, if there is one.
 fn first_wrong_piece<R: Files + AllocGlobal>(rt: &R, rows: &str) -> Option<usize> {
     for row in rows.split('#') {
         for piece in [1, 7, 30_000] {
@@ -296,7 +292,7 @@ fn first_wrong_piece<R: Files + AllocGlobal>(rt: &R, rows: &str) -> Option<usize
 fn pieces(rt: HostRuntime) -> Result<(), Fail> {
     let texts = texts(rt.alloc())?;
     let wrong = first_wrong_piece(&rt, texts.as_str());
-    drop(texts);
+    drop(texts); // for the proof
     assert!(rt; wrong.is_none(), "in pieces of {wrong:?}");
     Ok(())
 }

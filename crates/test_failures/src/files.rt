@@ -1,4 +1,5 @@
-//! Conversions and unrollings between files in memory that fail, and files that move few bytes in a call.
+//! Conversions and unrollings between files in memory that fail, and files that move few bytes in a
+//! call.
 use crate::failures::parts;
 use crate::memory_files::{Calls, MemoryFiles, Readable};
 use crate::run::{Behaviour, run};
@@ -9,8 +10,8 @@ use std::fs::Metadata;
 use std::rt::Files;
 use std::test::Fail;
 
-/// Whether the program answers this status and reports this, over these files: no byte is read from the standard input
-/// or written to the standard output, since their first call would fail.
+/// Whether the program answers this status and reports this, over these files: no byte is read from
+/// the standard input or written to the standard output, since their first call would fail.
 fn told(alloc: Global, files: &MemoryFiles<'_, '_>, line: &str, status: u8, message: &str) -> bool {
     let behaviour = Behaviour {
         piece: 1,
@@ -82,7 +83,6 @@ aiger aigunroll --frames 3 source destination$aag 1 1 0 1 0
 7
 ";
 
-/// The metadata of a file on a disk.
 fn on_disk<T: Files>(rt: &T) -> Result<Metadata, Fail> {
     fs::write(rt, "on_disk", "")?;
     let metadata = fs::metadata(rt, "on_disk");
@@ -90,7 +90,7 @@ fn on_disk<T: Files>(rt: &T) -> Result<Metadata, Fail> {
     Ok(metadata?)
 }
 
-/// The words of a row and its files, which move three bytes in a call, and of which none can be closed yet.
+/// The words of a row and its files, which move three bytes in a call; none can be closed yet.
 fn row_of<'a>(row: &'a str, calls: &'a Calls) -> (&'a str, MemoryFiles<'a, 'a>) {
     let (words, text, wanted) = parts(row);
     let source = Readable {
@@ -109,7 +109,6 @@ fn row_of<'a>(row: &'a str, calls: &'a Calls) -> (&'a str, MemoryFiles<'a, 'a>) 
     (words, files)
 }
 
-/// The line about the destination of these words.
 fn unwritten(words: &str) -> &'static str {
     if words.ends_with(".aag") {
         "aiger: destination.aag: cannot write\n"
@@ -118,7 +117,7 @@ fn unwritten(words: &str) -> &'static str {
     }
 }
 
-/// The files hold what is wanted. One is opened, and one is made and synced; nothing else is done with files.
+/// The files hold what is wanted. One is opened, one made and synced; nothing else is done.
 #[test]
 fn files_in_pieces(rt: HostRuntime) -> Result<(), Fail> {
     let metadata = on_disk(&rt)?;
@@ -182,7 +181,8 @@ fn failed_destinations(rt: HostRuntime) {
     }
 }
 
-/// Words, `$` and a source that is refused, or whose circuit cannot be unrolled, `=` and what is told of it.
+/// Words, `$` and a source that is refused, or whose circuit cannot be unrolled, `=` and what is
+/// told of it.
 const REFUSED: &str = "\
 aiger aigtoaig source destination$aag 1 1 0 0 0
 =aiger: source: line 2: file ends too early

@@ -1,11 +1,13 @@
-//! Engines over large files, whose requests are made here. What comes is in the contracts; that memory suffices is not.
+//! Engines over large files, whose requests are made here. What comes is in the contracts; that
+//! memory suffices is not.
 ghost use Rattle.std.specs.Prelude.{◌≡◌, false, IfSome};
 
 use aig_core::{LARGEST, MemorySink, MemorySource};
 use aig_tools::{Sim, ToAig, Unroll, run_sim, run_toaig, run_unroll, run_witness};
 use std::alloc::{AllocError, Global};
 
-/// How many lines each section of a circuit has, how many bytes a comment, and how many frames and runs there are.
+/// How many lines each section of a circuit has, how many bytes a comment, and how many frames and
+/// runs there are.
 const LINES: u32 = 5_000;
 
 const BYTES: usize = 70_000_000;
@@ -14,7 +16,6 @@ const FRAMES: u32 = 1_000;
 
 const RUNS: u32 = 1_000;
 
-/// The words for a conversion.
 const TO_AIG: ToAig = ToAig {
     ascii: true,
     strip: false,
@@ -25,7 +26,6 @@ const TO_AIG: ToAig = ToAig {
     destination: None,
 };
 
-/// Those for a simulation, or for a witness to be judged.
 fn sim(witness: bool) -> Sim
     ensures asked { result.witness ≡ witness }
     ensures alone { (result.batch ≡ false) × (result.properties ≡ false) }
@@ -41,7 +41,6 @@ fn sim(witness: bool) -> Sim
     }
 }
 
-/// Those for an unrolling over so many frames.
 fn frames(frames: u32) -> Unroll
     ensures { result.frames ≡ frames }
 {
@@ -64,8 +63,8 @@ fn put_lines(alloc: Global, text: &mut Vec<u8>, first: u32, end: &str) -> Result
     Ok(())
 }
 
-/// Puts the sections: inputs, latches of which each starts at 0 and is the first input then, and all latches as outputs
-/// and as bad states.
+/// Puts the sections: inputs, latches of which each starts at 0 and is the first input then, and
+/// all latches as outputs and as bad states.
 fn put_circuit(alloc: Global, text: &mut Vec<u8>) -> Result<(), AllocError> {
     text.extend_from_slice(b"aag 10000 5000 5000 5000 0 5000\n")?;
     put_lines(alloc, text, 1, "")?;
@@ -74,7 +73,6 @@ fn put_circuit(alloc: Global, text: &mut Vec<u8>) -> Result<(), AllocError> {
     put_lines(alloc, text, LINES + 1, "")
 }
 
-/// Puts many bytes.
 fn put_comment(alloc: Global, text: &mut Vec<u8>) -> Result<(), AllocError> {
     let piece = vec![in alloc; b'c'; BYTES / 1_000]?;
     for _ in 0..1_000 {
@@ -103,7 +101,6 @@ fn put_witness(alloc: Global, text: &mut Vec<u8>) -> Result<(), AllocError> {
     text.extend_from_slice(b"\n.\n")
 }
 
-/// A source of a text.
 fn source_of(text: Vec<u8>) -> Option<MemorySource>
     ensures { IfSome result (λ source. source.past.failures ≡ 0) }
 {
@@ -113,7 +110,6 @@ fn source_of(text: Vec<u8>) -> Option<MemorySource>
     Some(MemorySource::new(text, 30_000, 0))
 }
 
-/// A source of the circuit.
 fn circuit(alloc: Global) -> Option<MemorySource>
     ensures { IfSome result (λ source. source.past.failures ≡ 0) }
 {
@@ -122,7 +118,6 @@ fn circuit(alloc: Global) -> Option<MemorySource>
     source_of(text)
 }
 
-/// Whether a circuit with a long comment is converted.
 fn converts(alloc: Global) -> Option<bool> {
     let mut text = Vec::from_slice(alloc, b"aag 0 0 0 0 0\nc\n").ok()?;
     put_comment(alloc, &mut text).ok()?;
@@ -157,7 +152,6 @@ fn a_large_file_is_unrolled(rt: HostRuntime) {
     assert!(rt; goes_on(rt.alloc()) == Some(true));
 }
 
-/// Whether many runs are simulated.
 fn simulates(alloc: Global) -> Option<bool> {
     let mut model = circuit(alloc)?;
     let mut text = Vec::new(alloc);

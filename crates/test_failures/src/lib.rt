@@ -1,5 +1,5 @@
-//! Tests of the engine over devices that fail or move few bytes in a call, which no run of the program shows. The texts
-//! that the program is run on stand in `tests/rows`.
+//! Tests of the engine over devices that fail or move few bytes in a call, which no run of the
+//! program shows. The texts that the program is run on stand in `tests/rows`.
 #![tactic(auto)]
 
 #[cfg(test)]

@@ -47,9 +47,9 @@ pub(crate) struct Readable<'a> {
     pub failing: u64,
 }
 
-/// Files that move at most `piece` bytes in a call. The destination can be made if there is a text that is wanted, and
-/// takes that text and no other. The write numbered `failing_write`, counted from 0, fails, and no other does. A file
-/// without metadata cannot be closed.
+/// Files that move at most `piece` bytes in a call. The destination can be made if there is a text
+/// that is wanted, and takes that text and no other. The write numbered `failing_write`, counted
+/// from 0, fails, and no other does. A file without metadata cannot be closed.
 #[derive(Drop)]
 pub(crate) struct MemoryFiles<'a, 'c> {
     pub readable: [Readable<'a>; 2],
@@ -79,7 +79,6 @@ impl<'a, 'c> MemoryFiles<'a, 'c> {
         }
     }
 
-    /// The file with this name, to be read.
     fn readable(&self, name: &str) -> io::Result<MemoryFile<'a, 'c>> {
         for it in &self.readable {
             if it.name == name {
@@ -96,7 +95,6 @@ impl<'a, 'c> MemoryFiles<'a, 'c> {
     }
 }
 
-/// A file that is open.
 #[derive(Drop)]
 pub(crate) struct MemoryFile<'a, 'c> {
     reader: OnceReader<'a>,

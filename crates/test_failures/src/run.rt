@@ -5,7 +5,7 @@ use aig_tools::start;
 use std::alloc::{AllocError, Global};
 use std::rt::Files;
 
-/// How the devices behave: how many bytes they move in a call, and which call fails, counted from 0.
+/// How many bytes the devices move in a call, and which call fails, counted from 0.
 #[derive(Clone, Copy)]
 pub(crate) struct Behaviour {
     pub piece: usize,
@@ -23,7 +23,6 @@ impl Behaviour {
         }
     }
 
-    /// A reader of this text.
     fn reader(self, text: &[u8]) -> OnceReader<'_> {
         OnceReader {
             left: text,
@@ -38,7 +37,6 @@ impl Behaviour {
     }
 }
 
-/// What came of a run.
 #[derive(Drop)]
 pub(crate) struct Outcome {
     pub status: u8,
@@ -48,13 +46,11 @@ pub(crate) struct Outcome {
 }
 
 impl Outcome {
-    /// Whether this is the status, and this was told.
     pub(crate) fn told(&self, status: u8, errors: &str) -> bool {
         self.status == status && self.errors.taken.as_slice() == errors.as_bytes()
     }
 }
 
-/// The words of a line, with one space between them.
 pub(crate) fn words_of(alloc: Global, line: &str) -> Result<Vec<String>, AllocError> {
     let mut words = Vec::new(alloc);
     for word in line.split(' ') {
@@ -63,7 +59,6 @@ pub(crate) fn words_of(alloc: Global, line: &str) -> Result<Vec<String>, AllocEr
     Ok(words)
 }
 
-/// Runs the program with these words over a text and these files.
 pub(crate) fn run<T: Files>(
     files: &T,
     alloc: Global,

@@ -44,15 +44,15 @@ zo0
 #4
 ";
 
-/// The words of each row, with a `#` between them: which of model and stimulus is a file, and which the standard input.
-/// The last two are of batches.
+/// The words of each row, with a `#` between them: which of model and stimulus is a file, and which
+/// the standard input. The last two are of batches.
 const WORDS: &str = "aiger aigsim model stimulus#aiger aigsim model#aiger aigsim - stimulus#\
     aiger aigsim --batch model stimulus#aiger aigsim --batch model";
 
 /// The same, of dumps.
 const WORDS_OF_DUMPS: &str = "aiger aigsim --vcd model stimulus#aiger aigsim --vcd --batch model";
 
-/// What is read, how many bytes the devices move in a call, and which call of each fails, counted from 0.
+/// What is read, how many bytes move in a call, and which call of each fails, counted from 0.
 #[derive(Clone, Copy)]
 pub(crate) struct Devices<'a> {
     pub model: &'a [u8],
@@ -74,7 +74,6 @@ pub(crate) const SOUND: Devices<'static> = Devices {
 };
 
 impl<'a> Devices<'a> {
-    /// A run of the program with these words, whose calls are counted.
     fn run(&self, alloc: Global, words: &str, calls: &Calls) -> Result<Outcome, AllocError> {
         let (text, failing_read) = if words.ends_with(" - stimulus") {
             (self.model, self.failing_model)
@@ -133,8 +132,8 @@ impl<'a> Devices<'a> {
         }
     }
 
-    /// Whether a run with these words, of which a write fails, tells so, wrote a beginning of this text, and makes no
-    /// write after it.
+    /// Whether a run with these words, of which a write fails, tells so, wrote a beginning of this
+    /// text, and makes no write after it.
     pub(crate) fn stops_at_write(&self, alloc: Global, words: &str, text: &[u8]) -> bool {
         match self.run(alloc, words, &Calls::none()) {
             Ok(outcome) => {
@@ -146,13 +145,11 @@ impl<'a> Devices<'a> {
         }
     }
 
-    /// The number of writes of a run with these words.
     fn writes(&self, alloc: Global, words: &str) -> Result<u64, AllocError> {
         Ok(self.run(alloc, words, &Calls::none())?.output.calls)
     }
 }
 
-/// The line about a model that cannot be read.
 pub(crate) fn unread_model(words: &str) -> &'static str {
     if words.ends_with(" - stimulus") {
         "aiger: -: cannot read\n"
@@ -161,7 +158,6 @@ pub(crate) fn unread_model(words: &str) -> &'static str {
     }
 }
 
-/// The line about a stimulus that cannot be read.
 pub(crate) fn unread_stimulus(words: &str) -> &'static str {
     if words.ends_with(" stimulus") {
         "aiger: stimulus: cannot read\n"
@@ -179,7 +175,8 @@ fn due<'a>(words: &str, text: &'a [u8]) -> &'a [u8] {
     }
 }
 
-/// Each read of the model fails in turn: nothing was written, and nothing was read of a stimulus, which would fail too.
+/// Each read of the model fails in turn: nothing was written, and nothing was read of a stimulus,
+/// which would fail too.
 #[test]
 fn failed_models(rt: HostRuntime) {
     for words in WORDS.split('#') {
@@ -193,8 +190,8 @@ fn failed_models(rt: HostRuntime) {
     }
 }
 
-/// Each read of the stimulus fails in turn: the lines of all steps that came are written, and no more; of a batch
-/// nothing.
+/// Each read of the stimulus fails in turn: the lines of all steps that came are written, and no
+/// more; of a batch nothing.
 #[test]
 fn failed_stimuli(rt: HostRuntime) {
     for words in WORDS.split('#') {
@@ -263,8 +260,8 @@ fn traces_in_pieces(rt: HostRuntime) {
     }
 }
 
-/// At a bad line, what was written before it stands, and nothing is read behind the bytes that it came with. Of a batch
-/// nothing was written.
+/// At a bad line, what was written before it stands, and nothing is read behind the bytes that it
+/// came with. Of a batch nothing was written.
 #[test]
 fn bad_lines(rt: HostRuntime) {
     for words in WORDS.split('#') {
@@ -277,7 +274,7 @@ fn bad_lines(rt: HostRuntime) {
     }
 }
 
-/// A line is not judged before its end came, though it is too long already: the failed read is reported.
+/// A line is not judged before its end came, even if too long: the failed read is reported.
 #[test]
 fn unread_ends(rt: HostRuntime) {
     let mut devices = SOUND;

@@ -13,7 +13,8 @@ fn interruption() -> io::Error {
     io::Error::from(ErrorKind::Interrupted)
 }
 
-/// Gives these bytes, at most `piece` in a call. The call numbered `failing`, counted from 0, fails, and no other does.
+/// Gives these bytes, at most `piece` in a call. The call numbered `failing`, counted from 0,
+/// fails, and no other does.
 #[derive(Drop)]
 pub(crate) struct OnceReader<'a> {
     pub left: &'a [u8],
@@ -34,8 +35,8 @@ impl<'a> Read for OnceReader<'a> {
     }
 }
 
-/// Takes at most `piece` bytes in a call, and keeps how long the longest slice was that it was handed. The call
-/// numbered `failing`, counted from 0, fails, and no other does.
+/// Takes at most `piece` bytes in a call, and keeps how long the longest slice was that it was
+/// handed. The call numbered `failing`, counted from 0, fails, and no other does.
 #[derive(Drop)]
 pub(crate) struct OnceWriter {
     pub taken: Vec<u8>,
@@ -100,7 +101,7 @@ fn a_send_writes_once(rt: HostRuntime) {
     let failed = sink.send(b"bytes").is_err() && sink.failures() == 1;
     let once = writer.calls == 1 && writer.taken.is_empty();
     let again = WriteSink::new(&mut writer).send(b"bytes");
-    drop(writer);
+    drop(writer); // for the proof
     assert!(rt; failed && once);
     assert!(rt; again.is_ok_and(|count| count == 5));
 }

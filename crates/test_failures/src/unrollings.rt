@@ -16,7 +16,6 @@ const LATCH: &[u8] = b"aag 3 1 1 1 1\n2\n4 6 1\n4\n6 4 2\n";
 
 const UNROLLED: &str = "aag 6 3 0 3 3\n2\n4\n6\n1\n8\n10\n8 2 1\n10 8 4\n12 10 6\n";
 
-/// Whether the unrolling succeeds, and writes what it should.
 fn unrolls(alloc: Global) -> Option<bool> {
     let mut source = MemorySource::new(Vec::from_slice(alloc, LATCH).ok()?, 7, 0);
     let mut sink = MemorySink::new(alloc, 100, 7, 0).ok()?;

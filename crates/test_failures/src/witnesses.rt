@@ -10,7 +10,8 @@ const ANSWER: &[u8] = b"confirmed 1\n";
 
 const UNCONFIRMED: &[u8] = b"not confirmed\n";
 
-/// The words of each row, with a `#` between them: which of model and witness is a file, and which the standard input.
+/// The words of each row, with a `#` between them: which of model and witness is a file, and which
+/// the standard input.
 const WORDS: &str = "aiger aigsim --witness model stimulus#aiger aigsim --witness model#\
     aiger aigsim --witness - stimulus";
 
@@ -21,7 +22,8 @@ const JUDGED: Devices<'static> = Devices {
     ..SOUND
 };
 
-/// Each read of the model fails in turn: nothing was written, and nothing was read of a witness, which would fail too.
+/// Each read of the model fails in turn: nothing was written, and nothing was read of a witness,
+/// which would fail too.
 #[test]
 fn failed_models(rt: HostRuntime) {
     for words in WORDS.split('#') {

@@ -33,14 +33,12 @@ fn runs_of(alloc: Global, count: usize) -> Option<Vec<Run>> {
     Some(runs)
 }
 
-/// Whether each run fits the circuit.
 fn all_fit(circuit: &Checked, runs: &[Run]) -> bool
     ensures { result ≡ true → All (IsRunOf circuit.now) runs.now }
 {
     runs.iter().all(|run| run.fits(circuit))
 }
 
-/// Whether so many runs are simulated.
 fn are_simulated(alloc: Global, circuit: &Checked, count: usize) -> bool {
     match runs_of(alloc, count) {
         Some(runs) => all_fit(circuit, &runs) && simulate_batch(alloc, circuit, &runs).is_ok(),
@@ -48,7 +46,6 @@ fn are_simulated(alloc: Global, circuit: &Checked, count: usize) -> bool {
     }
 }
 
-/// The first of these counts of runs that is not simulated, if there is one.
 fn first_refused(alloc: Global, circuit: &Checked, counts: &[usize]) -> Option<usize> {
     for count in counts {
         if !are_simulated(alloc, circuit, *count) {
@@ -62,7 +59,7 @@ fn first_refused(alloc: Global, circuit: &Checked, counts: &[usize]) -> Option<u
 fn batches(rt: HostRuntime) -> Result<(), Fail> {
     let circuit = read_ascii(rt.alloc(), REGISTER.as_bytes(), Limits::default())?;
     let refused = first_refused(rt.alloc(), &circuit, &[0, 1, 255, 256, 257, 600, 1_000]);
-    drop(circuit);
+    drop(circuit); // for the proof
     assert!(rt; refused.is_none(), "{} runs", refused.unwrap_or(0));
     Ok(())
 }

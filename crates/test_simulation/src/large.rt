@@ -30,15 +30,13 @@ fn wide_text(alloc: Global) -> Result<String, AllocError> {
     Ok(text)
 }
 
-/// A circuit of these.
 fn wide(alloc: Global) -> Result<Checked, Fail> {
     let text = wide_text(alloc)?;
     let read = read_ascii(alloc, text.as_str().as_bytes(), Limits::default());
-    drop(text);
+    drop(text); // for the proof
     Ok(read?)
 }
 
-/// A run of one step.
 fn run(alloc: Global) -> Result<Run, AllocError> {
     let mut steps = Listing::new(alloc);
     let values = vec![in alloc; Val::One; WIDTH as usize]?;
@@ -46,12 +44,11 @@ fn run(alloc: Global) -> Result<Run, AllocError> {
     Ok(Run { steps })
 }
 
-/// Whether the run fits the circuit, and is simulated.
 fn is_simulated(alloc: Global, circuit: &Checked) -> Result<bool, Fail> {
     let run = [run(alloc)?];
     let fits = run[0].fits(circuit);
     let simulated = fits && simulate_batch(alloc, circuit, &run).is_ok();
-    drop(run);
+    drop(run); // for the proof
     Ok(simulated)
 }
 
@@ -60,7 +57,7 @@ fn many_latches_are_simulated(rt: HostRuntime) -> Result<(), Fail> {
     let circuit = wide(rt.alloc())?;
     let has_simulator = Simulator::new(rt.alloc(), &circuit).is_ok();
     let simulated = is_simulated(rt.alloc(), &circuit);
-    drop(circuit);
+    drop(circuit); // for the proof
     assert!(rt; simulated? && has_simulator);
     Ok(())
 }

@@ -1,5 +1,5 @@
-//! Tests of the simulator's calls and of the three values, where neither a contract decides nor a run of the program
-//! shows what comes. The texts that the program is run on stand in `tests/rows`.
+//! Tests of the simulator's calls and of the three values, where neither a contract decides nor a
+//! run of the program shows what comes. The texts that the program is run on stand in `tests/rows`.
 #![tactic(auto)]
 
 #[cfg(test)]

@@ -5,8 +5,8 @@ use aig_sim::Simulator;
 use aig_text::{Limits, read_ascii};
 use std::alloc::{AllocError, Global};
 
-/// Circuits, and what their steps show, a line each: state, inputs, outputs, next state, bad states and constraints. A
-/// line `.` is a reset.
+/// Circuits, and what their steps show, a line each: state, inputs, outputs, next state, bad states
+/// and constraints. A line `.` is a reset.
 const STEPS: &str = "\
 aag 1 0 1 2 0
 2 3
@@ -39,7 +39,6 @@ x 1 0 0 x
 .
 x x x x x ";
 
-/// The values of characters.
 fn values_of(alloc: Global, text: &str) -> Result<Vec<Val>, AllocError> {
     let mut values = Vec::new(alloc);
     for byte in text.as_bytes() {
@@ -48,7 +47,6 @@ fn values_of(alloc: Global, text: &str) -> Result<Vec<Val>, AllocError> {
     Ok(values)
 }
 
-/// Whether the values are those of the characters.
 fn are(values: &[Val], text: &str) -> bool {
     let mut bytes = text.as_bytes();
     for value in values {
@@ -63,12 +61,10 @@ fn are(values: &[Val], text: &str) -> bool {
     bytes.is_empty()
 }
 
-/// The column at this place of a row.
 fn column(row: &str, at: usize) -> &str {
     row.split(' ').nth(at).unwrap_or("")
 }
 
-/// Whether the simulator shows the row.
 fn shows(simulator: &Simulator, row: &str) -> bool {
     match simulator.row() {
         Some(shown) => {
@@ -82,15 +78,13 @@ fn shows(simulator: &Simulator, row: &str) -> bool {
     }
 }
 
-/// A simulator of the circuit of a text, before its first step.
 fn simulator_of(alloc: Global, text: &str) -> Option<Simulator> {
     let circuit = read_ascii(alloc, text.as_bytes(), Limits::default()).ok()?;
     let made = Simulator::new(alloc, &circuit);
-    drop(circuit);
+    drop(circuit); // for the proof
     made.ok()
 }
 
-/// Takes a step, and answers whether the row is shown then.
 fn steps_to(simulator: &mut Simulator, given: &[Val], row: &str) -> bool {
     if given.len() != simulator.inputs() {
         return false;
@@ -124,12 +118,11 @@ fn first_wrong_row<'t>(alloc: Global, simulator: &mut Simulator, rows: &'t str) 
     None
 }
 
-/// The same of a simulator of the circuit of a text.
 fn first_wrong_of<'t>(alloc: Global, text: &str, rows: &'t str) -> Option<&'t str> {
     match simulator_of(alloc, text) {
         Some(mut simulator) => {
             let wrong = first_wrong_row(alloc, &mut simulator, rows);
-            drop(simulator);
+            drop(simulator); // for the proof
             wrong
         }
         None => Some("no simulator"),

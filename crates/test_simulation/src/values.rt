@@ -13,7 +13,6 @@ x00x
 x1xx
 xxxx";
 
-/// The value of a character.
 pub(crate) fn value_of(byte: u8) -> Val {
     match byte {
         b'0' => Val::Zero,
@@ -22,7 +21,6 @@ pub(crate) fn value_of(byte: u8) -> Val {
     }
 }
 
-/// Whether the values of a row are so.
 fn are_right(row: &[u8]) -> bool {
     let [left, right, both, other] = *row else {
         return false;

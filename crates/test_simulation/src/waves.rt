@@ -1,9 +1,9 @@
-//! The dump of a trace. What comes is in the contracts; that memory suffices is not. What dumps show of circuits
-//! stands in `tests/rows/waves.sh`.
+//! The dump of a trace. What comes is in the contracts; that memory suffices is not. What dumps
+//! show of circuits stands in `tests/rows/waves.sh`.
 use aig_core::{Checked, MemorySink, MemorySource};
 use aig_sim::{Columns, simulate};
 use aig_text::{Limits, read_ascii};
-use aig_wave::{FreshSink, WaveMemory, WaveSink};
+use aig_wave::{WaveMemory, WaveSink};
 use std::alloc::Global;
 use std::test::Fail;
 
@@ -30,16 +30,13 @@ b0 r
 #3
 ";
 
-/// Whether two steps of a circuit have this dump.
 fn is_dumped(alloc: Global, circuit: &Checked, dump: &[u8]) -> Option<bool> {
     let mut source = MemorySource::new(Vec::from_slice(alloc, b"\n\n").ok()?, 1, 0);
     let mut sink = MemorySink::new(alloc, 4096, 3, 0).ok()?;
     let room = WaveMemory::new(alloc, circuit).ok()?;
-    let mut fresh = FreshSink::new(&mut sink);
-    let mut wave = WaveSink::new(room, &mut fresh);
+    let mut wave = WaveSink::new(room, &mut sink);
     let done = simulate(alloc, circuit, Columns::Properties, &mut source, &mut wave).is_ok();
-    let (sent, _fresh) = wave.finish(done);
-    let sink = fresh.finish();
+    let (sent, sink) = wave.finish(done);
     Some(done && sent.is_ok() && sink.bytes() == dump)
 }
 
@@ -47,7 +44,7 @@ fn is_dumped(alloc: Global, circuit: &Checked, dump: &[u8]) -> Option<bool> {
 fn a_trace_is_dumped(rt: HostRuntime) -> Result<(), Fail> {
     let circuit = read_ascii(rt.alloc(), TOGGLE.as_bytes(), Limits::default())?;
     let dumped = is_dumped(rt.alloc(), &circuit, DUMP);
-    drop(circuit);
+    drop(circuit); // for the proof
     assert!(rt; dumped == Some(true));
     Ok(())
 }

@@ -7,8 +7,8 @@ use aig_text::{Limits, read_ascii};
 use std::alloc::{AllocError, Global};
 use std::test::Fail;
 
-/// Circuits, and witness files for each with what comes of them, a line each. A `/` is a line feed, and a `,` is a
-/// carriage return.
+/// Circuits, and witness files for each with what comes of them, a line each. A `/` is a line feed,
+/// and a `,` is a carriage return.
 const WITNESSES: &str = "\
 aag 1 0 1 0 0 1
 2 3
@@ -67,7 +67,6 @@ fn bytes_of(alloc: Global, text: &str) -> Result<Vec<u8>, AllocError> {
     Ok(bytes)
 }
 
-/// What comes of a witness file, in words.
 fn words(alloc: Global, outcome: &Result<Verdict, SimFault>) -> Result<String, AllocError> {
     match outcome {
         Ok(Verdict::Confirmed(at)) => format!(in alloc; "confirmed {at}"),
@@ -87,13 +86,11 @@ fn source_of(alloc: Global, witness: &str, fails_at: u64) -> Option<MemorySource
     Some(MemorySource::new(bytes, 3, fails_at))
 }
 
-/// What comes of a witness file.
 fn outcome_of(alloc: Global, circuit: &Checked, witness: &str) -> Option<String> {
     let mut source = source_of(alloc, witness, 0)?;
     words(alloc, &confirm(alloc, circuit, &mut source)).ok()
 }
 
-/// Whether this comes of a witness file.
 fn comes_to(alloc: Global, circuit: &Checked, witness: &str, wanted: &str) -> bool {
     match outcome_of(alloc, circuit, witness) {
         Some(outcome) => outcome.as_str() == wanted,
@@ -101,13 +98,11 @@ fn comes_to(alloc: Global, circuit: &Checked, witness: &str, wanted: &str) -> bo
     }
 }
 
-/// The fault that a source which fails at this call comes to, if it comes to one.
 fn fault_of(alloc: Global, circuit: &Checked, witness: &str, fails_at: u64) -> Option<SimFault> {
     let mut source = source_of(alloc, witness, fails_at)?;
     confirm(alloc, circuit, &mut source).err()
 }
 
-/// The first row whose witness file does not come to what it says, if there is one.
 fn first_wrong_row<'t>(alloc: Global, circuit: &Checked, rows: &'t str) -> Option<&'t str> {
     for row in rows.lines() {
         let (witness, wanted) = row.split_once('=').unwrap_or((row, ""));
@@ -124,7 +119,7 @@ fn witnesses(rt: HostRuntime) -> Result<(), Fail> {
         let (text, rows) = table.split_once('=').unwrap_or((table, "no rows"));
         let circuit = read_ascii(rt.alloc(), text.as_bytes(), Limits::default())?;
         let wrong = first_wrong_row(rt.alloc(), &circuit, rows);
-        drop(circuit);
+        drop(circuit); // for the proof
         assert!(rt; wrong.is_none(), "{text}: {}", wrong.unwrap_or(""));
     }
     Ok(())
@@ -135,7 +130,7 @@ fn a_source_that_fails(rt: HostRuntime) -> Result<(), Fail> {
     let text = b"aag 1 0 1 0 0 1\n2 3\n2\n";
     let circuit = read_ascii(rt.alloc(), text, Limits::default())?;
     let fault = fault_of(rt.alloc(), &circuit, "1/b0/0///./", 3);
-    drop(circuit);
+    drop(circuit); // for the proof
     assert!(rt; fault == Some(SimFault::ReadFailed));
     Ok(())
 }

@@ -1,27 +1,27 @@
--- Runs that are read at the front of a stimulus.
-use Rattle.std.proofs.Common.{rules}
-use Rattle.std.proofs.Common.{◌≡◌, ◌+◌, ◌*◌, ◌≤◌, ◌==◌, ◌&&◌, ◌++◌, ◌∷◌, Bool, false, ℕ, List, [], Option, Some}
-use Rattle.std.proofs.Common.{if◌then◌else◌, is_some, length, take, drop, refl, sym, ap}
-use Rattle.std.proofs.Common.{subst, ◌∙◌, append_assoc, append-nil, arith}
-use Rattle.std.proofs.Common.{bytes_eq, codes, filter, map, suc, true, ◌||◌, None}
-use Rattle.std.proofs.lemmas.Bool.{eq-eqb}
-use Rattle.std.specs.List.{flat_map}
-use Rattle.std.proofs.lemmas.List.{drop-drop, length-append, length-drop, map-append, take-append-le}
+-- Runs that are read at the front of a stimulus, and of all of it where it has no bad line.
+use Rattle.std.proofs.Common.{◌≡◌, ◌+◌, ◌*◌, ◌≤◌, ◌==◌, ◌&&◌, ◌++◌, ◌∷◌, if◌then◌else◌, ◌∙◌, ◌||◌, ◌≢◌, ◌<◌, rules}
+use Rattle.std.proofs.Common.{Bool, false, ℕ, List, [], Option, Some, is_some, length, take, drop, refl, sym, ap, subst}
+use Rattle.std.proofs.Common.{append_assoc, append-nil, arith, bytes_eq, codes, filter, map, suc, true, None, zero}
+use Rattle.std.proofs.Common.{option_map, ⊎_elim, flat_map, slice_index, eq-eqb, drop-drop, length-append, length-drop}
+use Rattle.std.proofs.Common.{length-take-le}
+use Rattle.std.proofs.lemmas.Bool.{cases_lt}
+use Rattle.std.proofs.lemmas.List.{map-append, take-append-le}
 use Rattle.std.proofs.lemmas.List.Concat.{flat_map-append}
+use Rattle.std.proofs.lemmas.Grind.{common_steps}
+use Rattle.std.proofs.lemmas.Slice.Eq.{bytes_eq-Decides}
 use Rattle.memchr.specs.Find.{IsFirstByte, is_byte}
 use Rattle.aig_circuit.specs.declared.value.Val.{Val}
-use Rattle.aig_lanes.specs.declared.run.Run.{Run}
+use Rattle.aig_lines.specs.Lines.{Line, line}
+use Rattle.aig_lines.proofs.Feeds.{kept_first, first_line}
+use Rattle.aig_lines.proofs.Pieces.{ended_piece}
 use Rattle.aig_step.specs.Stimulus.{Entry, Step, Stop, Stimulus, before_rest, entry_in, entry_of, judged_lines}
 use Rattle.aig_step.specs.Stimulus.{lines_say, stimulus, values_of, without_return}
 use Rattle.aig_step.specs.Parts.Lines.{vector_in}
-use Rattle.aig_batch.specs.Parts.RunsRead.{Says, entries_of_run}
-use Rattle.aig_lanes.specs.Parts.Vectors.{AreVectors, said, vectors_in}
-use Rattle.aig_lines.proofs.LineBytes.{kept_first}
 use Rattle.aig_step.proofs.LineValues.{vector_long, vector_says}
-use Rattle.aig_lanes.proofs.Side.Vectors.{more_vectors, vectors_push}
-use Rattle.aig_lines.proofs.LineBytes.{first_line}
-use Rattle.aig_lines.proofs.Tells.{lines_end}
-use Rattle.aig_rows.specs.Lines.{Line, line}
+use Rattle.aig_lanes.specs.declared.run.Run.{Run}
+use Rattle.aig_lanes.specs.Parts.Vectors.{AreVectors, said, vectors_in}
+use Rattle.aig_lanes.proofs.Side.Sheets.{more_vectors, vectors_push}
+use Rattle.aig_batch.specs.Parts.RunsRead.{Says, entries_of_run, HasNoBadLine}
 
 -- lines behind lines
 pub says_then : (inputs : ℕ) (bytes mid rest : List ℕ) (es fs : List Entry) → Says inputs bytes es mid
@@ -37,7 +37,7 @@ pub judged_first : (bytes : List ℕ) (next : ℕ) → IsFirstByte (is_byte 10) 
 judged_first bytes next found =
     let cut = first_line bytes next found in
     ap (λ (bs : List ℕ). judged_lines bs true) cut.1
-    ∙ ap (filter (λ (l : Line). l.ended || true)) (lines_end (take next bytes) (drop 1 (drop next bytes)) cut.0)
+    ∙ ap (filter (λ (l : Line). l.ended || true)) (ended_piece (take next bytes) (drop 1 (drop next bytes)) cut.0)
 
 -- what lines say does not depend on their numbers
 entry_before : (m n : ℕ) (o : Option Entry) (s t : Stimulus) → s.entries ≡ t.entries
@@ -68,7 +68,7 @@ stop_says : (inputs : ℕ) (text : List ℕ) → bytes_eq text (codes ".") ≡ t
 stop_says inputs text is = rw is refl
 
 -- as many characters as inputs
-pub vector_is : (inputs : ℕ) (text : List ℕ) → length text ≡ inputs → vector_in inputs text ≡ values_of text
+vector_is : (inputs : ℕ) (text : List ℕ) → length text ≡ inputs → vector_in inputs text ≡ values_of text
 vector_is inputs text long = rw (eq-eqb (length text) inputs long) refl
 
 module _ (inputs : ℕ) (bytes : List ℕ) (steps : List (List Val)) (before rest : List ℕ) (next : ℕ)
@@ -108,7 +108,7 @@ last_shorter true b = omega arith
 last_shorter false b = omega arith
 
 -- the text of a line is at its front
-pub text_in_front : (line : List ℕ) → without_return line ≡ take (length (without_return line)) line
+text_in_front : (line : List ℕ) → without_return line ≡ take (length (without_return line)) line
 text_in_front [] = refl
 text_in_front (b ∷ []) = last_cut ((b == 13) && true) b
 text_in_front (a ∷ b ∷ bs) =
@@ -116,7 +116,7 @@ text_in_front (a ∷ b ∷ bs) =
     ∙ ap (λ (t : List ℕ). a ∷ t) (text_in_front (b ∷ bs))
     ∙ ap (λ (t : List ℕ). take (length t) (a ∷ b ∷ bs)) (sym (kept_first a b bs))
 
-pub text_shorter : (line : List ℕ) → length (without_return line) ≤ length line
+text_shorter : (line : List ℕ) → length (without_return line) ≤ length line
 text_shorter [] = omega arith
 text_shorter (b ∷ []) = last_shorter ((b == 13) && true) b
 text_shorter (a ∷ b ∷ bs) = omega (arith, ap length (kept_first a b bs), text_shorter (b ∷ bs))
@@ -163,3 +163,88 @@ module _ (inputs stride steps next : ℕ) (bytes rest : List ℕ) (vector : List
       let sum : steps * stride + stride ≡ (steps + 1) * stride = omega (arith, one_more_step steps stride) in
       drop-drop 1 next rest ∙ ap (λ n. drop n rest) long ∙ ap (drop stride) rest_is
       ∙ drop-drop stride (steps * stride) bytes ∙ ap (λ n. drop n bytes) sum
+
+-- Lines of a stimulus that has no bad one.
+before_good : (number : ℕ) (o : Option Entry) (rest : Stimulus) → (before_rest number o rest).bad ≡ None
+    → ((e : Entry) × (o ≡ Some e)) × (rest.bad ≡ None)
+before_good number None rest is = cc
+before_good number (Some e) rest is = ((e, refl), is)
+
+-- the first line says something, and none behind it is bad
+pub good_line : (inputs : ℕ) (bytes : List ℕ) (next : ℕ) → IsFirstByte (is_byte 10) bytes (Some next)
+    → HasNoBadLine inputs bytes
+    → ((e : Entry) × (entry_in inputs (without_return (take next bytes)) ≡ Some e))
+    × HasNoBadLine inputs (drop 1 (drop next bytes))
+good_line inputs bytes next found good = grind (arith, common_steps, judged_first, before_good)
+
+no_stop : (stop long : Bool) (o : Option (List Val)) (e : Entry) → stop ≡ false
+    → (if stop then Some Stop else if long then option_map Step o else None) ≡ Some e
+    → (given : List Val) × ((if long then o else None) ≡ Some given)
+no_stop true long o e off is = cc
+no_stop false true (Some vs) e off is = (vs, refl)
+no_stop false true None e off is = cc
+no_stop false false o e off is = cc
+
+-- a line that ends no run is a step
+pub is_step : (inputs : ℕ) (text : List ℕ) (e : Entry) → entry_in inputs text ≡ Some e
+    → bytes_eq text (codes ".") ≡ false → (given : List Val) × (vector_in inputs text ≡ Some given)
+is_step inputs text e is off =
+    no_stop (bytes_eq text (codes ".")) (length text == inputs) (values_of text) e off is
+
+-- the first number that passes a test, where one does
+first_from : (test : ℕ → Bool) (i more : ℕ) → ((j : ℕ) → j < i → ¬ (test j ≡ true)) → test (i + more) ≡ true
+    → (k : ℕ) × (k ≤ i + more) × (test k ≡ true) × ((j : ℕ) → j < k → ¬ (test j ≡ true))
+first_from test i zero none at =
+    let same : i + zero ≡ i = omega arith in
+    (i, omega arith, subst (λ (n : ℕ). test n ≡ true) same at, none)
+first_from test i (suc more) none at =
+    let same : i + suc more ≡ i + 1 + more = omega arith in
+    elim (test i) as (λ (b : Bool). test i ≡ b
+    → (k : ℕ) × (k ≤ i + suc more) × (test k ≡ true) × ((j : ℕ) → j < k → ¬ (test j ≡ true))) [
+      | true ↦ λ here. (i, omega arith, here, none)
+      | false ↦ λ off.
+          let w = first_from test (i + 1) more
+          (λ j below passes. ⊎_elim (λ (b : j < i). none j b passes)
+          (λ (b : i ≤ j).
+          let e : j ≡ i = omega (arith, b, below) in
+          let never : true ≡ false = sym passes ∙ ap test e ∙ off in cc)
+          (cases_lt j i))
+          (subst (λ (n : ℕ). test n ≡ true) same at) in
+          (w.0, omega (arith, w.1), w.2, w.3)
+    ] refl
+
+begins : (b : ℕ) (bs : List ℕ) (n : ℕ) → n ≡ 1 → take n (b ∷ bs) ≡ codes "." → b ≡ 46
+begins b bs n one is =
+    let cut : take 1 (b ∷ bs) ≡ codes "." = subst (λ (m : ℕ). take m (b ∷ bs) ≡ codes ".") one is in cc
+
+-- a line that ends a run begins with its character
+begins_so : (bytes : List ℕ) (k : ℕ) → without_return (take k bytes) ≡ codes "." → slice_index bytes 0 ≡ 46
+begins_so bytes zero is = cc
+begins_so [] (suc k) is = cc
+begins_so (b ∷ bs) (suc k) is =
+    let text = without_return (b ∷ take k bs) in
+    begins b (take k bs) (length text) (ap length is) (sym (text_in_front (b ∷ take k bs)) ∙ is)
+
+-- where the first line ends no run, its line feed is behind the inputs
+pub step_ends : (inputs : ℕ) (bytes : List ℕ) → HasNoBadLine inputs bytes → inputs < length bytes
+    → slice_index bytes inputs ≡ 10 → slice_index bytes 0 ≢ 46 → IsFirstByte (is_byte 10) bytes (Some inputs)
+step_ends inputs bytes good there at other =
+    let test : ℕ → Bool = λ k. is_byte 10 (slice_index bytes k) in
+    let all : inputs ≡ 0 + inputs = omega arith in
+    let here : test inputs ≡ true = ap (is_byte 10) at in
+    let w = first_from test 0 inputs (λ j below _. omega (arith, below)) (subst (λ n. test n ≡ true) all here) in
+    let k : ℕ = w.0 in
+    let found : IsFirstByte (is_byte 10) bytes (Some k) =
+    (record { low = omega arith; high = omega (arith, w.1, there); before = λ j _ below. w.3 j below }, w.2) in
+    let text = without_return (take k bytes) in
+    let entry = (good_line inputs bytes k found good).0 in
+    let off : bytes_eq text (codes ".") ≡ false =
+    elim (bytes_eq text (codes ".")) as (λ (b : Bool). bytes_eq text (codes ".") ≡ b → b ≡ false) [
+      | true ↦ λ stop. absurd (other (begins_so bytes k ((bytes_eq-Decides text (codes ".")).0 stop)))
+      | false ↦ λ _. refl
+    ] refl in
+    let step = is_step inputs text entry.0 entry.1 off in
+    let long : length text ≡ inputs = vector_long inputs text step.0 step.1 in
+    let same : k ≡ inputs =
+    omega (arith, long, text_shorter (take k bytes), length-take-le k bytes (omega (arith, w.1, there)), w.1) in
+    subst (λ (n : ℕ). IsFirstByte (is_byte 10) bytes (Some n)) same found

@@ -1,7 +1,6 @@
--- The binary file of a circuit is read as the circuit.
-use Rattle.std.proofs.Common.{rules}
-use Rattle.std.proofs.Common.{◌≡◌, ◌+◌, ◌≤◌, ℕ, suc, min, List, [], ◌∷◌, ◌++◌, length, map, Ok, refl, sym, ap}
-use Rattle.std.proofs.Common.{ap₂, subst, ◌∙◌, add-one, arith}
+-- The binary file of a circuit is read as the circuit; and the first fault of a file.
+use Rattle.std.proofs.Common.{◌≡◌, ◌+◌, ◌≤◌, ◌∷◌, ◌++◌, ◌∙◌, ◌⊎◌, rules, ℕ, suc, min, List, [], length, map, Ok, refl}
+use Rattle.std.proofs.Common.{sym, ap, ap₂, subst, add-one, arith, None, Result, Err, inl, inr}
 use Rattle.std.specs.List.{AllByRecursion, range_with_len, sum}
 use Rattle.std.proofs.lemmas.List.{length-map}
 use Rattle.aig_circuit.specs.declared.circuit.TheConstants.{LARGEST}
@@ -10,30 +9,32 @@ use Rattle.aig_circuit.specs.declared.circuit.Latch.{Latch}
 use Rattle.aig_circuit.specs.declared.circuit.Gate.{Gate}
 use Rattle.aig_circuit.specs.declared.circuit.Circuit.{Circuit}
 use Rattle.aig_circuit.specs.Literal.{literal_of}
-use Rattle.aig_core.specs.Names.{nothing_named}
 use Rattle.aig_circuit.specs.Form.{IsInForm, IsLiteralUpTo}
+use Rattle.aig_circuit.proofs.Alike.{latch}
+use Rattle.aig_circuit.proofs.Checking.{well_formed_in_form}
 use Rattle.aig_checked.specs.BinaryOrder.{IsInBinaryOrder}
-use Rattle.aig_circuit.proofs.Makers.{latch}
-use Rattle.aig_circuit.proofs.Checking.Fitting.{well_formed_in_form}
-use Rattle.aig_text.specs.declared.header_line.Header.{Header}
-use Rattle.aig_rows.specs.Lines.{Line, ahead, lines_of, bytes_of}
-use Rattle.aig_text.specs.Sections.{latches_from, sections, in_binary}
+use Rattle.aig_core.specs.Names.{nothing_named}
+use Rattle.aig_lines.specs.Lines.{Line, ahead, lines_of, bytes_of}
+use Rattle.aig_lines.proofs.Cutting.{pieces}
+use Rattle.aig_lines.proofs.Pieces.{lines_joined}
 use Rattle.aig_rows.specs.Rows.{next_form, next_row}
-use Rattle.aig_text.specs.Reading.{header_of, sections_at, empty_circuit, tail_at}
-use Rattle.aig_rows.proofs.Loops.Cutting.{pieces}
+use Rattle.aig_rows.specs.declared.fault.ReadFault.{ReadFault}
+use Rattle.aig_rows.specs.Reading.{want_of_memory}
 use Rattle.aig_rows.proofs.Grammar.Entries.{IsGoodRow, AreGoodRows, IsLatchUpTo, good_reset, reset_told, all_mapped}
+use Rattle.aig_text.specs.declared.header_line.Header.{Header}
+use Rattle.aig_text.specs.Sections.{latches_from, sections, in_binary}
+use Rattle.aig_text.specs.Reading.{header_of, sections_at, empty_circuit, tail_at, fault_of, IsFirstFault}
 use Rattle.aig_text.proofs.Grammar.Headers.{own_header, header_is_found, sizes_in_both}
-use Rattle.aig_rows.proofs.Grammar.Pieces.{lines_joined}
 use Rattle.aig_text.proofs.Grammar.Sections.{FoundIn, AllFit, with_all, own_found, own_rows, sections_are_found, bare}
 use Rattle.aig_text.proofs.Grammar.Sections.{latches_up_to, literals_again}
-use Rattle.aig_text.proofs.Grammar.WholeTail.{own_tail}
+use Rattle.aig_text.proofs.Grammar.Tail.{own_tail}
 use Rattle.aig_binary.specs.BinaryGrammar.{binary_word, IsBinaryText}
 use Rattle.aig_binary.specs.BinaryReading.{filled, gates_at, with_definitions, binary_at, binary_reading}
-use Rattle.aig_binary.proofs.Grammar.Gates.{gates_found}
-use Rattle.aig_binary.proofs.Grammar.Numbered.{numbered_circuit, no_rows}
+use Rattle.aig_binary.specs.BinaryReading.{first_binary_fault}
+use Rattle.aig_binary.proofs.Grammar.Lines.{gates_found, numbered_circuit, no_rows}
 
 -- latches of this variable and the next ones are those of their rows
-pub latches_again : (variable : ℕ) (ls : List Latch) → 1 ≤ variable
+latches_again : (variable : ℕ) (ls : List Latch) → 1 ≤ variable
     → map (λ (l : Latch). l.var) ls ≡ range_with_len variable (length ls) → latches_from variable (map next_row ls) ≡ ls
 unfolding latches_from
 latches_again variable [] low e = refl
@@ -149,3 +150,36 @@ module _ (text : List ℕ) (limit : ℕ) (c : Circuit) (a : IsBinaryText text li
       (refl, (refl, (refl, tt))) a.is_header a.limited a.well_formed.limits fits)
       (own_filled (min limit LARGEST) c a.ordered) s.1 (pieces (a.gates ++ a.rest)).joined
       (gates_found (1 + length c.inputs + length c.latches) 1 a.gates a.rest c.gates a.are_gates a.ordered.gates) t
+
+-- The first fault of a binary file.
+
+-- what has no fault is read
+no_fault_is_ok : {A : Type 0} (r : Result A ReadFault) → fault_of r ≡ None → (x : A) × (r ≡ Ok x)
+no_fault_is_ok (Ok x) h = (x, refl)
+no_fault_is_ok (Err e) h = cc
+
+pub read_without_fault : (limit : ℕ) (text : List ℕ) → first_binary_fault limit text ≡ None
+    → (c : Circuit) × (binary_reading limit text ≡ Ok c)
+read_without_fault limit text h = no_fault_is_ok (binary_reading limit text) h
+
+-- the fault of a line or a gate is the first fault
+pub line_fault : (limit : ℕ) (text : List ℕ) (e : ReadFault)
+    → (e ≡ want_of_memory) ⊎ (binary_at limit (lines_of text) ≡ Err e) → IsFirstFault e (first_binary_fault limit text)
+line_fault limit text e (inl m) = inl m
+line_fault limit text e (inr h) = inr (ap fault_of h)
+
+-- the file of a circuit has no fault
+pub no_fault : (limit : ℕ) (text : List ℕ) (c : Circuit) → IsBinaryText text limit c
+    → first_binary_fault limit text ≡ None
+no_fault limit text c a = ap fault_of (accepted_is_read text limit c a)
+
+-- a text that is the file of a circuit is refused only for want of memory
+pub memory_only : (limit : ℕ) (text : List ℕ) (c : Circuit) (e : ReadFault)
+    → IsFirstFault e (first_binary_fault limit text) → IsBinaryText text limit c → e ≡ want_of_memory
+memory_only limit text c e (inl m) a = m
+memory_only limit text c e (inr h) a = let none : first_binary_fault limit text ≡ None = no_fault limit text c a in cc
+
+-- and it is the file of no other circuit
+pub one_circuit : (limit : ℕ) (text : List ℕ) (c d : Circuit) → binary_reading limit text ≡ Ok d
+    → IsBinaryText text limit c → d ≡ c
+one_circuit limit text c d h a = let same : binary_reading limit text ≡ Ok c = accepted_is_read text limit c a in cc

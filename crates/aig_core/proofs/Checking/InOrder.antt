@@ -1,7 +1,6 @@
 -- Where gates stand after those that they use, no gate depends on a cycle and each operand is known.
-use Rattle.std.proofs.Common.{rules}
-use Rattle.std.proofs.Common.{◌≡◌, ◌<◌, ◌≤◌, ℕ, zero, suc, List, [], ◌∷◌, ◌++◌, Bool, true, false, ◌||◌, cond}
-use Rattle.std.proofs.Common.{eqb, Option, None, Some, length, map, refl, sym, ap, subst, ◌∙◌, ⊎_elim, arith}
+use Rattle.std.proofs.Common.{◌≡◌, ◌<◌, ◌≤◌, ◌∷◌, ◌++◌, ◌||◌, ◌∙◌, rules, ℕ, zero, suc, List, [], Bool, true, false}
+use Rattle.std.proofs.Common.{cond, eqb, Option, None, Some, length, map, refl, sym, ap, subst, ⊎_elim, arith}
 use Rattle.std.specs.List.{concat, flat_map}
 use Rattle.std.specs.Option.{is_none, option_or}
 use Rattle.std.specs.Ordering.{nat_cmp}
@@ -18,7 +17,7 @@ use Rattle.aig_circuit.specs.Form.{IsInForm}
 use Rattle.aig_topo.specs.Order.{gate_operands, ends_within, first_cyclic}
 use Rattle.aig_core.specs.Fault.{first_repeat, first_unknown, first_structural_fault, with_all, is_known}
 use Rattle.aig_core.specs.Parts.InOrder.{are_in_order, has_gates_in_order}
-use Rattle.aig_circuit.proofs.Checking.Fitting.{each}
+use Rattle.aig_circuit.proofs.Checking.{each}
 use Rattle.aig_core.proofs.Checking.Faultless.{no_repeat, apart, kept}
 use Rattle.aig_core.proofs.Checking.Sections.{repeat_append, unknown_append, with_all_append}
 use Rattle.aig_topo.proofs.Ordering.Cyclic.{all_true, and_left, and_right, find_none, among_last}

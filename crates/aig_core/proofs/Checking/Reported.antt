@@ -1,7 +1,6 @@
 -- The first repeat, the first unknown literal and the first fault, without the set of what was seen.
-use Rattle.std.proofs.Common.{rules}
-use Rattle.std.proofs.Common.{◌≡◌, ◌<◌, ◌*◌, ℕ, List, [], ◌∷◌, ◌++◌, Bool, true, false, cond, Option, None, Some}
-use Rattle.std.proofs.Common.{length, refl, sym, ap, subst, ◌∙◌, ⊎_elim, ◌↔◌, arith, true≢false}
+use Rattle.std.proofs.Common.{◌≡◌, ◌<◌, ◌*◌, ◌∷◌, ◌++◌, ◌∙◌, ◌↔◌, rules, ℕ, List, [], Bool, true, false, cond, Option}
+use Rattle.std.proofs.Common.{None, Some, length, refl, sym, ap, subst, ⊎_elim, arith, true≢false}
 use Rattle.std.specs.List.{AllByRecursion, position, position_or_len, slice_get}
 use Rattle.std.specs.Option.{option_map, option_or}
 use Rattle.std.specs.Ordering.{nat_cmp}
@@ -22,8 +21,7 @@ use Rattle.aig_topo.specs.Order.{gate_operands, TakesLeast, IsFull, IsLeastReady
 use Rattle.aig_core.specs.Laws.{IsFirstRepeat, IsFirstUnknown, IsFirstLeftOut, IsFullyDefined}
 use Rattle.aig_core.proofs.Checking.Sections.{repeat_append, unknown_append}
 use Rattle.aig_core.proofs.Checking.Faultless.{distinct, nothing_repeats, none_in_empty, not_true, found, taken}
-use Rattle.aig_core.proofs.Checking.Faultless.{known_is}
-use Rattle.aig_core.proofs.Checking.Faultless.{known_told, all_known, none_unknown, ranked_where_none_cyclic}
+use Rattle.aig_core.proofs.Checking.Faultless.{known_is, known_told, all_known, none_unknown, ranked_where_none_cyclic}
 use Rattle.aig_topo.proofs.Ordering.LeastReady.{a_least_ready_order}
 use Rattle.aig_topo.proofs.Ordering.Ranked.{no_gate, at, rank_exactly_where_all_are_ordered}
 use Rattle.aig_topo.proofs.Ordering.Cyclic.{free, placed_where_free, none_cyclic}

@@ -1,25 +1,85 @@
 -- Repeats, unknown literals and faults over sections end to end, as the loops over each section tell them.
-use Rattle.std.proofs.Common.{◌≡◌, ℕ, List, [], ◌∷◌, ◌++◌, true, false, cond, Option, None, Some}
-use Rattle.std.proofs.Common.{refl, sym, ap, ◌∙◌, inl, ⊎_elim, map, arith}
-use Rattle.std.specs.List.{concat, flat_map}
+use Rattle.std.proofs.Common.{◌≡◌, ◌+◌, ◌∷◌, ◌++◌, ◌∙◌, ◌==◌, ◌||◌, ◌<◌, ℕ, List, [], length, map, take, drop, fold}
+use Rattle.std.proofs.Common.{refl, sym, ap, ap₂, arith, true, false, cond, Option, None, Some, inl, ⊎_elim, nat_lt}
+use Rattle.std.proofs.Common.{get_or}
+use Rattle.std.specs.List.{concat, sum, flat_map, list_any}
 use Rattle.std.specs.Option.{option_map, option_or}
 use Rattle.std.specs.Ordering.{nat_cmp}
 use Rattle.std.specs.FinSet as set
-use Rattle.std.specs.FinSet.{FinSet}
+use Rattle.std.specs.FinSet.{FinSet, contains-insert}
+use Rattle.std.specs.Cmp.{unsigned_tied}
+use Rattle.std.proofs.lemmas.List.{take-append-drop, length-append, length-drop, length-take-le, map-id, drop_more}
+use Rattle.std.proofs.Math.Seq.{drop-append_seam, take-append_seam}
 use Rattle.std.proofs.lemmas.Grind.{common_steps}
-use Rattle.std.proofs.lemmas.List.{map-id}
 use Rattle.std.proofs.lemmas.List.Concat.{flat_map_single}
+use Rattle.std.proofs.lemmas.Cmp.{nat_cmp_total}
+use Rattle.aig_circuit.specs.declared.circuit.Justice.{Justice}
+use Rattle.aig_circuit.specs.Justice.{literals_of_each, properties_of, end_to_end}
 use Rattle.aig_circuit.specs.declared.circuit.Latch.{Latch}
 use Rattle.aig_circuit.specs.declared.circuit.Gate.{Gate}
 use Rattle.aig_circuit.specs.declared.circuit.Circuit.{Circuit}
+use Rattle.aig_circuit.specs.Wellformed.{defined_variables, literal_lists, used_literals, operands}
+use Rattle.aig_circuit.specs.Literal.{variable_of}
+use Rattle.aig_circuit.proofs.Checking.{defined_inputs, defined_latches, defined_gates, used_nexts, defined_is}
+use Rattle.aig_tables.specs.VarMap.{link_to}
+use Rattle.aig_topo.specs.Order.{first_cyclic, gate_of}
+use Rattle.aig_topo.specs.Needs.{needs_of}
 use Rattle.aig_core.specs.declared.fault.CheckFault.{CheckFault}
 use Rattle.aig_core.specs.declared.fault.CheckFault.TheVariants.{Redefined, Cyclic}
-use Rattle.aig_circuit.specs.Wellformed.{defined_variables, literal_lists, used_literals, operands}
-use Rattle.aig_core.specs.Fault.{first_repeat, first_redefinition, first_unknown, first_undefined, first_structural_fault}
-use Rattle.aig_core.specs.Fault.{with_all, is_known, IsFault}
-use Rattle.aig_topo.specs.Order.{first_cyclic}
-use Rattle.aig_circuit.proofs.Checking.Joined.{defined_inputs, defined_latches, defined_gates, used_nexts}
-use Rattle.aig_circuit.proofs.Checking.Joined.{defined_is}
+use Rattle.aig_core.specs.Fault.{first_repeat, first_redefinition, first_unknown, first_undefined}
+use Rattle.aig_core.specs.Fault.{first_structural_fault, with_all, is_known, IsFault}
+
+sum_from : (a : ℕ) (ns : List ℕ) → fold (λ s n. s + n) a ns ≡ a + fold (λ s n. s + n) 0 ns
+sum_from a [] = omega arith
+sum_from a (n ∷ ns) = sum_from (a + n) ns ∙ rw (sum_from (0 + n) ns) (omega arith)
+
+pub sum_cons : (n : ℕ) (ns : List ℕ) → sum (n ∷ ns) ≡ n + sum ns
+sum_cons n ns = sum_from (0 + n) ns ∙ omega arith
+
+-- the literals are enough for the first size, and what is left is enough for the others
+long_enough : (size : ℕ) (sizes literals : List ℕ) → sum (size ∷ sizes) ≡ length literals
+    → (length (take size literals) ≡ size) × (sum sizes ≡ length (drop size literals))
+long_enough size sizes literals h =
+    let all : size + sum sizes ≡ length literals = sym (sum_cons size sizes) ∙ h in
+    (length-take-le size literals (omega (arith, all)), rw (length-drop size literals) (omega (arith, all)))
+
+sizes_again : (sizes literals : List ℕ) → sum sizes ≡ length literals
+    → map length (literals_of_each sizes literals) ≡ sizes
+sizes_again [] literals h = refl
+sizes_again (size ∷ sizes) literals h =
+    let enough = long_enough size sizes literals h in
+    ap₂ (λ n (ns : List ℕ). n ∷ ns) enough.0 (sizes_again sizes (drop size literals) enough.1)
+
+literals_again : (sizes literals : List ℕ) → sum sizes ≡ length literals
+    → concat (literals_of_each sizes literals) ≡ literals
+literals_again [] [] h = refl
+literals_again [] (l ∷ ls) h = absurd (omega (arith, h))
+literals_again (size ∷ sizes) literals h =
+    let enough = long_enough size sizes literals h in
+    ap (λ (ls : List ℕ). take size literals ++ ls) (literals_again sizes (drop size literals) enough.1)
+    ∙ take-append-drop size literals
+
+abbrev justice : List ℕ → List ℕ → Justice
+justice sizes literals = record { sizes = sizes; literals = literals }
+
+pub justice_is_of_lists : (j : Justice) → sum j.sizes ≡ length j.literals → end_to_end (properties_of j) ≡ j
+justice_is_of_lists j h = ap₂ justice (sizes_again j.sizes j.literals h) (literals_again j.sizes j.literals h)
+
+lists_again : (properties : List (List ℕ)) → literals_of_each (map length properties) (concat properties) ≡ properties
+lists_again [] = refl
+lists_again (p ∷ ps) = ap₂ (λ q (qs : List (List ℕ)). q ∷ qs) (take-append_seam p (concat ps))
+    (ap (literals_of_each (map length ps)) (drop-append_seam p (concat ps)) ∙ lists_again ps)
+
+sizes_fit : (properties : List (List ℕ)) → sum (map length properties) ≡ length (concat properties)
+sizes_fit [] = refl
+sizes_fit (p ∷ ps) =
+    sum_cons (length p) (map length ps) ∙ ap (λ n. length p + n) (sizes_fit ps) ∙ sym (length-append p (concat ps))
+
+pub lists_are_justice : (properties : List (List ℕ)) → (properties_of (end_to_end properties) ≡ properties)
+    × (sum (end_to_end properties).sizes ≡ length (end_to_end properties).literals)
+lists_are_justice properties = (lists_again properties, sizes_fit properties)
+
+-- Repeats, unknown literals and faults over sections end to end, as the loops over each section tell them.
 
 -- what they go through before the gates
 before_is : (c : Circuit)
@@ -119,7 +179,7 @@ pub unknown_ends : (s : FinSet nat_cmp) (c : Circuit)
 unknown_ends s c = rw (flat_map_single (λ (l : Latch). l.next) c.latches)
     (sym (unknown_append s (map (λ (l : Latch). l.next) c.latches) (concat (literal_lists c))))
 
-pub unknowns : (s : FinSet nat_cmp) (c : Circuit)
+unknowns : (s : FinSet nat_cmp) (c : Circuit)
     → option_or (first_unknown s (map (λ (l : Latch). l.next) c.latches ++ concat (literal_lists c)))
     (first_unknown s (flat_map operands c.gates)) ≡ first_unknown s (used_literals c)
 unknowns s c =
@@ -134,3 +194,46 @@ pub fault_of_gates : (c : Circuit) → first_repeat set.empty (defined_variables
     ≡ option_or (first_undefined (with_all set.empty (defined_variables c)) (flat_map operands c.gates))
     (option_map Cyclic (first_cyclic c.gates))
 fault_of_gates c once ends = grind (arith, common_steps, once, ends, unknowns (with_all set.empty (defined_variables c)) c)
+
+-- What is known of operands by what gates need.
+
+-- a gate defines the variable, or it was there before
+has_of_gates : (s : FinSet nat_cmp) (gates : List Gate) (v : ℕ)
+    → set.contains (with_all s (map (λ (g : Gate). g.var) gates)) v
+    ≡ (list_any (λ (g : Gate). g.var == v) gates || set.contains s v)
+has_of_gates s [] v = refl
+has_of_gates s (g ∷ gs) v =
+    let more = contains-insert nat_cmp_total s g.var v in
+    grind (arith, common_steps, more, unsigned_tied v g.var, has_of_gates (set.insert s g.var) gs v)
+
+-- there is a link to the gate that defines the variable exactly where one does
+link_told : (gates : List Gate) (v : ℕ)
+    → nat_lt 0 (link_to (gate_of gates v)) ≡ list_any (λ (g : Gate). g.var == v) gates
+link_told [] v = refl
+link_told (g ∷ gs) v = grind (arith, common_steps, link_told gs v)
+
+-- what the circuit defines is defined before gates, or a gate that is linked to defines it
+known_by_needs : (c : Circuit) (literal : ℕ)
+    → is_known (with_all set.empty (defined_variables c)) literal
+    ≡ (nat_lt 0 (link_to (gate_of c.gates (variable_of literal)))
+    || is_known (with_all set.empty (c.inputs ++ map (λ (l : Latch). l.var) c.latches)) literal)
+known_by_needs c literal =
+    let before = with_all set.empty (c.inputs ++ map (λ (l : Latch). l.var) c.latches) in
+    let v = variable_of literal in
+    grind (arith, common_steps, has_of_gates before c.gates v, link_told c.gates v, with_all_append)
+
+-- the first unknown operand from a gate on is one of its own, or else that from the next one on
+module _ (c : Circuit) (at : ℕ) (g : Gate) (below : at < length c.gates) (is : g ≡ get_or c.gates at g) where
+  abbrev pub all_of : set.FinSet nat_cmp
+  all_of = with_all set.empty (defined_variables c)
+
+  abbrev pub before_of : set.FinSet nat_cmp
+  before_of = with_all set.empty (c.inputs ++ map (λ (l : Latch). l.var) c.latches)
+
+  pub unknown_from : first_unknown all_of (flat_map operands (drop at c.gates))
+      ≡ cond (nat_lt 0 (needs_of c.gates g).left || is_known before_of g.left)
+      (cond (nat_lt 0 (needs_of c.gates g).right || is_known before_of g.right)
+      (first_unknown all_of (flat_map operands (drop (at + 1) c.gates))) (Some g.right)) (Some g.left)
+  unknown_from =
+      let more = drop_more c.gates at g below in
+      grind (arith, common_steps, more, is, known_by_needs c g.left, known_by_needs c g.right)

@@ -1,6 +1,7 @@
-//! Whether a circuit defines each variable once, where its variables are spread: they are put into parts, and a set is
-//! made of one part after the other.
-ghost use Rattle.std.specs.Prelude.{◌≡◌, ◌↔◌, ◌<◌, ◌++◌, ◌∷◌, [], List, ℕ, IsTrue, IfOk, OnOk, length};
+//! Whether a circuit defines each variable once, where its variables are spread: they are put into
+//! parts, and a set is made of one part after the other.
+ghost use Rattle.std.specs.Prelude.{◌≡◌, ◌↔◌, ◌<◌, ◌++◌, ◌∷◌, [], List};
+ghost use Rattle.std.specs.Prelude.{ℕ, IsTrue, IfOk, OnOk, length};
 ghost use Rattle.std.specs.Prelude.{slice_index_or};
 ghost use Rattle.std.specs.List.{flat_map};
 ghost use Rattle.aig_circuit.specs.Wellformed.{AreDistinct, defined_variables};
@@ -12,8 +13,8 @@ use aig_circuit::{Circuit, Entry, Listing, OutOfMemory, Var};
 use aig_tables::VarSet;
 use std::alloc::Global;
 
-/// How many parts there are. Of a million variables a part has some thousands, and a set of so many stays near the
-/// processor, where one of all variables would be waited for at each of them.
+/// How many parts there are. Of a million variables a part has some thousands, and a set of so many
+/// stays near the processor, where one of all variables would be waited for at each of them.
 const PARTS: usize = 256;
 
 /// From so many indices for each definition on, a set of variables has no bit for each index.
@@ -27,7 +28,6 @@ pub(super) fn is_spread(circuit: &Circuit) -> bool {
     circuit.max_var as usize >= most
 }
 
-/// Empty parts.
 fn empty_parts(alloc: Global) -> Result<Vec<Listing<Var>>, OutOfMemory>
     ensures { IfOk result (λ parts. AreParts parts.items []) }
 {
@@ -43,13 +43,13 @@ fn empty_parts(alloc: Global) -> Result<Vec<Listing<Var>>, OutOfMemory>
 fn put(parts: &mut [Listing<Var>], variable: Var) -> Result<(), OutOfMemory>
     requires { length parts.old ≡ PARTS }
     ensures many { length parts.new ≡ PARTS }
-    ensures put { OnOk result ((all : List ℕ) → AreParts parts.old all → AreParts parts.new (all ++ variable ∷ [])) }
+    ensures put { OnOk result ((all : List ℕ) → AreParts parts.old all
+        → AreParts parts.new (all ++ variable ∷ [])) }
 {
     parts[variable.0 as usize % PARTS].push(variable)?;
     Ok(())
 }
 
-/// Puts the variable that an entry defines into its part, where it defines one.
 #[inline(always)]
 fn put_definition<T: Entry>(parts: &mut [Listing<Var>], entry: &T) -> Result<(), OutOfMemory>
     requires { length parts.old ≡ PARTS }
@@ -63,7 +63,6 @@ fn put_definition<T: Entry>(parts: &mut [Listing<Var>], entry: &T) -> Result<(),
     }
 }
 
-/// Puts the variables that the entries of a section define into their parts.
 fn put_all<T: Entry>(parts: &mut [Listing<Var>], entries: &Listing<T>) -> Result<(), OutOfMemory>
     requires { length parts.old ≡ PARTS }
     ensures many { length parts.new ≡ PARTS }
@@ -76,7 +75,6 @@ fn put_all<T: Entry>(parts: &mut [Listing<Var>], entries: &Listing<T>) -> Result
     Ok(())
 }
 
-/// Whether no variable stands in a part twice.
 fn is_distinct(alloc: Global, part: &Listing<Var>, largest: u32) -> Result<bool, OutOfMemory>
     ensures { IfOk result (λ once. IsTrue once ↔ AreDistinct part.now) }
 {
@@ -88,7 +86,6 @@ fn is_distinct(alloc: Global, part: &Listing<Var>, largest: u32) -> Result<bool,
     }
 }
 
-/// Whether no variable stands in one of the parts twice.
 fn are_distinct(alloc: Global, parts: &[Listing<Var>], largest: u32) -> Result<bool, OutOfMemory>
     ensures { IfOk result (λ once. IsTrue once
         ↔ ((k : ℕ) → k < length parts.now → AreDistinct (slice_index_or parts.now k []))) }
@@ -101,7 +98,6 @@ fn are_distinct(alloc: Global, parts: &[Listing<Var>], largest: u32) -> Result<b
     Ok(true)
 }
 
-/// Whether no variable of a circuit is defined twice.
 pub(super) fn is_defined_once_by_parts(
     alloc: Global,
     circuit: &Circuit,

@@ -1,11 +1,13 @@
-//! What is wrong with a circuit: the first variable that is defined twice, or else the first literal that is used and
-//! not defined, or else the first gate that depends on a cycle.
-ghost use Rattle.std.specs.Prelude.{◌≡◌, ◌≤◌, ◌||◌, ◌*◌, ◌++◌, IfOk, IfErr, OnOk, None, Some, length, map, nat_lt, if◌then◌else◌};
+//! What is wrong with a circuit: the first variable that is defined twice, or else the first
+//! literal that is used and not defined, or else the first gate that depends on a cycle.
+ghost use Rattle.std.specs.Prelude.{◌≡◌, ◌≤◌, ◌||◌, ◌*◌, ◌++◌, IfOk, IfErr, OnOk};
+ghost use Rattle.std.specs.Prelude.{None, Some, length, map, nat_lt, if◌then◌else◌};
 ghost use Rattle.std.specs.List.{concat, flat_map};
 ghost use Rattle.std.specs.Option.{option_map, option_to_list, IfSome};
 ghost use Rattle.std.specs.FinSet as set;
 ghost use Rattle.aig_circuit.specs.Wellformed.{defined_variables, literal_lists, operands};
-ghost use Rattle.aig_core.specs.Fault.{first_structural_fault, first_repeat, first_redefinition, first_unknown};
+ghost use Rattle.aig_core.specs.Fault.{first_structural_fault, first_repeat};
+ghost use Rattle.aig_core.specs.Fault.{first_redefinition, first_unknown};
 ghost use Rattle.aig_core.specs.Fault.{first_undefined, with_all, is_known, IsFault};
 ghost use Rattle.aig_circuit.specs.Form.{IsInForm};
 ghost use Rattle.aig_topo.specs.Order.{first_cyclic, IsLeastReadyOrder};
@@ -21,11 +23,11 @@ use aig_tables::VarSet;
 use aig_topo::{GateNeeds, Needs, Order, first_cyclic_gate, order_by_needs};
 use std::alloc::Global;
 
-/// Adds the variable that an entry defines to those that were seen, unless it was seen before.
 fn define<T: Entry>(seen: &mut VarSet, entry: &T) -> Result<(), CheckFault>
     ensures seen { OnOk result (seen.new ≡ with_all seen.old (T.defined entry.now)) }
     ensures ok { OnOk result (first_repeat seen.old (T.defined entry.now) ≡ None) }
-    ensures err { IfErr result (λ e. IsFault e (first_redefinition seen.old (T.defined entry.now))) }
+    ensures err { IfErr result (λ e. IsFault e
+        (first_redefinition seen.old (T.defined entry.now))) }
 {
     if let Some(variable) = entry.definition() {
         if !seen.insert(variable)? {
@@ -35,7 +37,6 @@ fn define<T: Entry>(seen: &mut VarSet, entry: &T) -> Result<(), CheckFault>
     Ok(())
 }
 
-/// Adds the variables of a section to those that were seen, unless one of them was seen before.
 #[tactic(auto, using(crate::proofs::Checking::Sections::joined_lists))]
 pub(super) fn define_all<T: Entry>(
     seen: &mut VarSet,
@@ -43,7 +44,8 @@ pub(super) fn define_all<T: Entry>(
 ) -> Result<(), CheckFault>
     ensures seen { OnOk result (seen.new ≡ with_all seen.old (flat_map T.defined entries.now)) }
     ensures ok { OnOk result (first_repeat seen.old (flat_map T.defined entries.now) ≡ None) }
-    ensures err { IfErr result (λ e. IsFault e (first_redefinition seen.old (flat_map T.defined entries.now))) }
+    ensures err { IfErr result (λ e. IsFault e
+        (first_redefinition seen.old (flat_map T.defined entries.now))) }
 {
     for entry in entries.as_slice() {
         define(seen, entry)?;
@@ -59,14 +61,12 @@ fn knows(variables: &VarSet, literal: Lit) -> bool
     variable.0 == 0 || variables.contains(variable)
 }
 
-/// The literal, if there is one and it is no constant and over none of the variables.
 fn unknown(variables: &VarSet, literal: Option<Lit>) -> Option<Lit>
     ensures { result ≡ first_unknown variables.now (option_to_list literal) }
 {
     literal.filter(|literal| !knows(variables, *literal))
 }
 
-/// The first of these literals that is no constant and over none of the variables.
 fn unknown_among(variables: &VarSet, literals: &[Lit]) -> Option<Lit>
     ensures { result ≡ first_unknown variables.now literals.now }
 {
@@ -78,7 +78,6 @@ fn unknown_among(variables: &VarSet, literals: &[Lit]) -> Option<Lit>
     None
 }
 
-/// The first literal of an entry that is no constant and over none of the variables.
 #[inline(always)]
 fn unknown_use<T: Entry>(variables: &VarSet, entry: &T) -> Option<Lit>
     ensures { result ≡ first_unknown variables.now (T.used entry.now) }
@@ -89,7 +88,6 @@ fn unknown_use<T: Entry>(variables: &VarSet, entry: &T) -> Option<Lit>
         .or_else(|| unknown_among(variables, uses.others))
 }
 
-/// The first literal of a section that is no constant and over none of the variables.
 #[tactic(auto, using(crate::proofs::Checking::Sections::joined_lists))]
 fn first_unknown_use<T: Entry>(variables: &VarSet, entries: &Listing<T>) -> Option<Lit>
     ensures { result ≡ first_unknown variables.now (flat_map T.used entries.now) }
@@ -102,14 +100,16 @@ fn first_unknown_use<T: Entry>(variables: &VarSet, entries: &Listing<T>) -> Opti
     None
 }
 
-/// Adds the variables of a section to those that were seen, unless one of them was seen before. Answers whether each
-/// entry uses nothing but constants and what was seen before it.
+/// Adds the variables of a section to those that were seen, unless one of them was seen before.
+/// Answers whether each entry uses nothing but constants and what was seen before it.
 #[tactic(auto, using(crate::proofs::Checking::Sections::joined_lists))]
 fn define_in_order<T: Entry>(seen: &mut VarSet, entries: &Listing<T>) -> Result<bool, CheckFault>
     ensures seen { OnOk result (seen.new ≡ with_all seen.old (flat_map T.defined entries.now)) }
     ensures ok { OnOk result (first_repeat seen.old (flat_map T.defined entries.now) ≡ None) }
-    ensures in_order { IfOk result (λ in_order. in_order ≡ are_in_order T.defined T.used seen.old entries.now) }
-    ensures err { IfErr result (λ e. IsFault e (first_redefinition seen.old (flat_map T.defined entries.now))) }
+    ensures in_order { IfOk result (λ in_order. in_order
+        ≡ are_in_order T.defined T.used seen.old entries.now) }
+    ensures err { IfErr result (λ e. IsFault e
+        (first_redefinition seen.old (flat_map T.defined entries.now))) }
 {
     let mut in_order = true;
     for entry in entries.as_slice() {
@@ -119,18 +119,20 @@ fn define_in_order<T: Entry>(seen: &mut VarSet, entries: &Listing<T>) -> Result<
     Ok(in_order)
 }
 
-/// The variables that inputs and latches define, unless one of them is defined twice, in a set that is fast for about so
-/// many.
+/// The set is fast for about as many variables as are expected.
 fn definitions_before_gates(
     alloc: Global,
     circuit: &Circuit,
     expected: usize,
 ) -> Result<VarSet, CheckFault>
     ensures variables { IfOk result (λ variables.
-        variables ≡ with_all set.empty (circuit.now.inputs ++ map (λ l. l.var) circuit.now.latches)) }
+        variables ≡ with_all set.empty (circuit.now.inputs
+        ++ map (λ l. l.var) circuit.now.latches)) }
     ensures ok { OnOk result
-        (first_repeat set.empty (circuit.now.inputs ++ map (λ l. l.var) circuit.now.latches) ≡ None) }
-    ensures err { IfErr result (λ e. IsFault e (first_redefinition set.empty (defined_variables circuit.now))) }
+        (first_repeat set.empty (circuit.now.inputs ++ map (λ l. l.var) circuit.now.latches)
+        ≡ None) }
+    ensures err { IfErr result (λ e. IsFault e
+        (first_redefinition set.empty (defined_variables circuit.now))) }
 {
     let mut variables = VarSet::new(alloc, expected, circuit.max_var)?;
     define_all(&mut variables, &circuit.inputs)?;
@@ -138,29 +140,31 @@ fn definitions_before_gates(
     Ok(variables)
 }
 
-/// The variables that a circuit defines, unless one of them is defined twice, and whether its gates stand after those
-/// that they use.
+/// The variables that a circuit defines, unless one of them is defined twice, and whether its gates
+/// stand after those that they use.
 fn definitions(alloc: Global, circuit: &Circuit) -> Result<(VarSet, bool), CheckFault>
-    ensures variables { IfOk result (λ found. found.0 ≡ with_all set.empty (defined_variables circuit.now)) }
+    ensures variables { IfOk result (λ found. found.0
+        ≡ with_all set.empty (defined_variables circuit.now)) }
     ensures in_order { IfOk result (λ found. found.1 ≡ has_gates_in_order circuit.now) }
     ensures ok { OnOk result (first_repeat set.empty (defined_variables circuit.now) ≡ None) }
-    ensures err { IfErr result (λ e. IsFault e (first_redefinition set.empty (defined_variables circuit.now))) }
+    ensures err { IfErr result (λ e. IsFault e
+        (first_redefinition set.empty (defined_variables circuit.now))) }
 {
     let mut variables = definitions_before_gates(alloc, circuit, circuit.definition_count())?;
     let in_order = define_in_order(&mut variables, &circuit.gates)?;
     Ok((variables, in_order))
 }
 
-/// The first redefinition of a circuit. Unlike `definitions`, it does not look at what gates use.
+/// Unlike `definitions`, it does not look at what gates use.
 pub(crate) fn find_redefinition(alloc: Global, circuit: &Circuit) -> Result<(), CheckFault>
     ensures ok { OnOk result (first_repeat set.empty (defined_variables circuit.now) ≡ None) }
-    ensures err { IfErr result (λ e. IsFault e (first_redefinition set.empty (defined_variables circuit.now))) }
+    ensures err { IfErr result (λ e. IsFault e
+        (first_redefinition set.empty (defined_variables circuit.now))) }
 {
     let mut variables = definitions_before_gates(alloc, circuit, circuit.definition_count())?;
     define_all(&mut variables, &circuit.gates)
 }
 
-/// The first literal of these lists that is no constant and over none of the variables.
 #[tactic(auto, using(crate::proofs::Checking::Sections::joined_lists))]
 fn unknown_in_lists(variables: &VarSet, lists: &[&[Lit]]) -> Option<Lit>
     ensures { result ≡ first_unknown variables.now (concat (map (λ ls. ls.now) lists.now)) }
@@ -173,7 +177,6 @@ fn unknown_in_lists(variables: &VarSet, lists: &[&[Lit]]) -> Option<Lit>
     None
 }
 
-/// The first literal that is used outside of gates, of those that are no constants and over none of the variables.
 fn first_undefined_end(variables: &VarSet, circuit: &Circuit) -> Option<Lit>
     ensures { result ≡ first_unknown variables.now
         (map (λ l. l.next) circuit.now.latches ++ concat (literal_lists circuit.now)) }
@@ -182,8 +185,8 @@ fn first_undefined_end(variables: &VarSet, circuit: &Circuit) -> Option<Lit>
     next.or_else(|| unknown_in_lists(variables, &circuit.literal_lists()))
 }
 
-/// Whether an operand is a constant, or over a gate, as what is needed for it tells, or over one of the variables that
-/// are defined before gates.
+/// Whether an operand is a constant, or over a gate, as what is needed for it tells, or over one of
+/// the variables that are defined before gates.
 #[inline(always)]
 fn knows_operand(before: &VarSet, need: u32, literal: Lit) -> bool
     ensures { result ≡ (nat_lt 0 need || is_known before.now literal) }
@@ -191,11 +194,11 @@ fn knows_operand(before: &VarSet, need: u32, literal: Lit) -> bool
     need > 0 || knows(before, literal)
 }
 
-/// The first operand of a gate that is not known.
 #[inline(always)]
 fn unknown_operand(before: &VarSet, needs: Needs, gate: &Gate) -> Option<Lit>
     ensures { result ≡ if nat_lt 0 needs.left || is_known before.now gate.now.left
-        then (if nat_lt 0 needs.right || is_known before.now gate.now.right then None else Some gate.now.right)
+        then (if nat_lt 0 needs.right || is_known before.now gate.now.right
+        then None else Some gate.now.right)
         else Some gate.now.left }
 {
     if !knows_operand(before, needs.left, gate.left) {
@@ -207,12 +210,12 @@ fn unknown_operand(before: &VarSet, needs: Needs, gate: &Gate) -> Option<Lit>
     None
 }
 
-/// The first literal that gates use, of those that are no constants and that the circuit does not define. What is over
-/// a gate is not looked up again.
+/// What is over a gate is not looked up again.
 fn first_unknown_operand(before: &VarSet, needs: &GateNeeds, circuit: &Circuit) -> Option<Lit>
     requires few { length circuit.now.gates ≤ largest }
     requires needs { AreNeedsOf circuit.now.gates needs.now }
-    requires before { before.now ≡ with_all set.empty (circuit.now.inputs ++ map (λ l. l.var) circuit.now.latches) }
+    requires before { before.now ≡ with_all set.empty
+        (circuit.now.inputs ++ map (λ l. l.var) circuit.now.latches) }
     ensures { result ≡ first_unknown (with_all set.empty (defined_variables circuit.now))
         (flat_map operands circuit.now.gates) }
 {
@@ -225,8 +228,8 @@ fn first_unknown_operand(before: &VarSet, needs: &GateNeeds, circuit: &Circuit) 
     None
 }
 
-/// What the gates of a circuit need that defines no variable twice, or the first literal that they use and that it does
-/// not define.
+/// What the gates of a circuit need that defines no variable twice, or the first literal that they
+/// use and that it does not define.
 fn known_needs(alloc: Global, circuit: &Circuit) -> Result<GateNeeds, CheckFault>
     requires in_form { IsInForm circuit.now }
     requires once { first_repeat set.empty (defined_variables circuit.now) ≡ None }
@@ -234,7 +237,8 @@ fn known_needs(alloc: Global, circuit: &Circuit) -> Result<GateNeeds, CheckFault
     ensures ok { OnOk result (first_unknown (with_all set.empty (defined_variables circuit.now))
         (flat_map operands circuit.now.gates) ≡ None) }
     ensures err { IfErr result (λ e. IsFault e (first_undefined
-        (with_all set.empty (defined_variables circuit.now)) (flat_map operands circuit.now.gates))) }
+        (with_all set.empty (defined_variables circuit.now))
+        (flat_map operands circuit.now.gates))) }
 {
     let needs = GateNeeds::new(alloc, circuit)?;
     let expected = circuit.inputs.len() + circuit.latches.len();
@@ -245,7 +249,6 @@ fn known_needs(alloc: Global, circuit: &Circuit) -> Result<GateNeeds, CheckFault
     }
 }
 
-/// The literal of a gate.
 fn own_literal(gate: &Gate) -> Lit
     requires { gate.now.var ≤ largest }
     ensures { result ≡ 2 * gate.now.var }
@@ -253,13 +256,14 @@ fn own_literal(gate: &Gate) -> Lit
     Lit(2 * gate.var.0)
 }
 
-/// The least ready order of the gates, by what they need, or the literal of the first one that depends on a cycle.
+/// The least ready order of the gates, or the literal of the first one that depends on a cycle.
 fn order_of_all(alloc: Global, circuit: &Circuit, needs: GateNeeds) -> Result<Order, CheckFault>
     requires in_form { IsInForm circuit.now }
     requires needs { AreNeedsOf circuit.now.gates needs }
     ensures ok { OnOk result (first_cyclic circuit.now.gates ≡ None) }
     ensures least { IfOk result (λ order. IsLeastReadyOrder circuit.now order.list) }
-    ensures err { IfErr result (λ e. IsFault e (option_map CyclicFault (first_cyclic circuit.now.gates))) }
+    ensures err { IfErr result (λ e. IsFault e
+        (option_map CyclicFault (first_cyclic circuit.now.gates))) }
 {
     let order = order_by_needs(alloc, circuit, needs)?;
     match order.first_left() {
@@ -268,11 +272,12 @@ fn order_of_all(alloc: Global, circuit: &Circuit, needs: GateNeeds) -> Result<Or
     }
 }
 
-/// The first gate that depends on a cycle, as a fault. No order of the gates is made for it.
+/// Unlike `order_of_all`, it makes no order of the gates.
 fn find_cycle(alloc: Global, circuit: &Circuit) -> Result<(), CheckFault>
     requires { IsInForm circuit.now }
     ensures ok { OnOk result (first_cyclic circuit.now.gates ≡ None) }
-    ensures err { IfErr result (λ e. IsFault e (option_map CyclicFault (first_cyclic circuit.now.gates))) }
+    ensures err { IfErr result (λ e. IsFault e
+        (option_map CyclicFault (first_cyclic circuit.now.gates))) }
 {
     let found = first_cyclic_gate(alloc, circuit)?;
     match found {
@@ -281,12 +286,13 @@ fn find_cycle(alloc: Global, circuit: &Circuit) -> Result<(), CheckFault>
     }
 }
 
-/// The first fault of a circuit but for what its gates use: a variable that is defined twice, or else a literal that is
-/// used outside of gates and not defined. Where there is none, the variables that it defines, and whether its gates
-/// stand in order.
+/// The first fault of a circuit but for what its gates use: a variable that is defined twice, or
+/// else a literal that is used outside of gates and not defined. Where there is none, the variables
+/// that it defines, and whether its gates stand in order.
 #[tactic(auto, using(crate::proofs::Checking::Sections::unknown_append))]
 fn find_fault_outside_gates(alloc: Global, circuit: &Circuit) -> Result<(VarSet, bool), CheckFault>
-    ensures variables { IfOk result (λ found. found.0 ≡ with_all set.empty (defined_variables circuit.now)) }
+    ensures variables { IfOk result (λ found. found.0
+        ≡ with_all set.empty (defined_variables circuit.now)) }
     ensures in_order { IfOk result (λ found. found.1 ≡ has_gates_in_order circuit.now) }
     ensures once { OnOk result (first_repeat set.empty (defined_variables circuit.now) ≡ None) }
     ensures ok { OnOk result (first_unknown (with_all set.empty (defined_variables circuit.now))
@@ -300,10 +306,11 @@ fn find_fault_outside_gates(alloc: Global, circuit: &Circuit) -> Result<(VarSet,
     }
 }
 
-/// The first literal that gates use and that is over none of the variables, as a fault.
 fn find_undefined_operand(variables: &VarSet, circuit: &Circuit) -> Result<(), CheckFault>
-    ensures ok { OnOk result (first_unknown variables.now (flat_map operands circuit.now.gates) ≡ None) }
-    ensures err { IfErr result (λ e. IsFault e (first_undefined variables.now (flat_map operands circuit.now.gates))) }
+    ensures ok { OnOk result (first_unknown variables.now
+        (flat_map operands circuit.now.gates) ≡ None) }
+    ensures err { IfErr result (λ e. IsFault e
+        (first_undefined variables.now (flat_map operands circuit.now.gates))) }
 {
     match first_unknown_use(variables, &circuit.gates) {
         Some(literal) => Err(CheckFault::Undefined(literal)),
@@ -311,7 +318,6 @@ fn find_undefined_operand(variables: &VarSet, circuit: &Circuit) -> Result<(), C
     }
 }
 
-/// The first fault of a circuit. Where there is none, the order of its gates, if that is to be kept and had to be made.
 /// Each map of its variables is let go before the next one is made.
 #[tactic(auto, using(crate::proofs::Checking::InOrder::in_order_faultless, crate::proofs::Checking::Sections::fault_of_gates))]
 pub(crate) fn find_fault(
@@ -321,7 +327,8 @@ pub(crate) fn find_fault(
 ) -> Result<Option<Order>, CheckFault>
     requires { IsInForm circuit.now }
     ensures ok { OnOk result (first_structural_fault circuit.now ≡ None) }
-    ensures least { IfOk result (λ some. IfSome some (λ order. IsLeastReadyOrder circuit.now order.list)) }
+    ensures least { IfOk result (λ some.
+        IfSome some (λ order. IsLeastReadyOrder circuit.now order.list)) }
     ensures err { IfErr result (λ e. IsFault e (first_structural_fault circuit.now)) }
 {
     let (variables, in_order) = find_fault_outside_gates(alloc, circuit)?;

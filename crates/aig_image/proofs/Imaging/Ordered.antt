@@ -1,25 +1,21 @@
 -- The image of a well-formed circuit is well formed, since each step to it keeps a circuit well formed.
-use Rattle.std.proofs.Common.{rules}
-use Rattle.std.proofs.Common.{◌≡◌, ◌+◌, ℕ, List, length, map, refl, sym, subst, arith, ap, ◌∙◌}
+use Rattle.std.proofs.Common.{◌≡◌, ◌+◌, ◌∙◌, rules, ℕ, List, length, map, refl, sym, subst, arith, ap}
 use Rattle.std.proofs.lemmas.List.{length-map}
 use Rattle.aig_circuit.specs.declared.circuit.Gate.{Gate}
 use Rattle.aig_circuit.specs.declared.circuit.Circuit.{Circuit}
 use Rattle.aig_circuit.specs.Wellformed.{IsVariableUpTo, IsWellFormed}
 use Rattle.aig_checked.specs.BinaryOrder.{IsInBinaryOrder}
 use Rattle.aig_topo.specs.Order.{IsLeastReadyOrder}
-use Rattle.aig_topo.proofs.Ordering.Steps.{all_of}
+use Rattle.aig_topo.proofs.Ordering.Ranked.{all_of}
 use Rattle.aig_topo.proofs.Ordering.LeastReady.{a_least_ready_order, one_least_ready_order}
 use Rattle.aig_image.specs.Image.{IsBinaryImage, image_by}
 use Rattle.aig_image.specs.Relabelled.{relabelled, relabelled_gate, NamesOnly}
 use Rattle.aig_image.specs.Reordered.{reordered, has_smaller_first, ArePlaces, positions_of}
 use Rattle.aig_image.specs.Renumbering.{in_new_order, renumbered, source_variable}
-use Rattle.aig_image.proofs.Imaging.Members.{new_fits, order_is_places}
-use Rattle.aig_image.proofs.Numbering.OneToOne.{back, one_to_one, many}
-use Rattle.aig_image.proofs.Relabelling.Exchanged.{exchange_keeps_form, sorted_by_flags}
+use Rattle.aig_image.proofs.Imaging.InTurn.{new_fits, order_is_places, back, one_to_one, many}
+use Rattle.aig_image.proofs.Relabelling.Permuted.{exchange_keeps_form, sorted_by_flags, order_keeps_form}
 use Rattle.aig_image.proofs.Relabelling.Formed.{form_is_kept}
-use Rattle.aig_image.proofs.Relabelling.Relabelled.{names_only}
-use Rattle.aig_image.proofs.Relabelling.Permuted.{order_keeps_form}
-use Rattle.aig_image.proofs.Relabelling.Relabelled.{with_gates}
+use Rattle.aig_image.proofs.Relabelling.Relabelled.{names_only, with_gates}
 use Rattle.aig_image.proofs.Imaging.Sections.{in_binary_order}
 
 module _ (c : Circuit) (order : List ℕ) (good : IsWellFormed c) (least : IsLeastReadyOrder c order) where

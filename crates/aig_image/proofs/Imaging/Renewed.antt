@@ -1,8 +1,6 @@
 -- The circuit by the numbers that were noted is the image.
-use Rattle.std.proofs.Common.{rules}
-use Rattle.std.proofs.Common.{◌≡◌, ◌+◌, ◌≤◌, ℕ, List, [], length, map, refl, sym, ap, ap₂, ◌∙◌, inr}
-use Rattle.std.proofs.Common.{append-nil, arith}
-use Rattle.std.specs.Option.{unwrap_or}
+use Rattle.std.proofs.Common.{◌≡◌, ◌+◌, ◌≤◌, ◌∙◌, rules, ℕ, List, [], length, map, refl, sym, ap, ap₂, inr, append-nil}
+use Rattle.std.proofs.Common.{arith, unwrap_or}
 use Rattle.std.proofs.lemmas.List.{length-map}
 use Rattle.std.proofs.lemmas.Simd.{map-map}
 use Rattle.aig_circuit.specs.declared.circuit.Gate.{Gate}
@@ -10,8 +8,8 @@ use Rattle.aig_circuit.specs.declared.circuit.Circuit.{Circuit}
 use Rattle.aig_circuit.specs.declared.circuit.TheConstants.{LARGEST}
 use Rattle.aig_circuit.specs.Wellformed.{IsAmong, IsVariableUpTo, IsWellFormed, defined_variables}
 use Rattle.aig_topo.specs.Order.{IsLeastReadyOrder}
-use Rattle.aig_circuit.proofs.Checking.Fitting.{each, definitions_fit}
-use Rattle.aig_topo.proofs.Ordering.Steps.{all_of}
+use Rattle.aig_circuit.proofs.Checking.{each, definitions_fit}
+use Rattle.aig_topo.proofs.Ordering.Ranked.{all_of}
 use Rattle.aig_image.specs.declared.image.Renumbering.{Renumbering}
 use Rattle.aig_image.specs.declared.in_turn.InTurn.{InTurn}
 use Rattle.aig_image.specs.Image.{image_by, IsBinaryImage}
@@ -20,12 +18,10 @@ use Rattle.aig_image.specs.Parts.Numbers.{number_of, number_in, IsRenumberingOf}
 use Rattle.aig_image.specs.Relabelled.{relabelled, relabelled_gate, FitIntoLiterals, NamesOnly}
 use Rattle.aig_image.specs.Renumbering.{in_new_order, renumbered}
 use Rattle.aig_image.specs.Reordered.{operands_sorted, reordered, taken, with_operands_sorted}
-use Rattle.aig_image.proofs.Imaging.Members.{has_defined, is_defined, new_fits, new_once, not_more}
-use Rattle.aig_image.proofs.Numbering.Noted.{in_list, in_place, no_number}
+use Rattle.aig_image.proofs.Imaging.InTurn.{has_defined, is_defined, new_fits, new_once, not_more}
+use Rattle.aig_image.proofs.Numbering.Kept.{in_list, in_place, no_number}
 use Rattle.aig_image.proofs.Numbering.Places.{number_within}
-use Rattle.aig_image.proofs.Relabelling.Relabelled.{names_only}
-use Rattle.aig_image.proofs.Relabelling.Relabelled.{only_names_matter, with_gates}
-use Rattle.aig_image.proofs.Relabelling.Reordered.{order_commutes}
+use Rattle.aig_image.proofs.Relabelling.Relabelled.{names_only, only_names_matter, with_gates, order_commutes}
 
 module _ (c : Circuit) (order : List ℕ) (good : IsWellFormed c) (least : IsLeastReadyOrder c order) where
   abbrev vs : List ℕ

@@ -1,34 +1,28 @@
 -- The image of a well-formed circuit is in binary order.
 use Rattle.std.proofs.lemmas.Grind.{common_steps}
-use Rattle.std.proofs.Common.{rules}
-use Rattle.std.proofs.Common.{◌≡◌, ◌+◌, ◌<◌, ◌≤◌, ℕ, List, [], ◌++◌, length, length-append, map, refl}
-use Rattle.std.proofs.Common.{sym, ap, ap₂, subst, ◌∙◌, append_assoc, arith}
+use Rattle.std.proofs.Common.{◌≡◌, ◌+◌, ◌<◌, ◌≤◌, ◌++◌, ◌∙◌, rules, ℕ, List, [], length, length-append, map, refl, sym}
+use Rattle.std.proofs.Common.{ap, ap₂, subst, append_assoc, arith}
 use Rattle.std.specs.List.{AllByRecursion, range_with_len}
 use Rattle.std.proofs.lemmas.List.{length-map}
 use Rattle.std.proofs.lemmas.Simd.{map-map}
 use Rattle.aig_circuit.specs.declared.circuit.Latch.{Latch}
 use Rattle.aig_circuit.specs.declared.circuit.Gate.{Gate}
 use Rattle.aig_circuit.specs.declared.circuit.Circuit.{Circuit}
-use Rattle.aig_circuit.specs.Wellformed.{IsAmong, IsKnown, IsVariableUpTo, IsWellFormed}
-use Rattle.aig_circuit.specs.Wellformed.{defined_variables, operands}
+use Rattle.aig_circuit.specs.Wellformed.{IsAmong, IsKnown, IsVariableUpTo, IsWellFormed, defined_variables, operands}
 use Rattle.aig_topo.specs.Order.{IsLeastReadyOrder}
-use Rattle.aig_circuit.proofs.Checking.Fitting.{each, all_weaker}
-use Rattle.aig_circuit.proofs.Checking.InForm.{front, back}
+use Rattle.aig_circuit.proofs.Checking.{each, all_weaker, front, back}
 use Rattle.aig_topo.proofs.Ordering.Ranked.{at, no_gate, variables}
 use Rattle.aig_checked.specs.BinaryOrder.{AreOrderedGates, IsInBinaryOrder}
 use Rattle.aig_image.specs.Image.{image_by}
 use Rattle.aig_image.specs.Relabelled.{relabelled_gate, relabelled_latch}
-use Rattle.aig_image.specs.Reordered.{operands_sorted}
-use Rattle.aig_image.specs.Reordered.{taken}
+use Rattle.aig_image.specs.Reordered.{operands_sorted, taken}
 use Rattle.aig_image.specs.Renumbering.{renumbered}
-use Rattle.aig_image.proofs.Imaging.InTurn.{in_turn, renumbered_gate}
-use Rattle.aig_image.proofs.Imaging.Members.{new, gates_once, new_once}
-use Rattle.aig_image.proofs.Numbering.Places.{numbered_on}
+use Rattle.aig_image.proofs.Imaging.InTurn.{in_turn, renumbered_gate, some_gate, taken_variables, new, gates_once}
+use Rattle.aig_image.proofs.Imaging.InTurn.{new_once}
+use Rattle.aig_image.proofs.Numbering.Places.{numbered_on, at_place}
 use Rattle.aig_image.proofs.Relabelling.Formed.{latches_there}
 use Rattle.aig_image.proofs.Relabelling.Permuted.{gate_by_gate}
-use Rattle.aig_image.proofs.Relabelling.Reordered.{taken_mapped}
-use Rattle.aig_image.proofs.Relabelling.Standing.{at_place}
-use Rattle.aig_image.proofs.Imaging.InTurn.{some_gate, taken_variables}
+use Rattle.aig_image.proofs.Relabelling.Relabelled.{taken_mapped}
 
 -- the gates of an image, one by one
 image_gates : (vs : List ℕ) (gates : List Gate) (order : List ℕ)

@@ -1,36 +1,111 @@
--- A number that was given stays, so a gate that is made over those that there are is the gate of the image.
-use Rattle.std.proofs.Common.{rules}
-use Rattle.std.proofs.Common.{◌≡◌, ◌+◌, ◌*◌, ◌%◌, ◌<◌, ◌≤◌, ℕ, List, [], ◌∷◌, ◌++◌, length, get_or, map, take, drop}
-use Rattle.std.proofs.Common.{refl, sym, ap, subst, ◌∙◌, ⊎_elim, arith, append_assoc, append-nil, suc, inl, inr, ◌⊎◌}
-use Rattle.std.proofs.Common.{length-append, set}
+-- The numbers of variables that are noted one after the other: one that was given stays.
+use Rattle.std.proofs.Common.{◌≡◌, ◌≢◌, ◌<◌, ◌≤◌, ◌+◌, ◌∷◌, ◌++◌, ◌∙◌, ◌*◌, ◌%◌, ◌⊎◌, rules, ℕ, List, [], cond, eqb}
+use Rattle.std.proofs.Common.{length, get_or, take, map, None, ap, length-append, arith, below_more, drop, refl, sym}
+use Rattle.std.proofs.Common.{subst, ⊎_elim, append_assoc, append-nil, suc, inl, inr, set, nat_cmp, ne_eqb, map-id}
+use Rattle.std.proofs.Common.{take-append-drop, take_all, length-take-le, drop-cons}
+use Rattle.std.specs.FinMap.{get, get-empty, empty}
 use Rattle.std.specs.List.{AllByRecursion}
-use Rattle.std.proofs.Math.ListN.{get_or-append}
 use Rattle.std.proofs.lemmas.Grind.{common_steps}
-use Rattle.std.proofs.lemmas.List.{take-append-drop, map-append, take_all, drop_all, length-map, length-take-le}
+use Rattle.std.proofs.lemmas.List.{get_or_default, map-append, drop_all, length-map}
+use Rattle.std.proofs.lemmas.List.Folds.{position_or_len_push}
+use Rattle.std.proofs.lemmas.List.Sums.{prefix_len-le-length}
+use Rattle.std.proofs.Math.ListN.{get_or-append}
 use Rattle.std.proofs.lemmas.List.Edits.{map_over_more}
-use Rattle.std.proofs.Math.Seq.{drop-cons}
-use Rattle.aig_circuit.proofs.Makers.{gates_alike}
+use Rattle.aig_circuit.specs.Wellformed.{IsAmong, IsKnown, operands, AreDistinct}
 use Rattle.aig_circuit.specs.declared.circuit.Gate.{Gate}
 use Rattle.aig_circuit.specs.declared.circuit.TheConstants.{LARGEST}
 use Rattle.aig_circuit.specs.Literal.{variable_of}
-use Rattle.aig_circuit.specs.Wellformed.{IsAmong, AreDistinct}
-use Rattle.aig_circuit.proofs.Checking.Fitting.{each}
-use Rattle.aig_meaning.proofs.Lists.{distinct_front}
+use Rattle.aig_circuit.proofs.Alike.{gates_alike}
+use Rattle.aig_circuit.proofs.Checking.{each}
 use Rattle.aig_tables.specs.VarMap.{with_new}
+use Rattle.aig_tables.proofs.Tables.Maps.{get-with_new}
+use Rattle.aig_topo.proofs.Ordering.LeastReady.{among_or_not}
+use Rattle.aig_topo.proofs.Ordering.Trees.{eqb_comm}
+use Rattle.aig_topo.proofs.Ordering.Ranked.{at, no_gate, variables}
 use Rattle.aig_topo.proofs.Ordering.Counted.{among_first}
 use Rattle.aig_topo.proofs.Ordering.Cyclic.{among_last}
-use Rattle.aig_topo.proofs.Ordering.Ranked.{variables}
+use Rattle.aig_meaning.proofs.Related.{distinct_front}
 use Rattle.aig_image.specs.declared.numbers.Numbers.{Numbers}
-use Rattle.aig_image.specs.Parts.InTurn.{AreMadeOf, HasNumber, next_numbered, numbered_gate}
-use Rattle.aig_image.specs.Parts.Numbers.{number_of, AreNumbered}
-use Rattle.aig_image.specs.Relabelled.{FitIntoLiterals}
+use Rattle.aig_image.specs.Parts.InTurn.{HasNumber, AreMadeOf, next_numbered, numbered_gate}
+use Rattle.aig_image.specs.Parts.Numbers.{number_of, number_in, AreNumbered}
 use Rattle.aig_image.specs.Renumbering.{renumbered}
+use Rattle.aig_image.specs.Relabelled.{FitIntoLiterals}
 use Rattle.aig_image.specs.Reordered.{operands_sorted}
-use Rattle.aig_image.proofs.Numbering.Noted.{IsOverKnown, in_list, in_place, next_over_known, no_number, one_more}
-use Rattle.aig_image.proofs.Numbering.Noted.{variables_more, was_noted}
-use Rattle.aig_image.proofs.Numbering.Places.{number_at, number_of as own_number, number_within}
-use Rattle.aig_image.proofs.Relabelling.Standing.{somewhere}
+use Rattle.aig_image.proofs.Numbering.Places.{no_place, number_at, number_of as own_number, number_within, somewhere}
 
+-- the place in a list that grows
+number_push : (xs : List ℕ) (x v : ℕ)
+    → number_in (xs ++ x ∷ []) v ≡ cond (eqb (number_in xs v) 0) (cond (eqb x v) (length xs + 1) 0) (number_in xs v)
+number_push xs x v = grind (arith, common_steps, position_or_len_push, prefix_len-le-length)
+
+-- where none was noted
+pub none_noted : (n : Numbers) → n.noted ≡ 0 → n.numbers ≡ empty → AreNumbered n []
+none_noted n none nothing =
+    let has : (v : ℕ) → get n.numbers v ≡ None = λ v. ap (λ m. get m v) nothing ∙ get-empty nat_cmp v in
+    search rules
+
+-- one variable more
+pub one_more : (old new : Numbers) (var : ℕ) → new.noted ≡ old.noted + 1
+    → new.numbers ≡ with_new old.numbers var (old.noted + 1)
+    → (variables : List ℕ) → AreNumbered old variables → AreNumbered new (variables ++ var ∷ [])
+one_more old new var counted told variables numbered =
+    search (rules, get-with_new, length-append, number_push, eqb_comm, common_steps)
+
+-- the variables of the first items, and of one more
+pub variables_more : {X : Type 0} (f : X → ℕ) (variables : List ℕ) (items : List X) (i : ℕ) (d : X) → i < length items
+    → (variables ++ map f (take i items)) ++ f (get_or items i d) ∷ [] ≡ variables ++ map f (take (i + 1) items)
+variables_more f variables items i d below = grind (arith, common_steps)
+
+pub in_list : (variables : List ℕ) (v : ℕ) → number_in variables v ≤ length variables
+in_list variables v = grind (arith, common_steps)
+
+-- what is not in a list has no number, so what has one is there
+pub no_number : (v : ℕ) (xs : List ℕ) → ¬ IsAmong v xs → number_in xs v ≡ 0
+no_number v xs out = let none = no_place v xs out in grind (arith, common_steps, none)
+
+has_number : (xs : List ℕ) (v : ℕ) → 0 < number_in xs v → IsAmong v xs
+has_number xs v some = search (rules, no_number, among_or_not)
+
+-- a variable that has a place has its number
+pub in_place : (v : ℕ) (xs : List ℕ) → v ≢ 0 → renumbered xs v ≤ length xs → number_in xs v ≡ renumbered xs v
+in_place v xs some fits = let b = ne_eqb v 0 some in grind (arith, common_steps, b, fits)
+
+-- what is noted of two sections
+pub two_sections : {L : Type 0} (of_latch : L → ℕ) (n : Numbers) (inputs inputs_too : List ℕ)
+    (latches latches_too : List L)
+    → inputs ≡ inputs_too → latches ≡ latches_too → AreNumbered n ([] ++ map (λ v. v) inputs ++ map of_latch latches)
+    → AreNumbered n (inputs_too ++ map of_latch latches_too)
+two_sections of_latch n inputs inputs_too latches latches_too same same_latches numbered = search (rules, map-id)
+
+-- a number is not above how many were noted
+pub few : {L G : Type 0} (of_latch : L → ℕ) (of_gate : G → ℕ) (n : Numbers) (inputs : List ℕ) (latches : List L)
+    (gates : List G)
+    → AreNumbered n (inputs ++ map of_latch latches ++ map of_gate gates)
+    → (v : ℕ) → number_of n v ≤ length inputs + length latches + length gates
+few of_latch of_gate n inputs latches gates numbered v = grind (arith, common_steps)
+
+-- what has a number is noted
+was_noted : (n : Numbers) (variables : List ℕ) → AreNumbered n variables → (v : ℕ) → 0 < number_of n v
+    → IsAmong v variables
+was_noted n variables numbered v some = has_number variables v (rw (← numbered.numbers v) some)
+
+known : (n : Numbers) (vars : List ℕ) → AreNumbered n vars → (l : ℕ) → HasNumber n l → IsKnown vars l
+known n vars numbered l has = search (rules, was_noted)
+
+module _ (before : List ℕ) (gates : List Gate) where
+  -- the operands of a gate are known by the gates before it
+  abbrev pub IsOverKnown : ℕ → Type 0
+  IsOverKnown k = AllByRecursion (IsKnown (before ++ variables (take k gates))) (operands (at gates k))
+
+  -- of the next gate too
+  pub next_over_known : (n : Numbers) (i : ℕ) (g : Gate) → AreNumbered n (before ++ variables (take i gates))
+      → i < length gates
+      → g ≡ get_or gates i g → HasNumber n g.left → HasNumber n g.right
+      → ((k : ℕ) → k < i → IsOverKnown k) → (k : ℕ) → k < i + 1 → IsOverKnown k
+  next_over_known n i g numbered there is left right sofar =
+      search (rules, variables, known, below_more, get_or_default, no_gate)
+
+-- A number that was given stays, so a gate that is made over those that there are is the gate of the image.
 module _ (n : Numbers) (xs ys : List ℕ) (numbered : AreNumbered n xs) (once : AreDistinct (xs ++ ys))
     (some : AllByRecursion (λ v. 1 ≤ v) (xs ++ ys)) where
   -- what is noted later does not change a number
@@ -82,7 +157,7 @@ around before gs i g there is =
     (sym (take-append-drop i gs) ∙ ap (λ xs. take i gs ++ xs) (drop-cons gs i g there))
     ∙ search (rules, map-append, append_assoc)
 
-pub next_made : (n : Numbers) (before : List ℕ) (gs : List Gate) (i : ℕ) (g : Gate)
+next_made : (n : Numbers) (before : List ℕ) (gs : List Gate) (i : ℕ) (g : Gate)
     → AreNumbered n (before ++ variables (take i gs)) → AreDistinct (before ++ variables gs)
     → AllByRecursion (λ v. 1 ≤ v) (before ++ variables gs) → i < length gs → g ≡ get_or gs i g
     → HasNumber n g.left → HasNumber n g.right

@@ -1,24 +1,173 @@
--- New numbers of variables: places in a list without repeats.
-use Rattle.std.proofs.Common.{rules}
-use Rattle.std.proofs.Common.{◌≡◌, ◌≢◌, ◌+◌, ◌<◌, ◌≤◌, ℕ, List, [], ◌∷◌, ◌++◌, true, false, eqb, not, length}
-use Rattle.std.proofs.Common.{length-append, get_or, map, refl, sym, ap, ap₂, subst, ◌∙◌, ◌⊎◌, ⊎_elim, append_assoc}
-use Rattle.std.proofs.Common.{arith, zero, suc}
+-- Places in lists without repeats, and the new numbers of variables by them.
+use Rattle.std.proofs.Common.{◌≡◌, ◌<◌, ◌∷◌, ◌++◌, ◌≤◌, ◌∙◌, ◌≢◌, ◌+◌, ◌⊎◌, rules, ℕ, zero, suc, List, [], length}
+use Rattle.std.proofs.Common.{get_or, refl, sym, ap, inl, inr, ⊎_elim, arith, eqb, subst, true, false, not}
+use Rattle.std.proofs.Common.{length-append, map, ap₂, append_assoc}
 use Rattle.std.specs.List.{AllByRecursion, position_or_len, range_with_len}
+use Rattle.std.proofs.lemmas.List.{length-map, get_or-map, ext_get_or}
+use Rattle.std.proofs.lemmas.Bool.{ne_eqb, eq-eqb, cases_lt}
+use Rattle.std.proofs.lemmas.List.FromFn.{length-map-range_with_len, get_or-map-range_with_len}
+use Rattle.std.proofs.lemmas.List.Sums.{position_or_len_is, prefix_len-le-length, prefix_len_stops}
 use Rattle.std.proofs.Math.ListN.{get_or-append}
 use Rattle.std.proofs.Math.Seq.{get_or-append_seam}
-use Rattle.std.proofs.lemmas.Bool.{cases_lt, ne_eqb}
 use Rattle.std.proofs.lemmas.Bool.Decides.{eqb_tells}
-use Rattle.std.proofs.lemmas.List.Sums.{prefix_len-le-length, prefix_len_stops}
+use Rattle.aig_circuit.specs.declared.circuit.Gate.{Gate}
 use Rattle.aig_circuit.specs.Wellformed.{IsAmong, AreDistinct}
+use Rattle.aig_circuit.proofs.Checking.{each, at_most_below}
+use Rattle.aig_topo.proofs.Ordering.Counted.{among_either, among_first}
+use Rattle.aig_topo.proofs.Ordering.Cyclic.{among_last}
+use Rattle.aig_topo.proofs.Ordering.Ranked.{at, no_gate, variables}
+use Rattle.aig_topo.proofs.Ordering.LeastReady.{among_or_not}
+use Rattle.aig_image.specs.Reordered.{ArePlaces, positions_of}
 use Rattle.aig_image.specs.Renumbering.{renumbered, source_variable}
-use Rattle.aig_image.proofs.Relabelling.Positions.{place_is}
-use Rattle.aig_image.proofs.Relabelling.Standing.{here, somewhere}
 
+-- what is in a list stands somewhere
+pub somewhere : (x : ℕ) (xs : List ℕ) → IsAmong x xs → (j : ℕ) × (j < length xs) × (get_or xs j 0 ≡ x)
+somewhere x [] a = absurd a
+somewhere x (y ∷ xs) a =
+    ⊎_elim (λ (e : x ≡ y). (zero, omega arith, sym e))
+    (λ (i : IsAmong x xs).
+    let later = somewhere x xs i in
+    let below : later.0 < length xs = later.1 in
+    (suc later.0, omega (arith, below), later.2)) a
+
+-- a variable of gates is that of one of them
+pub place_there : (gates : List Gate) (v : ℕ) → IsAmong v (variables gates)
+    → (p : ℕ) × (p < length gates) × ((at gates p).var ≡ v)
+place_there gates v a = search (rules, somewhere, variables, length-map, get_or-map, no_gate)
+
+-- what stands at a place is in the list
+pub here : (xs : List ℕ) (j : ℕ) → j < length xs → IsAmong (get_or xs j 0) xs
+here [] j below = absurd (omega arith)
+here (x ∷ xs) zero below = inl refl
+here (x ∷ xs) (suc j) below = inr (here xs j (omega arith))
+
+module _ {X : Type 0} (P : X → Type 0) (default : X) where
+  -- what holds of all holds of what stands at a place, and the other way about
+  pub at_place : (xs : List X) → AllByRecursion P xs → (i : ℕ) → i < length xs → P (get_or xs i default)
+  at_place [] all i below = absurd (omega arith)
+  at_place (x ∷ xs) all zero below = all.0
+  at_place (x ∷ xs) all (suc i) below = at_place xs all.1 i (omega (arith, below))
+
+  pub by_places : (xs : List X) → ((i : ℕ) → i < length xs → P (get_or xs i default)) → AllByRecursion P xs
+  by_places [] each = tt
+  by_places (x ∷ xs) each = (each zero (omega arith), by_places xs (λ i below. each (suc i) (omega (arith, below))))
+
+-- numbers are distinct exactly where each stands at one place
+pub same_place : (xs : List ℕ) → AreDistinct xs → (i k : ℕ) → i < length xs → k < length xs
+    → get_or xs i 0 ≡ get_or xs k 0 → i ≡ k
+same_place [] once i k below below_too e = absurd (omega (arith, below))
+same_place (x ∷ xs) once zero zero below below_too e = refl
+same_place (x ∷ xs) once zero (suc k) below below_too e = search (rules, here)
+same_place (x ∷ xs) once (suc i) zero below below_too e = search (rules, here)
+same_place (x ∷ xs) once (suc i) (suc k) below below_too e =
+    ap suc (same_place xs once.1 i k (omega (arith, below)) (omega (arith, below_too)) e)
+
+pub distinct_by_places : (xs : List ℕ)
+    → ((i k : ℕ) → i < length xs → k < length xs → get_or xs i 0 ≡ get_or xs k 0 → i ≡ k) → AreDistinct xs
+distinct_by_places [] once = tt
+distinct_by_places (x ∷ xs) once = (
+  λ a. let later = somewhere x xs a in
+      let below : later.0 < length xs = later.1 in
+      let same : zero ≡ suc later.0 = once zero (suc later.0) (omega arith) (omega (arith, below)) (sym later.2) in
+      omega (arith, same),
+  distinct_by_places xs (λ i k below below_too e.
+      let same : suc i ≡ suc k = once (suc i) (suc k) (omega (arith, below)) (omega (arith, below_too)) e in
+      omega (arith, same)),
+)
+
+-- other numbers behind the same front, all of which stood there
+pub swapped_last : (xs ys zs : List ℕ) → AreDistinct (xs ++ ys) → AreDistinct zs
+    → ((x : ℕ) → IsAmong x zs → IsAmong x ys) → AreDistinct (xs ++ zs)
+swapped_last [] ys zs once last within = last
+swapped_last (x ∷ xs) ys zs once last within = (
+  λ a. ⊎_elim (λ (i : IsAmong x xs). once.0 (among_first x xs ys i))
+      (λ (i : IsAmong x zs). once.0 (among_last xs ys x (within x i))) (among_either x xs zs a),
+  swapped_last xs ys zs once.1 last within,
+)
+
+-- and what is among both is among those behind the front too
+pub among_swapped : (xs ys zs : List ℕ) → ((x : ℕ) → IsAmong x ys → IsAmong x zs)
+    → (x : ℕ) → IsAmong x (xs ++ ys) → IsAmong x (xs ++ zs)
+among_swapped [] ys zs within x a = within x a
+among_swapped (z ∷ xs) ys zs within x a =
+    ⊎_elim (λ (e : x ≡ z). inl e) (λ (i : IsAmong x (xs ++ ys)). inr (among_swapped xs ys zs within x i)) a
+
+-- Distinct places below their count are each that of one position.
+
+-- in a list without repeats, the first place of a number is the one where it stands
+place_is : (xs : List ℕ) → AreDistinct xs → (i : ℕ) → i < length xs
+    → position_or_len (λ w. eqb w (get_or xs i 0)) xs ≡ i
+place_is xs once i below =
+    let x : ℕ = get_or xs i 0 in
+    position_or_len_is (λ w. eqb w x) xs i 0 (omega (arith, below))
+    (search (rules, ne_eqb, same_place))
+    (λ _. eq-eqb x x refl)
+
+-- distinct numbers below n, as many as n, are all of them
+all_below : (n : ℕ) (ps : List ℕ) → AreDistinct ps → AllByRecursion (λ p. p < n) ps → length ps ≡ n
+    → (p : ℕ) → p < n → IsAmong p ps
+all_below n ps once below many p low =
+    ⊎_elim (λ (i : IsAmong p ps). i)
+    (λ (out : ¬ IsAmong p ps).
+    let fit : length (p ∷ ps) ≤ n = at_most_below n (p ∷ ps) (out, once) (low, below) in
+    absurd (omega (arith, fit, many)))
+    (among_or_not p ps)
+
+module _ (places : List ℕ) (once : AreDistinct places) (all : AllByRecursion (λ p. p < length places) places) where
+  abbrev position : ℕ → ℕ
+  position place = position_or_len (λ p. eqb p place) places
+
+  read : (p : ℕ) → p < length places → get_or (positions_of places) p 0 ≡ position p
+  read p below = get_or-map-range_with_len position 0 (length places) p p 0 below (omega arith)
+
+  pub places_have_positions : ArePlaces (positions_of places) places (length places)
+      × ArePlaces places (positions_of places) (length places)
+  places_have_positions =
+      let long = length-map-range_with_len position 0 (length places) in (
+        (
+          refl,
+          λ i below.
+              let low = each (λ p. p < length places) places all (get_or places i 0) (here places i below) in
+              (omega (arith, low, long), read (get_or places i 0) low ∙ place_is places once i below),
+        ),
+        (
+          long,
+          λ p below.
+              let stands = somewhere p places (all_below (length places) places once all refl p below) in
+              let same = read p below ∙ ap position (sym stands.2) ∙ place_is places once stands.0 stands.1 in
+              search rules,
+        ),
+      )
+
+-- the same of as many places as there are others
+pub have_positions : (n : ℕ) (places : List ℕ) → AreDistinct places → AllByRecursion (λ p. p < n) places
+    → length places ≡ n → ArePlaces (positions_of places) places n × ArePlaces places (positions_of places) n
+have_positions n places once all many = subst (λ k. AllByRecursion (λ p. p < k) places
+    → ArePlaces (positions_of places) places k × ArePlaces places (positions_of places) k)
+    many (places_have_positions places once) all
+
+-- what has places has distinct ones
+pub places_apart : (order places : List ℕ) (count : ℕ) → ArePlaces order places count → AreDistinct places
+places_apart order places count are = search (rules, distinct_by_places)
+
+-- where places are those of an order, and the other way about, their positions are the order
+pub positions_are : (order places : List ℕ) (count : ℕ) → ArePlaces order places count → ArePlaces places order count
+    → positions_of places ≡ order
+positions_are order places count are too =
+    let position : ℕ → ℕ = λ place. position_or_len (λ p. eqb p place) places in
+    let long : length (positions_of places) ≡ length places = length-map-range_with_len position 0 (length places) in
+    ext_get_or 0 (positions_of places) order (omega (arith, long, are.0, too.0)) (λ p below.
+    let here = too.1 p (omega (arith, below, long, are.0)) in
+    get_or-map-range_with_len position 0 (length places) p p 0 (omega (arith, below, long)) (omega arith)
+    ∙ ap position (sym here.1)
+    ∙ place_is places (places_apart order places count are) (get_or order p 0) here.0)
+
+-- New numbers of variables: places in a list without repeats.
 abbrev place : List ℕ → ℕ → ℕ
 place xs v = position_or_len (λ w. eqb w v) xs
 
 -- what has a place in a list stands there
-pub has_place : (xs : List ℕ) (v : ℕ) → place xs v < length xs → get_or xs (place xs v) 0 ≡ v
+has_place : (xs : List ℕ) (v : ℕ) → place xs v < length xs → get_or xs (place xs v) 0 ≡ v
 has_place xs v within = search (rules, prefix_len_stops, eqb_tells)
 
 -- and what is not in the list has none

@@ -1,7 +1,6 @@
 -- A well-formed circuit stays well formed by other variables from which there is a way back.
-use Rattle.std.proofs.Common.{rules}
-use Rattle.std.proofs.Common.{◌≡◌, ◌+◌, ◌*◌, ◌/◌, ◌%◌, ◌<◌, ◌≤◌, ℕ, zero, suc, List, [], ◌∷◌, ◌++◌, map, Option}
-use Rattle.std.proofs.Common.{refl, sym, ap, subst, ◌∙◌, inl, inr, ⊎_elim, arith}
+use Rattle.std.proofs.Common.{◌≡◌, ◌+◌, ◌*◌, ◌/◌, ◌%◌, ◌<◌, ◌≤◌, ◌∷◌, ◌++◌, ◌∙◌, rules, ℕ, zero, suc, List, [], map}
+use Rattle.std.proofs.Common.{Option, refl, sym, ap, subst, inl, inr, ⊎_elim, arith}
 use Rattle.std.specs.List.{AllByRecursion, concat, flat_map, Contains}
 use Rattle.std.proofs.lemmas.List.{map-append, length-map}
 use Rattle.std.proofs.lemmas.Simd.{map-map}
@@ -13,13 +12,13 @@ use Rattle.aig_circuit.specs.declared.circuit.Gate.{Gate}
 use Rattle.aig_circuit.specs.declared.circuit.Circuit.{Circuit}
 use Rattle.aig_circuit.specs.declared.circuit.TheConstants.{LARGEST}
 use Rattle.aig_circuit.specs.Literal.{variable_of}
-use Rattle.aig_circuit.specs.Wellformed.{IsAmong, AreDistinct, IsKnown, IsRank, IsVariableUpTo}
-use Rattle.aig_circuit.specs.Wellformed.{HasGoodSymbols, IsWellFormed}
-use Rattle.aig_circuit.specs.Wellformed.{count_of, defined_variables, literal_lists, operands, used_literals}
-use Rattle.aig_circuit.proofs.Checking.InForm.{joined}
+use Rattle.aig_circuit.specs.Wellformed.{IsAmong, AreDistinct, IsKnown, IsRank, IsVariableUpTo, HasGoodSymbols}
+use Rattle.aig_circuit.specs.Wellformed.{IsWellFormed, count_of, defined_variables, literal_lists, operands}
+use Rattle.aig_circuit.specs.Wellformed.{used_literals}
+use Rattle.aig_circuit.proofs.Checking.{joined}
 use Rattle.aig_topo.proofs.Ordering.Ranked.{variables}
-use Rattle.aig_image.specs.Relabelled.{relabelled_literal, relabelled_latch, relabelled_gate, relabelled}
-use Rattle.aig_image.specs.Relabelled.{LatchNames, GateNames, NamesOnly}
+use Rattle.aig_image.specs.Relabelled.{relabelled_literal, relabelled_latch, relabelled_gate, relabelled, LatchNames}
+use Rattle.aig_image.specs.Relabelled.{GateNames, NamesOnly}
 use Rattle.aig_image.proofs.Relabelling.Relabelled.{lists_there}
 
 -- the symbols of a circuit are good in another that has as much of each kind

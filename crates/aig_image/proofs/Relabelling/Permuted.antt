@@ -1,26 +1,28 @@
--- A well-formed circuit stays well formed with other gates like those that it has, and so with its gates in another order.
-use Rattle.std.proofs.Common.{rules}
-use Rattle.std.proofs.Common.{◌≡◌, ◌<◌, ℕ, List, ◌∷◌, [], ◌++◌, length, get_or, map, refl, sym, ap, subst, ◌∙◌}
-use Rattle.std.proofs.Common.{inl, inr, ◌⊎◌, ⊎_elim, arith}
+-- A well-formed circuit stays well formed with other gates like those that it has, and what was converted is restored.
+use Rattle.std.proofs.Common.{◌≡◌, ◌<◌, ◌∷◌, ◌++◌, ◌∙◌, ◌⊎◌, rules, ℕ, List, [], length, get_or, map, refl, sym, ap}
+use Rattle.std.proofs.Common.{subst, inl, inr, ⊎_elim, arith, zero, suc, Bool, true, false, ap₂}
 use Rattle.std.specs.List.{AllByRecursion, concat, flat_map, Contains}
 use Rattle.std.proofs.lemmas.List.{length-map, get_or-map, get_or_default}
 use Rattle.std.proofs.lemmas.List.Elements.{Contains-get_or}
+use Rattle.std.proofs.lemmas.Simd.{map-map}
 use Rattle.aig_circuit.specs.declared.circuit.Latch.{Latch}
 use Rattle.aig_circuit.specs.declared.circuit.Gate.{Gate}
 use Rattle.aig_circuit.specs.declared.circuit.Circuit.{Circuit}
 use Rattle.aig_circuit.specs.Literal.{variable_of}
 use Rattle.aig_circuit.specs.Wellformed.{IsAmong, AreDistinct, IsKnown, IsRank, IsVariableUpTo, IsWellFormed, operands}
 use Rattle.aig_circuit.specs.Wellformed.{defined_variables, literal_lists}
-use Rattle.aig_circuit.proofs.Checking.Fitting.{each, all_weaker}
-use Rattle.aig_circuit.proofs.Checking.InForm.{joined, front, back}
-use Rattle.aig_topo.proofs.Ordering.Ranked.{variables, stands_there, distinct_back}
-use Rattle.aig_topo.proofs.Ordering.Steps.{all_of}
-use Rattle.aig_image.specs.Reordered.{no_gate, taken, reordered, ArePlaces}
-use Rattle.aig_image.proofs.Relabelling.Formed.{symbols_kept, counts_kept}
-use Rattle.aig_image.proofs.Relabelling.Relabelled.{with_gates}
-use Rattle.aig_meaning.proofs.Lists.{of_operands}
-use Rattle.aig_image.proofs.Relabelling.Standing.{by_places, place_there, same_place, among_swapped}
-use Rattle.aig_image.proofs.Relabelling.Standing.{distinct_by_places, swapped_last}
+use Rattle.aig_circuit.proofs.Checking.{each, all_weaker, joined, front, back}
+use Rattle.aig_topo.proofs.Ordering.Ranked.{variables, stands_there, distinct_back, all_of}
+use Rattle.aig_meaning.proofs.Related.{of_operands}
+use Rattle.aig_image.specs.Reordered.{no_gate, taken, reordered, ArePlaces, operands_sorted, has_smaller_first}
+use Rattle.aig_image.specs.Reordered.{exchanged_if, exchanged_by, with_operands_exchanged, converted, restored}
+use Rattle.aig_image.specs.Relabelled.{relabelled, relabelled_gate, NamesOnly}
+use Rattle.aig_image.proofs.Relabelling.Formed.{symbols_kept, counts_kept, defined_relabelled}
+use Rattle.aig_image.proofs.Relabelling.Relabelled.{with_gates, sorted_operands_go_back, map_each, read_mapped}
+use Rattle.aig_image.proofs.Relabelling.Relabelled.{relabellings_compose, names_kept_keep_all, taken_mapped, taken_back}
+use Rattle.aig_image.proofs.Relabelling.Relabelled.{all_go_back, order_commutes, exchange_commutes, all_sorted_again}
+use Rattle.aig_image.proofs.Numbering.Places.{by_places, place_there, same_place, among_swapped, distinct_by_places}
+use Rattle.aig_image.proofs.Numbering.Places.{swapped_last}
 
 -- what holds of operands, gate by gate
 abbrev pub OperandsHave : (ℕ → Type 0) → Gate → Type 0
@@ -31,7 +33,7 @@ pub gate_by_gate : (P : ℕ → Type 0) (gs : List Gate) → AllByRecursion P (f
 gate_by_gate P [] all = tt
 gate_by_gate P (g ∷ gs) all = ((all.0, all.1.0), gate_by_gate P gs all.1.1)
 
-pub end_to_end : (P : ℕ → Type 0) (gs : List Gate) → AllByRecursion (OperandsHave P) gs
+end_to_end : (P : ℕ → Type 0) (gs : List Gate) → AllByRecursion (OperandsHave P) gs
     → AllByRecursion P (flat_map operands gs)
 end_to_end P [] all = tt
 end_to_end P (g ∷ gs) all = (all.0.0, (all.0.1, end_to_end P gs all.1))
@@ -82,7 +84,7 @@ module _ (c : Circuit) (gates : List Gate) (good : IsWellFormed c) (many : lengt
       let b = like y y_in in
       rw (b.2.0, a.2.0) (good.ranked.1 a.0 b.0 a.1 b.1 (a.2.1 b.0.var (rw b.2.0 at among)))
 
-  pub formed_by_others : IsWellFormed (with_gates gates c)
+  formed_by_others : IsWellFormed (with_gates gates c)
   formed_by_others =
       let InRange : ℕ → Type 0 = IsVariableUpTo c.max_var in
       let last : AllByRecursion InRange (variables c.gates) = back InRange (first_of c) (variables c.gates) good.in_range in
@@ -104,7 +106,7 @@ module _ (gates : List Gate) (order places : List ℕ) (are : ArePlaces order pl
   abbrev position : ℕ → ℕ
   position p = get_or order p 0
 
-  pub long : length now ≡ length gates
+  long : length now ≡ length gates
   long = length-map order (λ at. get_or gates at no_gate) ∙ too.0
 
   position_in : (p : ℕ) → p < length gates → position p < length gates
@@ -172,3 +174,125 @@ order_keeps_form order places c are too good =
     (once_now c.gates order places are too (distinct_back (first_of c) (variables c.gates) good.once))
     (among_then c.gates order places are too) (among_now c.gates order places are too)
     (λ h h_in. (h, contained c.gates order places are too h h_in, (refl, λ v a. a)))
+
+-- A well-formed circuit stays well formed with operands exchanged, and sorting is such an exchange.
+same_variables : (flags : List Bool) (gs : List Gate) → variables (exchanged_by flags gs) ≡ variables gs
+same_variables [] gs = refl
+same_variables (e ∷ es) [] = refl
+same_variables (e ∷ es) (g ∷ gs) = ap (λ (vs : List ℕ). g.var ∷ vs) (same_variables es gs)
+
+-- what is contained was exchanged or not
+made_by : (flags : List Bool) (gs : List Gate) (h : Gate) → Contains (exchanged_by flags gs) h
+    → (e : Bool) × (g : Gate) × Contains gs g × (exchanged_if e g ≡ h)
+made_by [] gs h is = (false, h, is, refl)
+made_by (e ∷ es) [] h (k, below, is) = absurd (omega (arith, below))
+made_by (e ∷ es) (g ∷ gs) h (zero, below, is) = (e, g, (zero, omega arith, refl), is)
+made_by (e ∷ es) (g ∷ gs) h (suc k, below, is) =
+    let later = made_by es gs h (k, omega (arith, below), is) in
+    let within = later.2.1 in
+    (later.0, later.1, (suc later.2.0, omega (arith, within), later.2.2), later.3)
+
+-- exchanged operands are over the same variables
+like_before : (e : Bool) (g : Gate) → IsLike g (exchanged_if e g)
+like_before true g = (refl, λ v a. ⊎_elim (λ i. inr (inl i)) (λ j. ⊎_elim (λ i. inl i) (λ n. absurd n) j) a)
+like_before false g = (refl, λ v a. a)
+
+pub as_many : (flags : List Bool) (gs : List Gate) → length (exchanged_by flags gs) ≡ length gs
+as_many [] gs = refl
+as_many (e ∷ es) [] = refl
+as_many (e ∷ es) (g ∷ gs) = ap suc (as_many es gs)
+
+pub exchange_keeps_form : (flags : List Bool) (c : Circuit) → IsWellFormed c
+    → IsWellFormed (with_operands_exchanged flags c)
+exchange_keeps_form flags c good =
+    let same = same_variables flags c.gates in
+    let first : List ℕ = c.inputs ++ map (λ (l : Latch). l.var) c.latches in
+    formed_by_others c (exchanged_by flags c.gates) good (as_many flags c.gates)
+    (subst AreDistinct (sym same) (distinct_back first (variables c.gates) good.once))
+    (λ v. subst (IsAmong v) same) (λ v. subst (IsAmong v) (sym same)) (λ h h_in.
+    let made = made_by flags c.gates h h_in in
+    (made.1, made.2, subst (IsLike made.1) made.3 (like_before made.0 made.1)))
+
+-- gates that are made with their flags
+pub exchanged_each : {X : Type 0} (e : X → Bool) (h : X → Gate) (xs : List X)
+    → exchanged_by (map e xs) (map h xs) ≡ map (λ x. exchanged_if (e x) (h x)) xs
+exchanged_each e h [] = refl
+exchanged_each e h (x ∷ xs) = ap (λ (gs : List Gate). exchanged_if (e x) (h x) ∷ gs) (exchanged_each e h xs)
+
+-- sorting is an exchange by the gates' own flags
+twice_exchanged : (e : Bool) (g : Gate) → exchanged_if e (exchanged_if e g) ≡ g
+twice_exchanged true g = refl
+twice_exchanged false g = refl
+
+pub sorted_by_flags : (gs : List Gate) → map operands_sorted gs ≡ exchanged_by (map has_smaller_first gs) gs
+sorted_by_flags [] = refl
+sorted_by_flags (g ∷ gs) = search (rules, twice_exchanged, sorted_operands_go_back, sorted_by_flags gs)
+
+-- What was converted is restored, and what was restored is converted to what it was restored from.
+
+-- the gates of a converted circuit, from their places
+pub converted_in_places : (f : ℕ → ℕ) (order places : List ℕ) (c : Circuit) → ArePlaces order places (length c.gates)
+    → taken (converted f order c).gates places ≡ map operands_sorted (map (relabelled_gate f) c.gates)
+converted_in_places f order places c are =
+    let new : List Gate = map (relabelled_gate f) c.gates in
+    let placed = subst (ArePlaces order places) (sym (length-map c.gates (relabelled_gate f))) are in
+    sym (taken_mapped operands_sorted refl (taken new order) places)
+    ∙ ap (map operands_sorted) (taken_back new order places placed)
+
+pub converted_is_restored : (f g : ℕ → ℕ) (order places : List ℕ) (c : Circuit)
+    → f 0 ≡ 0 → NamesOnly (λ v. g (f v) ≡ v) c → ArePlaces order places (length c.gates)
+    → restored g places (map (λ h. has_smaller_first (relabelled_gate f h)) c.gates) (converted f order c) ≡ c
+converted_is_restored f g order places c constant back are =
+    let new : List Gate = map (relabelled_gate f) c.gates in
+    let flags = sym (map-map has_smaller_first (relabelled_gate f) c.gates) in
+    ap (λ gs. relabelled g (with_gates gs (relabelled f c)))
+    (ap₂ exchanged_by flags (converted_in_places f order places c are) ∙ all_go_back new)
+    ∙ relabellings_compose f g c
+    ∙ names_kept_keep_all (λ v. g (f v)) c back
+
+-- what was restored, by the variables of before
+relabelled_again : (f g : ℕ → ℕ) (places : List ℕ) (flags : List Bool) (x : Circuit)
+    → f (g 0) ≡ 0 → NamesOnly (λ v. f (g v) ≡ v) x
+    → relabelled f (restored g places flags x) ≡ with_operands_exchanged flags (reordered places x)
+relabelled_again f g places flags x constant there =
+    let r : ℕ → ℕ = λ v. f (g v) in
+    let exchanged : Circuit → Circuit = with_operands_exchanged flags in
+    relabellings_compose g f (exchanged (reordered places x))
+    ∙ exchange_commutes r flags (reordered places x)
+    ∙ ap exchanged (order_commutes r places x constant)
+    ∙ ap (λ (c : Circuit). exchanged (reordered places c)) (names_kept_keep_all r x there)
+
+pub restored_is_converted : (f g : ℕ → ℕ) (order places : List ℕ) (flags : List Bool) (x : Circuit)
+    → f (g 0) ≡ 0 → NamesOnly (λ v. f (g v) ≡ v) x → ArePlaces places order (length x.gates)
+    → map operands_sorted x.gates ≡ x.gates
+    → converted f order (restored g places flags x) ≡ x
+restored_is_converted f g order places flags x constant there are larger_first =
+    let gates =
+    taken_mapped operands_sorted refl (exchanged_by flags (taken x.gates places)) order
+    ∙ ap (λ gs. taken gs order)
+    (all_sorted_again flags (taken x.gates places) ∙ taken_mapped operands_sorted refl x.gates places)
+    ∙ ap (λ gs. taken (taken gs places) order) larger_first
+    ∙ taken_back x.gates places order are in
+    ap (λ (c : Circuit). with_gates (map operands_sorted (taken c.gates order)) c)
+    (relabelled_again f g places flags x constant there)
+    ∙ ap (λ gs. with_gates gs x) gates
+
+-- the variables of gates that are taken
+pub variables_taken : (gs : List Gate) (order : List ℕ)
+    → variables (taken gs order) ≡ map (λ at. get_or (variables gs) at 0) order
+variables_taken gs order = search (rules, map-map, map_each, variables, read_mapped)
+
+-- in the order that it had, a restored circuit defines what the circuit does, by other variables
+pub defined_in_order : (g : ℕ → ℕ) (order places : List ℕ) (flags : List Bool) (x : Circuit) → g 0 ≡ 0
+    → ArePlaces places order (length x.gates)
+    → defined_variables (reordered order (restored g places flags x)) ≡ map g (defined_variables x)
+defined_in_order g order places flags x constant are =
+    let first : List ℕ = x.inputs ++ map (λ (l : Latch). l.var) x.latches in
+    let moved : List Gate = taken x.gates places in
+    let gates = variables_taken (exchanged_by flags moved) order
+    ∙ ap (λ vs. map (λ at. get_or vs at 0) order) (same_variables flags moved)
+    ∙ sym (variables_taken moved order)
+    ∙ ap variables (taken_back x.gates places order are) in
+    ap defined_variables (sym (order_commutes g order (with_operands_exchanged flags (reordered places x)) constant))
+    ∙ defined_relabelled g (reordered order (with_operands_exchanged flags (reordered places x)))
+    ∙ ap (λ vs. map g (first ++ vs)) gates

@@ -1,21 +1,53 @@
--- Relabelling composes, and only the variables that are named matter.
-use Rattle.std.proofs.Common.{rules}
-use Rattle.std.proofs.Common.{◌≡◌, ◌+◌, ◌*◌, ◌%◌, ℕ, List, [], get_or, map, refl, ap, ap₂, ◌∙◌, arith, ◌∷◌}
-use Rattle.std.proofs.lemmas.List.{map-id}
-use Rattle.std.proofs.lemmas.Simd.{map-map}
+-- Relabelling composes, and gates are changed one by one and taken in an order in either turn.
+use Rattle.std.proofs.Common.{◌≡◌, ◌∷◌, ◌∙◌, ◌+◌, ◌*◌, ◌%◌, ◌<◌, ℕ, zero, suc, List, [], get_or, map, refl, sym, ap₂}
+use Rattle.std.proofs.Common.{rules, ap, arith, Bool, true, false, cond, ltb, length, max, min}
 use Rattle.std.specs.List.{AllByRecursion, concat, flat_map}
+use Rattle.std.proofs.lemmas.List.{map-id, length-map, get_or-map, ext_get_or}
+use Rattle.std.proofs.lemmas.Simd.{map-map}
+use Rattle.std.proofs.Math.Nat.{max_comm, min_comm}
 use Rattle.aig_circuit.specs.declared.circuit.Latch.{Latch}
 use Rattle.aig_circuit.specs.declared.circuit.Gate.{Gate}
 use Rattle.aig_circuit.specs.declared.circuit.Circuit.{Circuit}
-use Rattle.aig_image.specs.Relabelled.{relabelled_literal, relabelled_latch, relabelled_gate, relabelled}
-use Rattle.aig_image.specs.Relabelled.{GateNames, NamesOnly, LatchNames}
 use Rattle.aig_circuit.specs.Literal.{variable_of}
 use Rattle.aig_circuit.specs.Wellformed.{literal_lists, IsKnown, IsWellFormed, defined_variables, operands}
-use Rattle.aig_circuit.proofs.Makers.{latch, gate, gates_alike}
-use Rattle.aig_circuit.proofs.Checking.Fitting.{each, all_weaker}
-use Rattle.aig_circuit.proofs.Checking.InForm.{front, back}
-use Rattle.aig_image.proofs.Relabelling.Lists.{map_where, map_twice, map_nothing}
+use Rattle.aig_circuit.proofs.Alike.{latch, gate, gates_alike}
+use Rattle.aig_circuit.proofs.Checking.{each, all_weaker, front, back}
 use Rattle.aig_topo.proofs.Ordering.Ranked.{variables}
+use Rattle.aig_image.specs.Relabelled.{relabelled_literal, relabelled_latch, relabelled_gate, relabelled, GateNames}
+use Rattle.aig_image.specs.Relabelled.{NamesOnly, LatchNames}
+use Rattle.aig_image.specs.Reordered.{no_gate, taken, reordered, operands_sorted, has_smaller_first, exchanged_if}
+use Rattle.aig_image.specs.Reordered.{exchanged_by, with_operands_exchanged, ArePlaces}
+
+module _ {X Y : Type 0} where
+  -- two maps agree where they agree on each element
+  pub map_each : (h k : X → Y) → ((x : X) → h x ≡ k x) → (xs : List X) → map h xs ≡ map k xs
+  map_each h k same [] = refl
+  map_each h k same (x ∷ xs) = ap₂ (λ (y : Y) (ys : List Y). y ∷ ys) (same x) (map_each h k same xs)
+
+  -- the same where P holds of each element
+  pub map_where : (P : X → Type 0) (h k : X → Y) → ((x : X) → P x → h x ≡ k x)
+      → (xs : List X) → AllByRecursion P xs → map h xs ≡ map k xs
+  map_where P h k same [] all = refl
+  map_where P h k same (x ∷ xs) all =
+      ap₂ (λ (y : Y) (ys : List Y). y ∷ ys) (same x all.0) (map_where P h k same xs all.1)
+
+  -- a map that keeps the value read outside is read anywhere
+  pub read_mapped : (h : X → Y) (d : X) (e : Y) → h d ≡ e → (xs : List X) (i : ℕ)
+      → get_or (map h xs) i e ≡ h (get_or xs i d)
+  read_mapped h d e kept [] i = sym kept
+  read_mapped h d e kept (x ∷ xs) zero = refl
+  read_mapped h d e kept (x ∷ xs) (suc i) = read_mapped h d e kept xs i
+
+-- a map behind a map
+pub map_twice : {X Y Z : Type 0} (h : X → Y) (k : Y → Z) (m : X → Z) → ((x : X) → k (h x) ≡ m x)
+    → (xs : List X) → map k (map h xs) ≡ map m xs
+map_twice h k m same xs = map-map k h xs ∙ map_each (λ x. k (h x)) m same xs
+
+-- a map that changes nothing
+pub map_nothing : {X : Type 0} (h : X → X) → ((x : X) → h x ≡ x) → (xs : List X) → map h xs ≡ xs
+map_nothing h same xs = map_each h (λ x. x) same xs ∙ map-id xs
+
+-- Relabelling composes, and only the variables that are named matter.
 
 -- the circuit with other sections; the lists of literals stand in the order of `literal_lists`
 abbrev sections : Circuit → List ℕ → List Latch → List (List ℕ) → List Gate → Circuit
@@ -114,3 +146,65 @@ module _ (P : ℕ → Type 0) (c : Circuit) (constant : P 0) (defined : AllByRec
 
   pub names_only : IsWellFormed c → NamesOnly P c
   names_only good = search (rules, front, variables, of_latches, back, of_lists, of_gates)
+
+-- Gates are changed one by one and taken in an order in either turn; sorted operands are exchanged back.
+
+-- what keeps the gate that stands nowhere is done to gates before or after they are taken
+pub taken_mapped : (h : Gate → Gate) → h no_gate ≡ no_gate → (gates : List Gate) (order : List ℕ)
+    → map h (taken gates order) ≡ taken (map h gates) order
+taken_mapped h kept gates order = search (rules, map-map, map_each, read_mapped)
+
+pub order_commutes : (f : ℕ → ℕ) (order : List ℕ) (c : Circuit) → f 0 ≡ 0
+    → relabelled f (reordered order c) ≡ reordered order (relabelled f c)
+order_commutes f order c constant = search (rules, with_gates, taken_mapped, gate)
+
+-- gates taken in an order, then at their places, are the gates
+pub taken_back : (gates : List Gate) (order places : List ℕ) → ArePlaces order places (length gates)
+    → taken (taken gates order) places ≡ gates
+taken_back gates order places are =
+    let long = length-map places (λ p. get_or (taken gates order) p no_gate) ∙ are.0 in
+    ext_get_or no_gate (taken (taken gates order) places) gates long (λ i below.
+    let here : i < length gates = omega (arith, below, long) in
+    get_or-map (λ p. get_or (taken gates order) p no_gate) places i 0 no_gate (omega (arith, here, are.0))
+    ∙ get_or-map (λ p. get_or gates p no_gate) order (get_or places i 0) 0 no_gate (are.1 i here).0
+    ∙ ap (λ p. get_or gates p no_gate) (are.1 i here).1)
+
+-- the larger and the smaller of two numbers, in the order that they had
+left_kept : (a b : ℕ) → cond (ltb a b) (min a b) (max a b) ≡ a
+left_kept a b = search rules
+
+right_kept : (a b : ℕ) → cond (ltb a b) (max a b) (min a b) ≡ b
+right_kept a b = search rules
+
+pub sorted_operands_go_back : (g : Gate) → exchanged_if (has_smaller_first g) (operands_sorted g) ≡ g
+sorted_operands_go_back g = ap₂ (gate g.var) (left_kept g.left g.right) (right_kept g.left g.right)
+
+pub all_go_back : (gs : List Gate) → exchanged_by (map has_smaller_first gs) (map operands_sorted gs) ≡ gs
+all_go_back [] = refl
+all_go_back (g ∷ gs) = ap₂ (λ (h : Gate) (hs : List Gate). h ∷ hs) (sorted_operands_go_back g) (all_go_back gs)
+
+-- operands are exchanged before or after they are relabelled
+all_relabelled : (f : ℕ → ℕ) (flags : List Bool) (gs : List Gate)
+    → map (relabelled_gate f) (exchanged_by flags gs) ≡ exchanged_by flags (map (relabelled_gate f) gs)
+all_relabelled f [] gs = refl
+all_relabelled f (e ∷ es) [] = refl
+all_relabelled f (true ∷ es) (g ∷ gs) =
+    ap (λ (hs : List Gate). relabelled_gate f (exchanged_if true g) ∷ hs) (all_relabelled f es gs)
+all_relabelled f (false ∷ es) (g ∷ gs) =
+    ap (λ (hs : List Gate). relabelled_gate f (exchanged_if false g) ∷ hs) (all_relabelled f es gs)
+
+pub exchange_commutes : (f : ℕ → ℕ) (flags : List Bool) (c : Circuit)
+    → relabelled f (with_operands_exchanged flags c) ≡ with_operands_exchanged flags (relabelled f c)
+exchange_commutes f flags c = ap (λ gs. with_gates gs (relabelled f c)) (all_relabelled f flags c.gates)
+
+-- operands are sorted alike, exchanged or not
+sorted_again : (e : Bool) (g : Gate) → operands_sorted (exchanged_if e g) ≡ operands_sorted g
+sorted_again true g = ap₂ (gate g.var) (max_comm g.right g.left) (min_comm g.right g.left)
+sorted_again false g = refl
+
+pub all_sorted_again : (flags : List Bool) (gs : List Gate)
+    → map operands_sorted (exchanged_by flags gs) ≡ map operands_sorted gs
+all_sorted_again [] gs = refl
+all_sorted_again (e ∷ es) [] = refl
+all_sorted_again (e ∷ es) (g ∷ gs) =
+    ap₂ (λ (h : Gate) (hs : List Gate). h ∷ hs) (sorted_again e g) (all_sorted_again es gs)

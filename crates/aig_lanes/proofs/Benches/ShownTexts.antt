@@ -1,6 +1,6 @@
 -- What is kept of the steps of a run, and its text.
-use Rattle.std.proofs.Common.{◌≡◌, ◌+◌, ◌*◌, ◌<◌, ◌≤◌, ◌++◌, ℕ, zero, suc, List, [], ◌∷◌, ap, ap₂, arith, codes}
-use Rattle.std.proofs.Common.{◌∙◌, get_or, inl, inr, length, map, refl, subst, sym, take}
+use Rattle.std.proofs.Common.{◌≡◌, ◌+◌, ◌*◌, ◌<◌, ◌≤◌, ◌++◌, ◌∷◌, ◌∙◌, ℕ, zero, suc, List, [], ap, ap₂, arith, codes}
+use Rattle.std.proofs.Common.{get_or, inl, inr, length, map, refl, subst, sym, take}
 use Rattle.std.proofs.lemmas.Bool.{cases_lt}
 use Rattle.std.proofs.lemmas.List.{append-nil, append_assoc, drop_at, get_or_append_left, get_or_push, length-append}
 use Rattle.std.proofs.lemmas.List.{length-map, length-take, length-take-le, map-append, take_all, take_at, take_more}
@@ -21,7 +21,7 @@ use Rattle.aig_lanes.specs.Parts.Sheets.{part}
 use Rattle.aig_step.specs.Parts.Lines.{row_read}
 use Rattle.aig_step.specs.Parts.Tables.{read_from}
 use Rattle.aig_step.specs.TraceText.{character_of, properties_text, row_text, rows_text, values_text}
-use Rattle.aig_step.proofs.States.{state_after_last}
+use Rattle.aig_step.proofs.Running.Machines.{state_after_last}
 use Rattle.aig_lanes.proofs.Side.Sheets.{part_same, steps_within}
 
 asked-map : {A B : Type 0} (f : A → B) (columns : Columns) (xs : List A)

@@ -1,17 +1,14 @@
 -- Eight literals put at once.
-use Rattle.std.proofs.Common.{rules}
-use Rattle.std.proofs.Common.{◌≡◌, ◌+◌, ◌-◌, ◌*◌, ◌/◌, ◌%◌, ◌^◌, ◌<◌, ◌≤◌, ◌==◌, ◌++◌, ℕ, List, [], ◌∷◌}
-use Rattle.std.proofs.Common.{if◌then◌else◌, length, get_or, set, take, drop, refl, subst, sym, ap, ap₂, ◌∙◌, arith}
-use Rattle.std.proofs.Common.{inl, inr}
+use Rattle.std.proofs.Common.{◌≡◌, ◌+◌, ◌-◌, ◌*◌, ◌/◌, ◌%◌, ◌^◌, ◌<◌, ◌≤◌, ◌==◌, ◌++◌, ◌∷◌, if◌then◌else◌, ◌∙◌, rules}
+use Rattle.std.proofs.Common.{ℕ, List, [], length, get_or, set, take, drop, refl, subst, sym, ap, ap₂, arith, inl, inr}
 use Rattle.std.specs.Int.{bit_at}
 use Rattle.std.specs.Simd.Lanes.{digits_l, number_l, pick_l, zip2, Each1}
 use Rattle.std.proofs.lemmas.Bool.{cases_lt}
 use Rattle.std.proofs.lemmas.Grind.{same_number_lists}
 use Rattle.std.proofs.lemmas.List.{append-nil, drop-drop, drop_all, get_or-append-add, get_or-drop, get_or-map}
 use Rattle.std.proofs.lemmas.List.{get_or-set_other, get_or-set_same, get_or-take, get_or_append_left, length-append}
-use Rattle.std.proofs.lemmas.List.{length-drop, length-map, length-set, length-take, length-take-le}
-use Rattle.std.proofs.lemmas.List.{take-append-le, take-take}
-use Rattle.std.proofs.lemmas.List.{take_all}
+use Rattle.std.proofs.lemmas.List.{length-drop, length-map, length-set, length-take, length-take-le, take-append-le}
+use Rattle.std.proofs.lemmas.List.{take-take, take_all}
 use Rattle.std.proofs.lemmas.List.FromFn.{get_or-map-range_with_len}
 use Rattle.std.proofs.lemmas.Simd.{get_or-zip2, get_or_narrower, length-zip2}
 use Rattle.aig_circuit.specs.declared.value.Val.{Val}

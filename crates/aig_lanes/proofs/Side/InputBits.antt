@@ -1,18 +1,15 @@
 -- The inputs of runs as bits.
-use Rattle.std.proofs.Common.{rules}
-use Rattle.std.proofs.Common.{◌≡◌, ◌+◌, ◌-◌, ◌*◌, ◌/◌, ◌%◌, ◌^◌, ◌<◌, ◌≤◌, ◌==◌, ℕ, zero, suc, List, [], ◌∷◌}
-use Rattle.std.proofs.Common.{Bool, true, false, not, cond, eqb, if◌then◌else◌, length, map, get_or, take, drop}
-use Rattle.std.proofs.Common.{below_more, subst, replicate, refl, sym, ap, ap₂, ◌∙◌, arith, w8, inl, inr, ◌≢◌, ◌++◌, set}
+use Rattle.std.proofs.Common.{◌≡◌, ◌+◌, ◌-◌, ◌*◌, ◌/◌, ◌%◌, ◌^◌, ◌<◌, ◌≤◌, ◌==◌, ◌∷◌, if◌then◌else◌, ◌∙◌, ◌≢◌, ◌++◌}
+use Rattle.std.proofs.Common.{rules, ℕ, zero, suc, List, [], Bool, true, false, not, cond, eqb, length, map, get_or}
+use Rattle.std.proofs.Common.{take, drop, below_more, subst, replicate, refl, sym, ap, ap₂, arith, w8, inl, inr, set}
+use Rattle.std.proofs.Common.{pow-suc, pow-add, get_or-drop, get_or-take, length-drop, length-take-le}
+use Rattle.std.proofs.Common.{get_or-append-add, get_or-set_other, get_or-set_same}
 use Rattle.std.specs.Int.{bit_at}
 use Rattle.std.specs.Int.Bits.{and_mask, bit_and}
-use Rattle.std.proofs.Math.Nat.{pow-suc}
-use Rattle.std.proofs.lemmas.Nat.{pow-add}
 use Rattle.std.specs.Simd.Lanes.{chunk, mask_l, top, zip2, digits_l, number_l, pick_l, Each1}
 use Rattle.std.proofs.lemmas.Bool.{cases_lt, cases_eq}
 use Rattle.std.proofs.lemmas.Bool.Decides.{eqb_tells}
-use Rattle.std.proofs.lemmas.List.{get_or-drop, get_or-map, get_or-replicate, get_or-take, length-drop}
-use Rattle.std.proofs.lemmas.List.{length-take-le, get_or-append-add, get_or-set_other, get_or-set_same}
-use Rattle.std.proofs.lemmas.List.{get_or_append_left}
+use Rattle.std.proofs.lemmas.List.{get_or-map, get_or-replicate, get_or_append_left}
 use Rattle.std.proofs.lemmas.Simd.{bit_mask_l, bitmask_splat, get_or-chunk, get_or-zip2, length-chunk, length-zip2}
 use Rattle.std.proofs.lemmas.Simd.{get_or_narrower, pick_l_left}
 use Rattle.std.proofs.lemmas.List.FromFn.{get_or-map-range_with_len}

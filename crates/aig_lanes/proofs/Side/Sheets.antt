@@ -1,20 +1,138 @@
--- The characters of literals in all lanes.
-use Rattle.std.proofs.Common.{◌≡◌, ◌≢◌, ◌+◌, ◌*◌, ◌/◌, ◌%◌, ◌^◌, ◌<◌, ◌≤◌, ℕ, zero, suc, List, [], ◌∷◌}
-use Rattle.std.proofs.Common.{drop, length, take, refl, sym, ap, ap₂, ◌∙◌, arith, get_or, min, max}
-use Rattle.std.proofs.Math.Nat.{add-mul, mul-le-mul_right, one-mul}
-use Rattle.std.proofs.lemmas.List.{drop-take, take-take}
-use Rattle.std.proofs.lemmas.Nat.{pow_below, pow_pos, shr-shr}
-use Rattle.std.proofs.lemmas.Nat.Bits.{and_pow, bit_at_and, bit_at_ones, bit_at-lt, bit_at_or, bit_at-zero}
+-- The steps of a run, and of the runs of a group, and the characters of literals in all lanes.
+use Rattle.std.proofs.Common.{◌≡◌, ◌*◌, ◌<◌, ◌∷◌, ◌∙◌, ◌+◌, ◌++◌, ◌≤◌, ◌≢◌, ◌/◌, ◌%◌, ◌^◌, ℕ, zero, suc, List, []}
+use Rattle.std.proofs.Common.{length, map, get_or, set, replicate, refl, sym, ap, subst, arith, rules, Option, None}
+use Rattle.std.proofs.Common.{Some, drop, is_some, take, true, ap₂, min, max, All, drop-drop, length-drop}
+use Rattle.std.proofs.Common.{length-take-le, take-take, add-mul, mul-le-mul_right, one-mul, pow_pos, shr-shr}
 use Rattle.std.specs.Int.{bit_at}
 use Rattle.std.specs.Int.Bits.{bit_and, bit_or}
 use Rattle.std.specs.Simd.Lanes.{zip2}
-use Rattle.aig_circuit.specs.declared.value.Val.{Val}
-use Rattle.aig_circuit.specs.declared.value.Val.TheVariants.{Zero, One, X}
-use Rattle.aig_lanes.specs.Parts.Lanes.{IsPair, bit_in}
+use Rattle.std.proofs.lemmas.List.Elements.{All-replicate}
+use Rattle.std.proofs.lemmas.Bool.{cases_lt}
+use Rattle.std.proofs.lemmas.List.{drop-take}
+use Rattle.std.proofs.lemmas.Nat.{pow_below}
+use Rattle.std.proofs.lemmas.Nat.Bits.{and_pow, bit_at_and, bit_at_ones, bit_at-lt, bit_at_or, bit_at-zero}
 use Rattle.std.proofs.lemmas.Simd.{length-zip2}
+use Rattle.aig_circuit.specs.declared.circuit.Circuit.{Circuit}
+use Rattle.aig_circuit.specs.declared.value.Val.{Val}
+use Rattle.aig_circuit.specs.declared.value.Val.TheVariants.{Zero, X, One}
+use Rattle.aig_meaning.specs.Meaning.{MeansTheSame, literal_value, next_literals}
+use Rattle.aig_meaning.specs.Trace.{IsTrace, reset_state}
+use Rattle.aig_meaning.proofs.Traces.{same_meaning_same_traces}
+use Rattle.aig_step.specs.Parts.Tables.{placed, read_from}
+use Rattle.aig_step.specs.Stimulus.{values_of}
+use Rattle.aig_step.specs.TraceText.{values_text, character_of}
+use Rattle.aig_step.proofs.Running.Machines.{same_reset_state}
+use Rattle.aig_step.proofs.LineValues.{values_length, values_back}
+use Rattle.aig_lanes.specs.declared.run.Run.{Run}
+use Rattle.aig_lanes.specs.declared.run.Trace.{Trace}
+use Rattle.aig_lanes.specs.Parts.Groups.{Assigned}
+use Rattle.aig_lanes.specs.Parts.Lanes.{IsLane, IsPlane, bit_in, bits_of_values, IsPair}
+use Rattle.aig_lanes.specs.Runs.{IsTraceOf, row_of}
+use Rattle.aig_lanes.specs.Parts.Vectors.{AreVectors, said, vectors_in}
 use Rattle.aig_lanes.specs.Parts.Sheets.{BytesText, bytes_text, character_by}
-use Rattle.aig_lanes.proofs.Side.Vectors.{one_more}
-use Rattle.aig_step.specs.TraceText.{character_of}
+
+all_x : (n : ℕ) → bits_of_values (replicate n X) ≡ replicate (2 * n) 1
+all_x zero = refl
+all_x (suc n) =
+    let twice : 2 * suc n ≡ suc (suc (2 * n)) = omega arith in
+    ap (λ bs. 1 ∷ 1 ∷ bs) (all_x n) ∙ ap (λ m. replicate m 1) (sym twice)
+
+map_replicate : (f : List ℕ → ℕ) (n : ℕ) (plane : List ℕ) → map f (replicate n plane) ≡ replicate n (f plane)
+map_replicate f zero plane = refl
+map_replicate f (suc n) plane = ap (λ bs. f plane ∷ bs) (map_replicate f n plane)
+
+-- a table of planes that are set in a lane
+pub table_of_x : (l n : ℕ) (plane : List ℕ) → IsPlane plane → bit_in l plane ≡ 1
+    → IsLane l (replicate (2 * n) plane) (replicate n X)
+table_of_x l n plane is_plane is = record {
+  whole = All-replicate IsPlane (2 * n) plane is_plane;
+  bits = map_replicate (bit_in l) (2 * n) plane ∙ ap (replicate (2 * n)) is ∙ sym (all_x n);
+}
+
+-- what the parts of a step do in a lane
+pub record StepsIn (c : Circuit) (run : Run) (step lane : ℕ)
+    (table begun table_now state state_now : List (List ℕ)) : Type 0 where
+  pub put : (values : List Val) → step < length run.steps → IsLane lane table values
+      → IsLane lane begun (placed 1 (get_or run.steps step []) (set values 0 Zero))
+  pub assign : (given values start : List Val) → length given ≡ length c.inputs
+      → IsLane lane begun (placed 1 given (set values 0 Zero)) → IsLane lane state start
+      → Assigned c lane start given table_now
+  pub show : (values start : List Val) → IsLane lane table_now values → IsLane lane state start
+      → IsLane lane state_now (map (literal_value (read_from values)) (next_literals c))
+
+-- traces of circuits that mean the same
+pub same_trace_of : (c d : Circuit) (run : Run) (trace : Trace) → MeansTheSame c d → IsTraceOf d run trace
+    → IsTraceOf c run trace
+same_trace_of c d run trace same is =
+    subst (λ (first : List Val). IsTrace c first run.steps (map row_of trace.rows)) (same_reset_state c d same)
+    ((same_meaning_same_traces c d same (reset_state d) run.steps (map row_of trace.rows)).1 is)
+
+-- The steps of a run, where they stand.
+
+-- a product with one more
+pub one_more : (n size : ℕ) → suc n * size ≡ size + n * size
+one_more n size = omega arith
+
+pub vectors_count : (inputs stride steps : ℕ) (lines : List ℕ) → length (vectors_in inputs stride steps lines) ≡ steps
+vectors_count inputs stride zero lines = refl
+vectors_count inputs stride (suc steps) lines = ap suc (vectors_count inputs stride steps (drop stride lines))
+
+-- the line of a step
+pub vector_at : (inputs stride steps k : ℕ) (lines : List ℕ) (d : List Val) → k < steps
+    → get_or (vectors_in inputs stride steps lines) k d ≡ said (values_of (take inputs (drop (k * stride) lines)))
+vector_at inputs stride zero k lines d below = absurd (omega (arith, below))
+vector_at inputs stride (suc steps) zero lines d below =
+    let none : 0 ≡ 0 * stride = omega arith in ap (λ n. said (values_of (take inputs (drop n lines)))) none
+vector_at inputs stride (suc steps) (suc k) lines d below =
+    vector_at inputs stride steps k (drop stride lines) d (omega (arith, below))
+    ∙ ap (λ ls. said (values_of (take inputs ls)))
+    (drop-drop (k * stride) stride lines ∙ ap (λ n. drop n lines) (sym (one_more k stride)))
+
+-- one more step behind all others
+pub vectors_push : (inputs stride steps : ℕ) (lines : List ℕ) → vectors_in inputs stride (steps + 1) lines
+    ≡ vectors_in inputs stride steps lines ++ said (values_of (take inputs (drop (steps * stride) lines))) ∷ []
+vectors_push inputs stride zero lines =
+    let none : 0 ≡ 0 * stride = omega arith in ap (λ n. said (values_of (take inputs (drop n lines))) ∷ []) none
+vectors_push inputs stride (suc steps) lines =
+    let next : suc steps + 1 ≡ suc (steps + 1) = omega arith in
+    ap (λ n. vectors_in inputs stride n lines) next
+    ∙ ap (λ vs. said (values_of (take inputs lines)) ∷ vs)
+    (vectors_push inputs stride steps (drop stride lines)
+    ∙ ap (λ ls. vectors_in inputs stride steps (drop stride lines) ++ said (values_of (take inputs ls)) ∷ [])
+    (drop-drop (steps * stride) stride lines ∙ ap (λ n. drop n lines) (sym (one_more steps stride))))
+
+pub more_vectors : (inputs stride steps : ℕ) (lines : List ℕ) → AreVectors inputs stride steps lines
+    → steps * stride + inputs ≤ length lines
+    → is_some (values_of (take inputs (drop (steps * stride) lines))) ≡ true
+    → AreVectors inputs stride (steps + 1) lines
+more_vectors inputs stride steps lines are within good = search (rules, cases_lt, is_some)
+
+pub said_is : (o : Option (List Val)) → is_some o ≡ true → o ≡ Some (said o)
+said_is None is = cc
+said_is (Some values) is = refl
+
+-- the characters of a step
+pub vector_text : (inputs stride steps k : ℕ) (lines : List ℕ) (d : List Val) → AreVectors inputs stride steps lines
+    → k < steps
+    → take inputs (drop (k * stride) lines) ≡ values_text (get_or (vectors_in inputs stride steps lines) k d)
+vector_text inputs stride steps k lines d are below =
+    let text = take inputs (drop (k * stride) lines) in
+    sym (values_back text (said (values_of text)) (said_is (values_of text) (are.good k below)))
+    ∙ ap values_text (sym (vector_at inputs stride steps k lines d below))
+
+-- as many as there are inputs
+pub vectors_fit : (inputs stride steps : ℕ) (lines : List ℕ) → AreVectors inputs stride steps lines
+    → All (λ (vector : List Val). length vector ≡ inputs) (vectors_in inputs stride steps lines)
+vectors_fit inputs stride steps lines are = λ k d below.
+    let there : k < steps = omega (arith, below, vectors_count inputs stride steps lines) in
+    let rest = drop (k * stride) lines in
+    let text = take inputs rest in
+    let room : inputs ≤ length rest = omega (arith, are.within k there, length-drop (k * stride) lines) in
+    ap length (vector_at inputs stride steps k lines d there)
+    ∙ values_length text (said (values_of text)) (said_is (values_of text) (are.good k there))
+    ∙ length-take-le inputs rest room
+
+-- The characters of literals in all lanes.
 
 -- a part of both lists
 pub zip_take : (f : ℕ → ℕ → ℕ) (n : ℕ) (xs ys : List ℕ) → zip2 f (take n xs) (take n ys) ≡ take n (zip2 f xs ys)
@@ -100,7 +218,7 @@ steps_within step end width below =
     omega (arith, next, mul-le-mul_right {m = step + 1} {n = end} width more)
 
 -- a word of a plane that was computed word by word
-pub zip_at : (f : ℕ → ℕ → ℕ) → f 0 0 ≡ 0 → (p q : List ℕ) (i : ℕ) → length p ≡ length q
+zip_at : (f : ℕ → ℕ → ℕ) → f 0 0 ≡ 0 → (p q : List ℕ) (i : ℕ) → length p ≡ length q
     → get_or (zip2 f p q) i 0 ≡ f (get_or p i 0) (get_or q i 0)
 zip_at f none [] [] i same = sym none
 zip_at f none [] (y ∷ ys) i same = absurd (omega (arith, same))

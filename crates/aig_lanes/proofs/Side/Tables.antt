@@ -1,13 +1,11 @@
 -- Tables of planes: what stands in a lane.
-use Rattle.std.proofs.Common.{rules}
-use Rattle.std.proofs.Common.{◌≡◌, ◌+◌, ◌*◌, ◌/◌, ◌%◌, ◌<◌, ◌≤◌, ◌==◌, ℕ, zero, suc, List, [], ◌∷◌}
-use Rattle.std.proofs.Common.{length, map, get_or, set, take, drop, refl, sym, ap, ap₂, ◌∙◌, arith, min, max}
-use Rattle.std.proofs.Common.{◌++◌, if◌then◌else◌, inl, inr, drop-cons, zero-add}
+use Rattle.std.proofs.Common.{◌≡◌, ◌+◌, ◌*◌, ◌/◌, ◌%◌, ◌<◌, ◌≤◌, ◌==◌, ◌∷◌, ◌∙◌, ◌++◌, if◌then◌else◌, rules, ℕ, zero}
+use Rattle.std.proofs.Common.{suc, List, [], length, map, get_or, set, take, drop, refl, sym, ap, ap₂, arith, min, max}
+use Rattle.std.proofs.Common.{inl, inr, drop-cons, zero-add, append-nil, length-take, take_all}
 use Rattle.std.specs.Int.Bits.{bit_and, bit_or}
 use Rattle.std.specs.Simd.Lanes.{zip2}
 use Rattle.std.proofs.lemmas.Bool.{cases_lt}
-use Rattle.std.proofs.lemmas.List.{append-nil, drop_all, get_or-map, length-map, length-take, map-set}
-use Rattle.std.proofs.lemmas.List.{take_all, take_more}
+use Rattle.std.proofs.lemmas.List.{drop_all, get_or-map, length-map, map-set, take_more}
 use Rattle.std.proofs.lemmas.List.Edits.{paste_more}
 use Rattle.std.proofs.lemmas.List.Elements.{All-set}
 use Rattle.std.proofs.lemmas.Simd.{length-zip2}
@@ -19,7 +17,7 @@ use Rattle.aig_meaning.specs.Meaning.{literal_value}
 use Rattle.aig_lanes.specs.Parts.Lanes.{IsLane, IsPair, IsPlane, bit_in, bits_of_values, may_be_one}
 use Rattle.aig_step.specs.declared.evaluate.Pair.{Pair}
 use Rattle.aig_step.specs.Parts.Tables.{evaluated, placed, read_from}
-use Rattle.aig_step.proofs.Running.Tables.{placed_behind}
+use Rattle.aig_step.proofs.Running.Machines.{placed_behind}
 use Rattle.aig_lanes.proofs.Side.Sheets.{and_in, or_in}
 
 pub bits_length : (vs : List Val) → length (bits_of_values vs) ≡ 2 * length vs

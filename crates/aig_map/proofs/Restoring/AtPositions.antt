@@ -1,11 +1,13 @@
--- The gates of the source: those of the image, put at their positions, and exchanged there.
-use Rattle.std.proofs.Common.{rules}
-use Rattle.std.proofs.Common.{◌≡◌, ◌<◌, ℕ, List, Bool, true, false, length, map, refl, sym, ap, subst, ◌∙◌, arith}
-use Rattle.std.proofs.Common.{◌≢◌, [], ◌∷◌, eqb, get_or, ⊎_elim}
+-- The gates of the source, put at their positions one by one and exchanged there.
+use Rattle.std.proofs.Common.{◌≡◌, ◌<◌, ◌∙◌, ◌≢◌, ◌∷◌, ◌+◌, rules, ℕ, List, Bool, true, false, length, map, refl, sym}
+use Rattle.std.proofs.Common.{ap, subst, arith, [], eqb, get_or, ⊎_elim, set, get_or-set_same, get_or-set_other}
 use Rattle.std.specs.List.{AllByRecursion, position_or_len, range_with_len}
-use Rattle.std.proofs.lemmas.List.{length-map}
+use Rattle.std.proofs.lemmas.List.{length-map, get_or_default, get_or-map}
 use Rattle.std.proofs.lemmas.Simd.{map-map}
 use Rattle.std.proofs.lemmas.Bool.Decides.{eqb_tells}
+use Rattle.std.proofs.lemmas.Bool.{cases_lt}
+use Rattle.std.proofs.lemmas.Grind.{same_number_lists}
+use Rattle.std.proofs.lemmas.List.FromFn.{length-map-range_with_len}
 use Rattle.aig_circuit.specs.declared.circuit.Gate.{Gate}
 use Rattle.aig_circuit.specs.declared.circuit.Circuit.{Circuit}
 use Rattle.aig_circuit.specs.Wellformed.{AreDistinct, IsVariableUpTo}
@@ -13,21 +15,17 @@ use Rattle.aig_topo.proofs.Ordering.Ranked.{at}
 use Rattle.aig_image.specs.Relabelled.{relabelled_gate}
 use Rattle.aig_image.specs.Renumbering.{source_variable}
 use Rattle.aig_image.specs.Reordered.{ArePlaces, exchanged_by, exchanged_if, taken, positions_of}
-use Rattle.aig_image.proofs.Relabelling.Exchanged.{exchanged_each}
-use Rattle.aig_image.proofs.Relabelling.Lists.{map_each}
-use Rattle.aig_image.proofs.Relabelling.Positions.{places_apart, have_positions}
-use Rattle.aig_image.proofs.Relabelling.Reordered.{taken_back, taken_mapped}
-use Rattle.aig_image.proofs.Relabelling.Standing.{by_places, at_place}
+use Rattle.aig_image.proofs.Relabelling.Permuted.{exchanged_each}
+use Rattle.aig_image.proofs.Relabelling.Relabelled.{map_each, taken_back, taken_mapped}
+use Rattle.aig_image.proofs.Numbering.Places.{places_apart, have_positions, by_places, at_place, further, same_place}
 use Rattle.aig_image.proofs.Relabelling.Formed.{all_through}
-use Rattle.aig_image.proofs.Numbering.Places.{further}
 use Rattle.aig_map.specs.declared.map_block.MappedGate.{MappedGate}
 use Rattle.aig_map.specs.declared.map_block.MapBlock.{MapBlock}
 use Rattle.aig_map.specs.Parts.Had.{gates_there}
 use Rattle.aig_map.specs.Parts.Tables.{ArePut, IsFit}
 use Rattle.aig_map.specs.Parts.Turns.{positions}
 use Rattle.aig_map.specs.Undone.{exchanges_recorded, places_recorded, source_variables, variable_at_place}
-use Rattle.aig_map.proofs.Sources.RecordedAt.{gate_had}
-use Rattle.aig_map.proofs.Sources.Placed.{places_there}
+use Rattle.aig_map.proofs.Sources.Placed.{gate_had, places_there, none_recorded, recorded_at}
 
 abbrev pub variables_recorded : List MappedGate → List ℕ
 variables_recorded gates = map (λ (g : MappedGate). g.var) gates
@@ -51,7 +49,7 @@ pub by_position : (gates : List MappedGate) → map (variable_at_place gates) (r
 by_position gates = search (rules, map_each, variable_by_position, length-map, map-map)
 
 -- distinct places of so many gates are each that of one of them
-pub place_each : (gates : List MappedGate) (n : ℕ) → AreDistinct (places_recorded gates)
+place_each : (gates : List MappedGate) (n : ℕ) → AreDistinct (places_recorded gates)
     → AllByRecursion (λ (g : MappedGate). g.place < n) gates → length gates ≡ n
     → ArePlaces (positions_of (places_recorded gates)) (places_recorded gates) n
     × ArePlaces (places_recorded gates) (positions_of (places_recorded gates)) n
@@ -140,3 +138,48 @@ module _ (b : MapBlock) (x : Circuit) (fit : IsFit b x) where
       (exchanged_each (λ (m : MappedGate). m.exchanged) (λ m. relabelled_gate f (at x.gates m.place)) b.gates
       ∙ map_each (λ m. exchanged_if m.exchanged (relabelled_gate f (at x.gates m.place)))
       (λ m. relabelled_gate f (gate_had x.gates m)) (λ m. exchanged_too m.exchanged (at x.gates m.place)) b.gates)
+
+-- Positions that are put at their gates' places one by one.
+places_many : (gates : List MappedGate) → length (places_recorded gates) ≡ length gates
+places_many gates = length-map gates (λ (g : MappedGate). g.place)
+
+pub positions_many : (gates : List MappedGate) → length (positions gates) ≡ length gates
+positions_many gates =
+    length-map-range_with_len (position_at gates) 0 (length (places_recorded gates)) ∙ places_many gates
+
+module _ (gates : List MappedGate) (once : AreDistinct (places_recorded gates))
+    (below : AllByRecursion (λ (g : MappedGate). g.place < length gates) gates) where
+  abbrev place_of : ℕ → ℕ
+  place_of i = (recorded_at gates i).place
+
+  -- the first gates have put their positions
+  abbrev pub FirstArePut : ℕ → List ℕ → Type 0
+  FirstArePut k found = (i : ℕ) → i < k → get_or found (place_of i) 0 ≡ i
+
+  place_at : (i : ℕ) → i < length gates → get_or (places_recorded gates) i 0 ≡ place_of i
+  place_at i low = get_or-map (λ (g : MappedGate). g.place) gates i none_recorded 0 low
+
+  -- no two gates have one place
+  differ : (k i : ℕ) → k < i → i < length gates → place_of k ≢ place_of i
+  differ k i before low e =
+      let also : k < length gates = omega (arith, before, low) in
+      let same = same_place (places_recorded gates) once k i (omega (arith, also, places_many gates))
+      (omega (arith, low, places_many gates))
+      (place_at k also ∙ e ∙ sym (place_at i low)) in
+      omega (arith, before, same)
+
+  pub one_more_put : (k : ℕ) (found : List ℕ) (g : MappedGate)
+      → length found ≡ length gates → k < length gates → g ≡ get_or gates k g → FirstArePut k found
+      → FirstArePut (k + 1) (set found g.place k)
+  one_more_put k found g many there is put i low =
+      let here = ap (λ (m : MappedGate). m.place) (is ∙ get_or_default gates k g none_recorded there) in
+      let now : set found g.place k ≡ set found (place_of k) k = ap (λ p. set found p k) here in
+      let fits = at_place (λ (m : MappedGate). m.place < length gates) none_recorded gates below k there in
+      ⊎_elim (search (rules, get_or-set_other, differ))
+      (search (rules, get_or-set_same))
+      (cases_lt i k)
+
+  -- where all did, each place has its position
+  pub all_put : (found : List ℕ) → length found ≡ length gates → FirstArePut (length gates) found → found ≡ positions gates
+  all_put found many put =
+      same_number_lists found (positions gates) (many ∙ sym (positions_many gates)) (search (rules, place_each, places_many, place_at))

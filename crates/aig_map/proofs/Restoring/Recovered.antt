@@ -1,10 +1,8 @@
 -- What is undone of a circuit's mapped image, by the block of that image, is the circuit.
-use Rattle.std.proofs.Common.{rules}
-use Rattle.std.proofs.Common.{◌≡◌, ◌+◌, ◌<◌, ℕ, List, [], ◌++◌, Bool, length, length-append, get_or, map}
-use Rattle.std.proofs.Common.{Option, None, Some, refl, sym, ap, ap₂, subst, ◌∙◌, arith}
-use Rattle.std.specs.Prelude.{is_some}
-use Rattle.std.specs.Option.{unwrap_or}
-use Rattle.std.proofs.lemmas.List.{ext_get_or, length-map, get_or-map, get_or-append-add}
+use Rattle.std.proofs.Common.{◌≡◌, ◌+◌, ◌<◌, ◌++◌, ◌∙◌, rules, ℕ, List, [], Bool, length, length-append, get_or, map}
+use Rattle.std.proofs.Common.{Option, None, Some, refl, sym, ap, ap₂, subst, arith, is_some, unwrap_or, ext_get_or}
+use Rattle.std.proofs.Common.{get_or-append-add}
+use Rattle.std.proofs.lemmas.List.{length-map, get_or-map}
 use Rattle.std.proofs.lemmas.Simd.{map-map}
 use Rattle.aig_circuit.specs.declared.circuit.Latch.{Latch}
 use Rattle.aig_circuit.specs.declared.circuit.Gate.{Gate}
@@ -15,11 +13,10 @@ use Rattle.aig_topo.proofs.Ordering.Ranked.{at, no_gate, variables}
 use Rattle.aig_image.specs.Relabelled.{relabelled_gate}
 use Rattle.aig_image.specs.Renumbering.{in_new_order, renumbered, source_variable}
 use Rattle.aig_image.specs.Reordered.{ArePlaces, converted, operands_sorted, positions_of, restored, taken}
-use Rattle.aig_image.proofs.Numbering.OneToOne.{number_there}
+use Rattle.aig_image.proofs.Imaging.InTurn.{number_there, all_taken, order_is_places}
 use Rattle.aig_image.proofs.Imaging.Ordered.{names_go_back}
-use Rattle.aig_image.proofs.Imaging.Members.{all_taken, order_is_places}
-use Rattle.aig_image.proofs.Relabelling.Positions.{positions_are}
-use Rattle.aig_image.proofs.Relabelling.Restored.{converted_in_places, converted_is_restored, variables_taken}
+use Rattle.aig_image.proofs.Numbering.Places.{positions_are}
+use Rattle.aig_image.proofs.Relabelling.Permuted.{converted_in_places, converted_is_restored, variables_taken}
 use Rattle.aig_map.specs.declared.map_block.MappedGate.{MappedGate}
 use Rattle.aig_map.specs.declared.map_block.MapBlock.{MapBlock}
 use Rattle.aig_map.specs.MapBlock.{mapped_gate, map_block, mapped_by}

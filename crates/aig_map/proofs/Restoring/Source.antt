@@ -1,39 +1,39 @@
--- The circuit that is undone by a block that fits: in the order of its places it defines the variables that the block
--- tells of, and its gates are those at the places.
-use Rattle.std.proofs.Common.{rules}
-use Rattle.std.proofs.Common.{◌≡◌, ◌+◌, ◌<◌, ◌≤◌, ℕ, zero, suc, List, ◌++◌, Option, length, length-append}
-use Rattle.std.proofs.Common.{get_or, map, take, drop}
-use Rattle.std.proofs.Common.{refl, sym, ap, subst, ◌∙◌, arith, Bool}
+-- The circuit that is undone by a block that fits, and where its mapped image is the circuit it was undone from.
+use Rattle.std.proofs.Common.{◌≡◌, ◌+◌, ◌<◌, ◌≤◌, ◌++◌, ◌∙◌, ◌≢◌, ◌⊎◌, if◌then◌else◌, rules, ℕ, zero, suc, List, Option}
+use Rattle.std.proofs.Common.{length, length-append, get_or, map, take, drop, refl, sym, ap, subst, arith, Bool, []}
+use Rattle.std.proofs.Common.{true, false, None, Some, ap₂, is_some, unwrap_or, ext_get_or, get_or-append-add, take_at}
+use Rattle.std.proofs.Common.{drop_at, lt-ltb, le-ltb}
 use Rattle.std.specs.List.{AllByRecursion, range_with_len}
-use Rattle.std.proofs.lemmas.List.{ext_get_or, length-map, get_or-map, get_or-append-add, take_at, drop_at}
+use Rattle.std.proofs.lemmas.List.{length-map, get_or-map}
 use Rattle.std.proofs.lemmas.List.FromFn.{length-map-range_with_len, get_or-map-range_with_len}
 use Rattle.std.proofs.lemmas.Simd.{map-map}
 use Rattle.aig_circuit.specs.declared.circuit.Latch.{Latch}
 use Rattle.aig_circuit.specs.declared.circuit.Gate.{Gate}
 use Rattle.aig_circuit.specs.declared.circuit.Circuit.{Circuit}
 use Rattle.aig_circuit.specs.Wellformed.{AreDistinct, IsVariableUpTo, defined_variables, IsWellFormed}
-use Rattle.aig_circuit.proofs.Checking.Fitting.{each, all_weaker}
-use Rattle.aig_circuit.proofs.Checking.InForm.{joined}
-use Rattle.aig_checked.proofs.Numbered.Ranges.{variables_are}
-use Rattle.aig_topo.proofs.Ordering.Ranked.{at}
-use Rattle.aig_image.specs.Relabelled.{relabelled, relabelled_gate, relabelled_latch}
+use Rattle.aig_circuit.proofs.Checking.{each, all_weaker, joined}
+use Rattle.aig_topo.proofs.Ordering.Ranked.{at, no_gate}
+use Rattle.aig_checked.proofs.Numbered.{variables_are}
+use Rattle.aig_image.specs.Relabelled.{relabelled, relabelled_gate, relabelled_latch, GateNames, NamesOnly}
 use Rattle.aig_image.specs.Renumbering.{in_new_order, renumbered, source_variable}
-use Rattle.aig_image.specs.Reordered.{ArePlaces, exchanged_by, taken, reordered, with_operands_exchanged}
-use Rattle.aig_image.proofs.Numbering.Places.{by_place, back_again}
-use Rattle.aig_image.proofs.Relabelling.Exchanged.{exchanged_each, exchange_keeps_form}
-use Rattle.aig_image.proofs.Relabelling.Permuted.{order_keeps_once, order_keeps_form}
-use Rattle.aig_image.proofs.Relabelling.Restored.{defined_in_order}
-use Rattle.aig_image.proofs.Relabelling.Standing.{at_place}
+use Rattle.aig_image.specs.Reordered.{ArePlaces, exchanged_by, taken, reordered, with_operands_exchanged, converted}
+use Rattle.aig_image.specs.Reordered.{exchanged_if, has_smaller_first}
+use Rattle.aig_image.proofs.Numbering.Places.{by_place, back_again, at_place, by_places}
+use Rattle.aig_image.proofs.Relabelling.Permuted.{exchanged_each, exchange_keeps_form, order_keeps_once}
+use Rattle.aig_image.proofs.Relabelling.Permuted.{order_keeps_form, defined_in_order, restored_is_converted}
 use Rattle.aig_image.proofs.Relabelling.Formed.{form_is_kept}
-use Rattle.aig_image.proofs.Relabelling.Relabelled.{names_only}
+use Rattle.aig_image.proofs.Relabelling.Relabelled.{names_only, map_nothing, map_where, gate_back}
+use Rattle.aig_image.proofs.Imaging.OwnImage.{ordered_at, sorted_already}
 use Rattle.aig_map.specs.declared.map_block.MappedGate.{MappedGate}
 use Rattle.aig_map.specs.declared.map_block.MapBlock.{MapBlock}
 use Rattle.aig_map.specs.Parts.Had.{without_gates}
 use Rattle.aig_map.specs.Parts.Tables.{IsFit}
 use Rattle.aig_map.specs.Undone.{exchanges_recorded, places_recorded, source_variables, undone, variable_at_place}
-use Rattle.aig_map.proofs.Restoring.AtPositions.{places, order, are, too, by_position, row_in_range}
-use Rattle.aig_map.proofs.Restoring.AtPositions.{variables_recorded}
-use Rattle.aig_map.proofs.Sources.RecordedAt.{gate_had, none_recorded, recorded_at}
+use Rattle.aig_map.specs.Undone.{comment_behind}
+use Rattle.aig_map.specs.MapBlock.{block_text, mapped_gate, map_block, mapped_by}
+use Rattle.aig_map.specs.Parts.Confirmed.{TellsExchanges, TellsComment}
+use Rattle.aig_map.proofs.Restoring.AtPositions.{places, order, are, too, by_position, row_in_range, variables_recorded}
+use Rattle.aig_map.proofs.Sources.Placed.{gate_had, none_recorded, recorded_at}
 
 -- numbers from 1 on, carried back, are the variables in a row
 carried : (vs : List ℕ) → map (source_variable vs) (range_with_len 1 (length vs)) ≡ vs
@@ -49,7 +49,7 @@ parts xs ys s t long e = (
 )
 
 -- the gates at the places, with their operands as they were
-pub gates_had : (gates : List Gate) (recorded : List MappedGate)
+gates_had : (gates : List Gate) (recorded : List MappedGate)
     → exchanged_by (exchanges_recorded recorded) (taken gates (places_recorded recorded))
     ≡ map (gate_had gates) recorded
 gates_had gates recorded = search (rules, map-map, at, exchanged_each)
@@ -83,7 +83,7 @@ module _ (b : MapBlock) (x : Circuit) (comment : Option (List ℕ)) (fit : IsFit
   first_many : 1 + length first ≡ start
   first_many = omega (arith, length-append b.inputs b.latches, fit.counts.inputs, fit.counts.latches)
 
-  pub as_many : length vs ≡ x.max_var
+  as_many : length vs ≡ x.max_var
   as_many = omega (arith, length-append first row, row_many, first_many, fit.counts.gates, fit.ordered.all)
 
   numbers_are : map (source_variable vs) (defined_variables x) ≡ vs
@@ -109,14 +109,14 @@ module _ (b : MapBlock) (x : Circuit) (comment : Option (List ℕ)) (fit : IsFit
       new_is).0 in
       parts source.inputs b.inputs latches b.latches inputs_many both
 
-  pub inputs_are : source.inputs ≡ b.inputs
+  inputs_are : source.inputs ≡ b.inputs
   inputs_are = first_is.0
 
-  pub latches_are : map (λ (l : Latch). l.var) source.latches ≡ b.latches
+  latches_are : map (λ (l : Latch). l.var) source.latches ≡ b.latches
   latches_are = first_is.1
 
   -- the number of a gate's place, carried back, is the variable that is recorded of the gate
-  pub variable_there : (i : ℕ) → i < length b.gates
+  variable_there : (i : ℕ) → i < length b.gates
       → source_variable vs (start + (recorded_at b.gates i).place) ≡ (recorded_at b.gates i).var
   variable_there i low =
       let p : ℕ = (recorded_at b.gates i).place in
@@ -142,7 +142,7 @@ module _ (b : MapBlock) (x : Circuit) (comment : Option (List ℕ)) (fit : IsFit
   vs_in_range : AllByRecursion (IsVariableUpTo b.max_var) vs
   vs_in_range = search (rules, joined, row_in_range)
 
-  pub in_range : (v : ℕ) → IsVariableUpTo x.max_var v → IsVariableUpTo b.max_var (source_variable vs v)
+  in_range : (v : ℕ) → IsVariableUpTo x.max_var v → IsVariableUpTo b.max_var (source_variable vs v)
   in_range zero range = absurd (omega (arith, range.0))
   in_range (suc k) range = search (rules, by_place, at_place, vs_in_range, as_many)
 
@@ -178,3 +178,117 @@ well_formed_again b x comment good fit once =
     form_is_kept g f b.max_var comment moved moved_good refl
     (names_only (λ v. f (g v) ≡ v) moved refl kept moved_good) fit.bounds.max_var
     (search (rules, all_weaker, in_range))
+
+-- Where the places that a block tells are the least ready order of the undone circuit, its mapped image is the circuit
+-- that it was undone from.
+
+-- the comment behind a block tells whether there was one
+was_there : (has : Bool) (rest : List ℕ) → is_some (if has then Some rest else None) ≡ has
+was_there true rest = refl
+was_there false rest = refl
+
+-- and what it was
+was_this : (has : Bool) (rest : List ℕ) → (has ≡ true) ⊎ (rest ≡ [])
+    → unwrap_or (if has then Some rest else None) [] ≡ rest
+was_this true rest recorded = refl
+was_this false rest recorded = search rules
+
+-- of sorted operands, two different ones are exchanged where the smaller one is first
+exchanged_back : (e : Bool) (g : Gate) → g.right ≤ g.left → (e ≡ true → g.left ≢ g.right)
+    → has_smaller_first (exchanged_if e g) ≡ e
+exchanged_back true g first_gate two = search (rules, lt-ltb)
+exchanged_back false g first_gate two = le-ltb g.left g.right first_gate
+
+abbrev recorded : ℕ → ℕ → Bool → MappedGate
+recorded var place is = record { var = var; place = place; exchanged = is }
+
+module _ (b : MapBlock) (x : Circuit) (rest : List ℕ) (fit : IsFit b x) (good : IsWellFormed x)
+    (once : AreDistinct (defined_variables (undone b (comment_behind b rest) x))) where
+  abbrev comment : Option (List ℕ)
+  comment = comment_behind b rest
+
+  abbrev from : Circuit
+  from = source b x comment fit
+
+  abbrev us : List ℕ
+  us = vs b x comment fit
+
+  abbrev f : ℕ → ℕ
+  f = renumbered us
+
+  abbrev g : ℕ → ℕ
+  g = source_variable us
+
+  abbrev first_gate : ℕ
+  first_gate = 1 + length from.inputs + length from.latches
+
+  first_gate_is : first_gate ≡ start b x comment fit
+  first_gate_is = omega (arith, length-map x.inputs g, length-map x.latches (relabelled_latch g))
+
+  pub names : NamesOnly (λ v. f (g v) ≡ v) x
+  names =
+      names_only (λ v. f (g v) ≡ v) x refl
+      (all_weaker (IsVariableUpTo x.max_var) (λ v. f (g v) ≡ v) (λ v range. back b x comment fit once v range.1)
+      (defined_variables x) good.in_range) good
+
+  -- a gate of the image at a place, and the gate that it is carried back to
+  abbrev had : MappedGate → Gate
+  had m = gate_had x.gates m
+
+  exchanged_names : (P : ℕ → Type 0) (e : Bool) (h : Gate) → GateNames P h → GateNames P (exchanged_if e h)
+  exchanged_names P true h named = (named.0, named.2, named.1)
+  exchanged_names P false h named = named
+
+  had_again : (m : MappedGate) → m.place < length x.gates → relabelled_gate f (relabelled_gate g (had m)) ≡ had m
+  had_again m low =
+      gate_back f g (had m)
+      (exchanged_names (λ v. f (g v) ≡ v) m.exchanged (at x.gates m.place)
+      (at_place (GateNames (λ v. f (g v) ≡ v)) no_gate x.gates names.gates m.place low))
+
+  -- the block tells of the gate what it recorded
+  recorded_again : (m : MappedGate) → m.place < length x.gates → g (start b x comment fit + m.place) ≡ m.var
+      → (m.exchanged ≡ true → (at x.gates m.place).left ≢ (at x.gates m.place).right)
+      → mapped_gate f first_gate (relabelled_gate g (had m)) ≡ m
+  recorded_again m low variable two = search (rules, ordered_at, start, had_again, at, first_gate_is, exchanged_back)
+
+  gates_again : TellsExchanges x.gates b.gates → map (mapped_gate f first_gate) from.gates ≡ b.gates
+  gates_again exchanges =
+      let made : MappedGate → Gate = λ m. relabelled_gate g (had m) in
+      let Again : MappedGate → Type 0 = λ m. mapped_gate f first_gate (made m) ≡ m in
+      let Differs : MappedGate → Type 0 =
+      λ m. m.exchanged ≡ true → (at x.gates m.place).left ≢ (at x.gates m.place).right in
+      let all = by_places Again none_recorded b.gates (λ i low.
+      let m : MappedGate = recorded_at b.gates i in
+      search (rules, at_place, none_recorded, recorded_again, variable_there)) in
+      ap (map (mapped_gate f first_gate)) (gates_are b x comment fit)
+      ∙ map-map (mapped_gate f first_gate) made b.gates
+      ∙ map_where Again (λ m. mapped_gate f first_gate (made m)) (λ m. m) (λ m e. e) b.gates all
+      ∙ map_nothing (λ m. m) (λ m. refl) b.gates
+
+  -- the circuit has the block
+  block_again : TellsExchanges x.gates b.gates → map_block (order b x fit) from ≡ b
+  block_again exchanges =
+      let inputs = inputs_are b x comment fit in
+      let latches = latches_are b x comment fit in
+      let gates =
+      ap (λ ns. map (mapped_gate (renumbered ns) first_gate) from.gates) (new_is b x comment fit) ∙ gates_again exchanges in
+      search (rules, was_there)
+
+  -- and the image
+  pub image_again : x.comment ≡ Some (block_text b ++ rest) → TellsExchanges x.gates b.gates
+      → TellsComment b.has_comment rest → mapped_by (order b x fit) from ≡ x
+  image_again begins exchanges tells =
+      let text = ap₂ (λ (block : MapBlock) (behind : List ℕ). Some (block_text block ++ behind)) (block_again exchanges)
+      (was_this b.has_comment rest tells)
+      ∙ sym begins in
+      let by : List ℕ → Circuit = λ ns. converted (renumbered ns) (order b x fit) from in
+      let circuit = ap (λ (d : Circuit). record d { max_var = b.max_var; comment = comment })
+      (restored_is_converted f g (order b x fit) (places b x fit) (exchanges_recorded b.gates) x refl names
+      (too b x fit)
+      (sorted_already (start b x comment fit) x.gates fit.ordered.gates)) in
+      let new : List ℕ → Circuit = λ ns.
+      record (by ns) { max_var = length ns; comment = (mapped_by (order b x fit) from).comment } in
+      ap new (new_is b x comment fit)
+      ∙ ap (λ (d : Circuit). record d { max_var = length us; comment = (mapped_by (order b x fit) from).comment })
+      circuit
+      ∙ ap₂ (λ count text. record x { max_var = count; comment = text }) (as_many b x comment fit) text

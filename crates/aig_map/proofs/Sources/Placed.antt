@@ -1,38 +1,49 @@
--- Variables of gates that were placed one by one stand where their gates' places say.
-use Rattle.std.proofs.Common.{rules}
-use Rattle.std.proofs.Common.{◌≡◌, ◌≢◌, ◌<◌, ℕ, zero, suc, List, [], ◌∷◌, Some, None, true, false}
-use Rattle.std.proofs.Common.{length, map, get_or, set, replicate, refl, sym, subst, ◌∙◌, inr, ⊎_elim, arith}
-use Rattle.std.proofs.Common.{eqb, zero-add, get_or-set_same, get_or-set_other, ◌≤◌, Option, eqb-true, ◌+◌, ◌++◌}
-use Rattle.std.specs.Prelude.{◌==◌, if◌then◌else◌}
+-- What a block tells of the gate at a position, and where the variables of gates that were placed stand.
+use Rattle.std.proofs.Common.{◌≡◌, ◌≢◌, ◌<◌, ◌∷◌, ◌∙◌, ◌≤◌, ◌+◌, ◌++◌, ◌==◌, if◌then◌else◌, ℕ, List, false, get_or}
+use Rattle.std.proofs.Common.{rules, zero, suc, [], Some, None, true, length, map, set, replicate, refl, sym, subst}
+use Rattle.std.proofs.Common.{inr, ⊎_elim, arith, eqb, zero-add, get_or-set_same, get_or-set_other, Option, eqb-true}
+use Rattle.std.proofs.Common.{length-set, ne_eqb}
 use Rattle.std.specs.List.{AllByRecursion, range_with_len}
 use Rattle.std.proofs.lemmas.Bool.Decides.{eqb_tells}
 use Rattle.std.proofs.lemmas.Grind.{same_number_lists, common_steps}
-use Rattle.std.proofs.lemmas.List.{length-set, length-replicate}
+use Rattle.std.proofs.lemmas.List.{length-replicate}
 use Rattle.std.proofs.lemmas.List.FromFn.{get_or-map-range_with_len, length-map-range_with_len}
-use Rattle.std.proofs.lemmas.Bool.{ne_eqb}
+use Rattle.aig_circuit.specs.declared.circuit.Gate.{Gate}
 use Rattle.aig_circuit.specs.Wellformed.{IsAmong, AreDistinct, IsVariableUpTo}
-use Rattle.aig_circuit.proofs.Checking.Fitting.{all_weaker}
-use Rattle.aig_circuit.proofs.Checking.InForm.{joined}
+use Rattle.aig_circuit.proofs.Checking.{all_weaker, joined}
+use Rattle.aig_image.specs.Reordered.{exchanged_if, no_gate}
+use Rattle.aig_image.specs.Relabelled.{FitIntoLiterals}
+use Rattle.aig_image.specs.Renumbering.{source_variable}
 use Rattle.aig_map.specs.declared.map_block.MappedGate.{MappedGate}
 use Rattle.aig_map.specs.Parts.Placed.{with_gates, table_of}
 use Rattle.aig_map.specs.Undone.{places_recorded, variable_at_place, source_variables}
 use Rattle.aig_map.specs.declared.map_block.MapBlock.{MapBlock}
 use Rattle.aig_map.specs.MapReading.{IsWithinBounds}
-use Rattle.aig_image.specs.Relabelled.{FitIntoLiterals}
-use Rattle.aig_image.specs.Renumbering.{source_variable}
+
+abbrev pub none_recorded : MappedGate
+none_recorded = record { var = 0; place = 0; exchanged = false }
+
+abbrev pub recorded_at : List MappedGate → ℕ → MappedGate
+recorded_at gates i = get_or gates i none_recorded
+
+-- the gate at a place, with its operands in the order that they had
+abbrev pub gate_had : List Gate → MappedGate → Gate
+gate_had gates m = exchanged_if m.exchanged (get_or gates m.place no_gate)
+
+-- Variables of gates that were placed one by one stand where their gates' places say.
 
 -- what goes on only where a number is 0, and gives something, went on
-pub only_at_zero : (v : ℕ) (next : Option (List ℕ)) (table : List ℕ)
+only_at_zero : (v : ℕ) (next : Option (List ℕ)) (table : List ℕ)
     → (if v == 0 then next else None) ≡ Some table → (v ≡ 0) × (next ≡ Some table)
 only_at_zero v next table is = search (rules, eqb-true)
 
-pub at_zero : {X : Type 0} (v : ℕ) (x y : X) → v ≡ 0 → (if v == 0 then x else y) ≡ x
+at_zero : {X : Type 0} (v : ℕ) (x y : X) → v ≡ 0 → (if v == 0 then x else y) ≡ x
 at_zero v x y free = subst (λ w. (if w == 0 then x else y) ≡ x) (sym free) refl
 
-pub elsewhere : (v x y : ℕ) → 1 ≤ v → (if v == 0 then x else y) ≡ y
+elsewhere : (v x y : ℕ) → 1 ≤ v → (if v == 0 then x else y) ≡ y
 elsewhere v x y some = let differs : v ≢ 0 = omega (arith, some) in rw (ne_eqb v 0 differs) refl
 
-pub or_zero : (v : ℕ) → v ≡ (if v == 0 then 0 else v)
+or_zero : (v : ℕ) → v ≡ (if v == 0 then 0 else v)
 or_zero v = grind (arith, common_steps)
 
 -- the variable of a place is that of the first gate if it has this place, and otherwise that of a later gate
@@ -40,7 +51,7 @@ module _ (g : MappedGate) (gates : List MappedGate) (p : ℕ) where
   pub variable_here : eqb g.place p ≡ true → variable_at_place (g ∷ gates) p ≡ g.var
   variable_here here = rw here refl
 
-  pub variable_later : eqb g.place p ≡ false → variable_at_place (g ∷ gates) p ≡ variable_at_place gates p
+  variable_later : eqb g.place p ≡ false → variable_at_place (g ∷ gates) p ≡ variable_at_place gates p
   variable_later other = rw other refl
 
 -- a table with one more gate

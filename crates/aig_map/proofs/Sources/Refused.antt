@@ -1,28 +1,164 @@
--- Why undoing refuses.
-use Rattle.std.proofs.Common.{rules}
-use Rattle.std.proofs.Common.{◌≡◌, ap, ◌∙◌, sym, subst, refl, ◌⊎◌, inl, inr, ⊎_elim, ℕ, zero, suc, ◌+◌, cond, IsOk}
-use Rattle.std.proofs.Common.{IfOk, IfErr, OnOk, MatchResult, List, Bool, true, false, Result, Ok}
-use Rattle.std.proofs.Common.{Err, Option, None, Some}
+-- Why undoing refuses, and operands that are recorded as exchanged.
+use Rattle.std.proofs.Common.{◌≡◌, ◌↔◌, ◌<◌, ◌∙◌, ◌+◌, ◌∷◌, ◌++◌, ◌⊎◌, rules, ℕ, List, Bool, true, false, length}
+use Rattle.std.proofs.Common.{get_or, sym, ap, arith, zero, suc, [], map, set, take, refl, ap₂, subst, inl, inr}
+use Rattle.std.proofs.Common.{get_or-set_same, get_or-set_other, ⊎_elim, cond, IsOk, IfOk, IfErr, OnOk, MatchResult}
+use Rattle.std.proofs.Common.{Result, Ok, Err, Option, None, Some, get_or-take, length-take-le}
+use Rattle.std.proofs.lemmas.List.{get_or-map, length-map, get_or_default, map-append, take_more}
+use Rattle.std.proofs.lemmas.Simd.{map-map}
+use Rattle.std.proofs.lemmas.Bool.{cases_lt}
+use Rattle.aig_circuit.specs.declared.circuit.Gate.{Gate}
 use Rattle.aig_circuit.specs.declared.circuit.Circuit.{Circuit}
-use Rattle.aig_circuit.specs.Wellformed.{AreDistinct, IsWellFormed, defined_variables}
+use Rattle.aig_circuit.specs.Wellformed.{AreDistinct, IsVariableUpTo, IsWellFormed, defined_variables, IsAmong}
+use Rattle.aig_topo.proofs.Ordering.Ranked.{at, no_gate}
 use Rattle.aig_topo.proofs.Ordering.LeastReady.{one_least_ready_order}
 use Rattle.aig_checked.specs.BinaryOrder.{IsInBinaryOrder}
+use Rattle.aig_image.specs.Relabelled.{GateNames, relabelled_gate}
+use Rattle.aig_image.specs.Renumbering.{renumbered, source_variable}
+use Rattle.aig_image.specs.Reordered.{taken, exchanged_by, exchanged_if}
+use Rattle.aig_image.proofs.Relabelling.Relabelled.{gate_back}
+use Rattle.aig_image.proofs.Numbering.Places.{at_place, by_places, somewhere, same_place}
+use Rattle.aig_image.proofs.Relabelling.Permuted.{as_many as as_many_exchanged}
+use Rattle.aig_map.specs.declared.map_block.MappedGate.{MappedGate}
+use Rattle.aig_map.specs.declared.map_block.MapBlock.{MapBlock}
+use Rattle.aig_map.specs.Parts.Confirmed.{DifferWhereExchanged, ExchangesDiffer, HasTwoOperands, TellsExchanges}
+use Rattle.aig_map.specs.Parts.Confirmed.{gate_in_place}
+use Rattle.aig_map.specs.Parts.Had.{gates_there}
+use Rattle.aig_map.specs.Parts.Tables.{IsFit}
+use Rattle.aig_map.specs.Undone.{comment_behind, exchanges_recorded, source_variables, undone, IsMapFault, IsUndoneFrom}
+use Rattle.aig_map.specs.Undone.{places_recorded}
 use Rattle.aig_map.specs.declared.fault.MapFault.{MapFault}
 use Rattle.aig_map.specs.declared.fault.MapFault.TheVariants.{Missing, Malformed, Mismatch, Forged, OutOfMemory}
 use Rattle.aig_map.specs.declared.fault.MapFault.TheVariants.{NotOrdered}
-use Rattle.aig_map.specs.declared.map_block.MapBlock.{MapBlock}
 use Rattle.aig_map.specs.MapBlock.{IsMappedImage, mapped_by, last_line}
 use Rattle.aig_map.specs.declared.map_block.FirstLine.{FirstLine}
 use Rattle.aig_map.specs.MapSpelling.{after_text, variable_at, gate_at}
-use Rattle.aig_map.specs.MapReading.{◌>>=◌, or_else, entries_at, counted_line, rest_of_block}
-use Rattle.aig_map.specs.MapReading.{block_reading}
-use Rattle.aig_map.specs.Parts.Confirmed.{ExchangesDiffer}
-use Rattle.aig_map.specs.Undone.{IsMapFault, IsUndoneFrom, comment_behind, places_recorded, undone}
+use Rattle.aig_map.specs.MapReading.{◌>>=◌, or_else, entries_at, counted_line, rest_of_block, block_reading}
+use Rattle.aig_map.proofs.Restoring.Source.{names}
+use Rattle.aig_map.proofs.Sources.Placed.{none_recorded, recorded_at}
 use Rattle.aig_map.proofs.BlockReading.Block.{read_is_fit}
-use Rattle.aig_map.proofs.Confirming.Exchanges.{source_differs}
-use Rattle.aig_map.proofs.Confirming.RecordedRight.{recorded_right}
-use Rattle.aig_map.proofs.Sources.OneSource.{is_read, one_source, undone_by_read, undoing_recovers}
-use Rattle.aig_map.proofs.Mapping.MappedOrder.{mapped_image_is_ordered}
+use Rattle.aig_map.proofs.Sources.OneSource.{recorded_right, is_read, one_source, undone_by_read, undoing_recovers}
+use Rattle.aig_map.proofs.Mapping.{mapped_image_is_ordered}
+
+-- what is said of the parts of a block and a circuit is said of these
+pub exchanges_of_same : (b : MapBlock) (x : Circuit) (found : List Gate) (flags : List Bool)
+    → found ≡ gates_there (source_variable (source_variables b)) x.gates b.gates → flags ≡ exchanges_recorded b.gates
+    → DifferWhereExchanged found flags ↔ ExchangesDiffer b x
+exchanges_of_same b x found flags found_are flags_are = search rules
+
+module _ (b : MapBlock) (x : Circuit) where
+  abbrev g : ℕ → ℕ
+  g = source_variable (source_variables b)
+
+  abbrev there : ℕ → Gate
+  there i = at x.gates (recorded_at b.gates i).place
+
+  gate_there : (i : ℕ) → i < length b.gates
+      → at (gates_there g x.gates b.gates) i ≡ relabelled_gate g (there i)
+  gate_there i low = search (rules, map-map, get_or-map, no_gate)
+
+  flag_at : (i : ℕ) → i < length b.gates
+      → get_or (exchanges_recorded b.gates) i false ≡ (recorded_at b.gates i).exchanged
+  flag_at i low = get_or-map (λ (m : MappedGate). m.exchanged) b.gates i none_recorded false low
+
+  flags_many : length (exchanges_recorded b.gates) ≡ length b.gates
+  flags_many = length-map b.gates (λ (m : MappedGate). m.exchanged)
+
+  -- equal operands have equal labels
+  pub image_differs : ExchangesDiffer b x → TellsExchanges x.gates b.gates
+  image_differs differ =
+      by_places (λ (m : MappedGate). m.exchanged ≡ true → HasTwoOperands (at x.gates m.place)) none_recorded b.gates
+      (λ i low exchanged equal. differ i (omega (arith, low, flags_many)) (flag_at i low ∙ exchanged)
+      (search (rules, gate_there)))
+
+  -- and where there is a way back, equal labels are those of equal operands
+  source_differs : (rest : List ℕ) → IsFit b x → IsWellFormed x
+      → AreDistinct (defined_variables (undone b (comment_behind b rest) x))
+      → TellsExchanges x.gates b.gates → ExchangesDiffer b x
+  source_differs rest fit good once tells i counted exchanged equal =
+      let low : i < length b.gates = omega (arith, counted, flags_many) in
+      let f : ℕ → ℕ = renumbered (source_variables b) in
+      let within = at_place (λ (m : MappedGate). IsVariableUpTo b.max_var m.var × (m.place < length b.gates))
+      none_recorded b.gates fit.bounds.gates i low in
+      let again = gate_back f g (there i)
+      (at_place (GateNames (λ v. f (g v) ≡ v)) no_gate x.gates (names b x rest fit good once).gates
+      (recorded_at b.gates i).place (omega (arith, within.1, fit.counts.gates))) in
+      let same = sym (ap (λ (h : Gate). h.left) (gate_there i low)) ∙ equal
+      ∙ ap (λ (h : Gate). h.right) (gate_there i low) in
+      search (rules, at_place, at, none_recorded, flag_at)
+
+-- what is put at another position is not taken
+not_taken : (found : List Gate) (new : Gate) (at_new : ℕ) (positions : List ℕ) → ¬ IsAmong at_new positions
+    → taken (set found at_new new) positions ≡ taken found positions
+not_taken found new at_new [] out = refl
+not_taken found new at_new (p ∷ positions) out =
+    ap₂ (λ (g : Gate) (gs : List Gate). g ∷ gs) (get_or-set_other found at_new p new no_gate (λ e. out (inl (sym e))))
+    (not_taken found new at_new positions (λ a. out (inr a)))
+
+-- distinct positions: the next one is none of those before
+next_is_new : (positions : List ℕ) (k : ℕ) → AreDistinct positions → k < length positions
+    → ¬ IsAmong (get_or positions k 0) (take k positions)
+next_is_new positions k once there among = search (rules, somewhere, length-take-le, same_place, get_or-take)
+
+-- one gate more is put at its position
+pub one_more_put : (h : Gate → Gate) (gates found : List Gate) (positions : List ℕ) (k : ℕ) (g new : Gate)
+    → length positions ≡ length gates → AreDistinct positions → k < length gates
+    → get_or positions k 0 < length found → g ≡ get_or gates k g → new ≡ h g
+    → taken found (take k positions) ≡ map h (take k gates)
+    → taken (set found (get_or positions k 0) new) (take (k + 1) positions) ≡ map h (take (k + 1) gates)
+one_more_put h gates found positions k g new many once there fits is made before =
+    let p : ℕ = get_or positions k 0 in
+    let now : List Gate = set found p new in
+    let low : k < length positions = omega (arith, there, many) in
+    let read : Gate → Gate = λ x. x in
+    ap (taken now) (take_more positions k 0 low)
+    ∙ map-append (λ q. get_or now q no_gate) (take k positions) (p ∷ [])
+    ∙ ap₂ (λ (gs : List Gate) (x : Gate). gs ++ x ∷ [])
+    (not_taken found new p (take k positions) (next_is_new positions k once low) ∙ before)
+    (get_or-set_same found p new no_gate fits ∙ made ∙ ap h is)
+    ∙ sym (map-append h (take k gates) (get_or gates k g ∷ []))
+    ∙ ap (map h) (sym (take_more gates k g there))
+
+-- one gate more is exchanged where it stands
+next_exchanged : (k : ℕ) (es : List Bool) (gs : List Gate) → k < length es → k < length gs
+    → exchanged_by (take (suc k) es) gs
+    ≡ set (exchanged_by (take k es) gs) k (exchanged_if (get_or es k false) (at gs k))
+next_exchanged k [] gs low low_too = absurd (omega (arith, low))
+next_exchanged k (e ∷ es) [] low low_too = absurd (omega (arith, low_too))
+next_exchanged zero (e ∷ es) (g ∷ gs) low low_too = refl
+next_exchanged (suc k) (e ∷ es) (g ∷ gs) low low_too =
+    search (rules, next_exchanged k es gs (omega (arith, low)) (omega (arith, low_too)))
+
+-- what is not exchanged yet stands as it stood
+still_there : (k : ℕ) (es : List Bool) (gs : List Gate) → at (exchanged_by (take k es) gs) k ≡ at gs k
+still_there zero es gs = refl
+still_there (suc k) [] gs = refl
+still_there (suc k) (e ∷ es) [] = refl
+still_there (suc k) (e ∷ es) (g ∷ gs) = still_there k es gs
+
+-- a gate that is looked at, and then exchanged where its flag says so
+module _ (flags : List Bool) (gs found : List Gate) (k : ℕ) (g : Gate) (low : k < length flags)
+    (many : length flags ≡ length gs) (before : found ≡ exchanged_by (take k flags) gs)
+    (here : g ≡ get_or found k g) where
+  abbrev AreEqual : Type 0
+  AreEqual = (get_or flags k false ≡ true) × (g.left ≡ g.right)
+
+  gate_is : g ≡ at gs k
+  gate_is = search (rules, as_many_exchanged, get_or_default, no_gate, at, still_there)
+
+  pub one_more_exchanged : (new : Gate) → new ≡ exchanged_if (get_or flags k false) g
+      → set found k new ≡ exchanged_by (take (k + 1) flags) gs
+  one_more_exchanged new made = search (rules, gate_is, next_exchanged)
+
+  pub not_all_differ : AreEqual → ¬ DifferWhereExchanged gs flags
+  not_all_differ equal differ =
+      differ k low equal.0 (subst (λ (h : Gate). h.left ≡ h.right) gate_is equal.1)
+
+  pub one_more_differs : ¬ AreEqual
+      → ((i : ℕ) → i < k → get_or flags i false ≡ true → HasTwoOperands (gate_in_place gs i))
+      → (i : ℕ) → i < k + 1 → get_or flags i false ≡ true → HasTwoOperands (gate_in_place gs i)
+  one_more_differs two differ i below exchanged = search (rules, gate_is, at, cases_lt)
+
+-- Why undoing refuses.
 
 -- a circuit has one mapped image, since its gates have one order
 pub one_mapped : (c a b : Circuit) → IsMappedImage c a → IsMappedImage c b → a ≡ b

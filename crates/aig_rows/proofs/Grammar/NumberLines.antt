@@ -1,14 +1,13 @@
 -- How the numbers of a line are spelled and how they are read: each follows from the other.
-use Rattle.std.proofs.Common.{rules}
-use Rattle.std.proofs.Common.{◌≡◌, ◌≤◌, ◌-◌, ◌+◌, ◌&&◌, ℕ, zero, suc, Bool, true, false, cond, List, [], ◌∷◌, ◌++◌}
-use Rattle.std.proofs.Common.{length, Option, None, Some, refl, sym, ap, subst, ◌∙◌, arith, append_assoc, eqb, inl, inr}
-use Rattle.std.proofs.lemmas.List.{length-append, length-replicate}
-use Rattle.std.proofs.lemmas.Bool.{eqb-true, and_parts}
-use Rattle.std.specs.Prelude.{◌⊎◌}
-use Rattle.aig_rows.specs.Lines.{Line}
+use Rattle.std.proofs.Common.{◌≡◌, ◌≤◌, ◌-◌, ◌+◌, ◌&&◌, ◌∷◌, ◌++◌, ◌∙◌, ◌⊎◌, rules, ℕ, zero, suc, Bool, true, false}
+use Rattle.std.proofs.Common.{cond, List, [], length, Option, None, Some, refl, sym, ap, subst, arith, append_assoc}
+use Rattle.std.proofs.Common.{eqb, inl, inr, length-append, eqb-true}
+use Rattle.std.proofs.lemmas.List.{length-replicate}
+use Rattle.std.proofs.lemmas.Bool.{and_parts}
+use Rattle.aig_lines.specs.Lines.{Line}
 use Rattle.aig_rows.specs.Spelling.{is_digit, IsNumber, IsGap, IsLineEnd, AreMoreNumbers, zeros, EndInNumbers}
 use Rattle.aig_rows.specs.Spelling.{IsNumberLine}
-use Rattle.aig_rows.specs.Scanning.{is_line_end, after_gap, number_at, ◌>>=◌, more_numbers_at, numbers_at}
+use Rattle.aig_rows.specs.Scanning.{◌>>=◌, is_line_end, after_gap, number_at, more_numbers_at, numbers_at}
 use Rattle.aig_rows.proofs.Grammar.Spellings.{StopsAt, number_reads, number_is_read, gap_reads, gap_is_read, end_reads}
 use Rattle.aig_rows.proofs.Grammar.Spellings.{end_is_read, number_begins, more_begins, gap_is_no_end}
 

@@ -1,23 +1,19 @@
 -- Rows that are read spell the grammar's, and the other way round.
-use Rattle.std.proofs.Common.{rules}
-use Rattle.std.proofs.Common.{◌≡◌, ℕ, zero, suc, ◌+◌, ◌*◌, ◌<◌, ◌≤◌, true, false, List, [], ◌∷◌, ◌++◌, map, length}
-use Rattle.std.proofs.Common.{get_or, Bool, Option, None, Some, Result, Ok, refl, ap, subst, sym, arith, inl, inr, not}
-use Rattle.std.proofs.Common.{◌⊎◌, ◌||◌}
+use Rattle.std.proofs.Common.{◌≡◌, ◌+◌, ◌*◌, ◌<◌, ◌≤◌, ◌∷◌, ◌++◌, ◌⊎◌, ◌||◌, rules, ℕ, zero, suc, true, false, List, []}
+use Rattle.std.proofs.Common.{map, length, get_or, Bool, Option, None, Some, Result, Ok, refl, ap, subst, sym, arith}
+use Rattle.std.proofs.Common.{inl, inr, not, ltb-false, lt-ltb, le-ltb, eq-eqb, ne_eqb, ltb, eqb}
 use Rattle.std.specs.List.{AllZip}
 use Rattle.std.proofs.lemmas.Slice.Zip.{AllZip-long}
-use Rattle.std.proofs.lemmas.Bool.{ltb-false, lt-ltb, le-ltb, eqb-false, eq-eqb, ne_eqb, or_parts}
-use Rattle.std.proofs.lemmas.Bool.{or_from}
-use Rattle.std.proofs.Math.Dec.{ltb, eqb}
+use Rattle.std.proofs.lemmas.Bool.{eqb-false, or_parts, or_from}
 use Rattle.aig_rows.specs.declared.fault.ReadFault.{ReadFault}
 use Rattle.aig_rows.specs.declared.fault.ReadKind.{ReadKind}
 use Rattle.aig_rows.specs.declared.fault.ReadKind.TheVariants as kinds
 use Rattle.aig_rows.specs.declared.row.Role.TheVariants as roles
-use Rattle.aig_rows.specs.Lines.{Line, Ahead, ahead}
+use Rattle.aig_lines.specs.Lines.{Line, Ahead, ahead}
 use Rattle.aig_rows.specs.Scanning.{numbers_at}
 use Rattle.aig_rows.specs.Rows.{Role, Form, roles_of, row, IsRowLine}
-use Rattle.aig_rows.specs.Reading.{◌>>=◌, Found}
-use Rattle.aig_rows.specs.Reading.{own_literal, carried_on, fault_in_row, unless_wrong, checked_row, row_of}
-use Rattle.aig_rows.specs.Reading.{line_found, row_at, rows_at}
+use Rattle.aig_rows.specs.Reading.{◌>>=◌, Found, own_literal, carried_on, fault_in_row, unless_wrong, checked_row}
+use Rattle.aig_rows.specs.Reading.{row_of, line_found, row_at, rows_at}
 use Rattle.aig_rows.proofs.Steps.{both_ok, ok_at_line, ok_same}
 use Rattle.aig_rows.proofs.Kept.Checks.{IsRight, AreRight, first_is_right, right_parts, reset_is}
 use Rattle.aig_rows.proofs.Grammar.NumberLines.{row_reads, row_is_read}

@@ -1,14 +1,12 @@
 -- How a number, a gap and the end of a line are spelled and how they are read: each follows from the other.
-use Rattle.std.proofs.Common.{rules}
-use Rattle.std.proofs.Common.{◌≡◌, ◌+◌, ◌<◌, ◌≤◌, ℕ, suc, Bool, true, false, cond, List, [], ◌∷◌, ◌++◌, length}
-use Rattle.std.proofs.Common.{take, drop, None, Some, refl, sym, ap, subst, ◌∙◌, arith, eqb, ◌&&◌, ◌||◌, ◌⊎◌, inl, inr}
-use Rattle.std.proofs.Common.{append_assoc, append-nil}
+use Rattle.std.proofs.Common.{◌≡◌, ◌+◌, ◌<◌, ◌≤◌, ◌∷◌, ◌++◌, ◌∙◌, ◌&&◌, ◌||◌, ◌⊎◌, rules, ℕ, suc, Bool, true, false}
+use Rattle.std.proofs.Common.{cond, List, [], length, take, drop, None, Some, refl, sym, ap, subst, arith, eqb, inl}
+use Rattle.std.proofs.Common.{inr, append_assoc, append-nil, take-append-drop, length-take-le, eqb-true, ne_eqb}
+use Rattle.std.proofs.Common.{leb-true, slice_index, nat_le}
 use Rattle.std.specs.List.{AllByRecursion, prefix_len}
-use Rattle.std.proofs.lemmas.List.{take-append-drop, length-take-le}
 use Rattle.std.proofs.Math.Seq.{take-append_seam, drop-append_seam}
 use Rattle.std.proofs.lemmas.List.Sums.{prefix_len-le-length}
-use Rattle.std.proofs.lemmas.Bool.{eqb-true, eqb-false, ne_eqb, leb-true, and_parts, or_cases}
-use Rattle.std.specs.Prelude.{slice_index, nat_le}
+use Rattle.std.proofs.lemmas.Bool.{eqb-false, and_parts, or_cases}
 use Rattle.aig_rows.specs.Spelling.{is_digit, is_space, IsNumber, AreSpaces, IsGap, IsLineEnd, AreMoreNumbers}
 use Rattle.aig_rows.specs.Scanning.{number_at, after_gap, is_line_end}
 

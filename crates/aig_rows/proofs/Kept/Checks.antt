@@ -1,18 +1,16 @@
 -- Lines are judged by what is kept of their numbers as by the numbers.
-use Rattle.std.proofs.Common.{subst}
-use Rattle.std.proofs.Common.{rules}
-use Rattle.std.proofs.Common.{◌≡◌, ◌<◌, ◌≤◌, ◌+◌, ◌*◌, ◌^◌, ℕ, List, [], ◌∷◌, Bool, true, false, cond, ◌||◌, ◌&&◌}
-use Rattle.std.proofs.Common.{map, length, drop, get_or, zero, Ok, refl, sym, ap, ap₂, ◌∙◌, arith, eqb, ltb, inl}
-use Rattle.std.proofs.Common.{inr, Option, Some, None, Err, suc, pred, ◌⊎◌}
-use Rattle.std.specs.Prelude.{not}
-use Rattle.std.proofs.lemmas.Bool.{lt-ltb, le-ltb, ltb-false, ltb-true, eqb-true, ne_eqb, cases_lt, cases_Bool}
+use Rattle.std.proofs.Common.{◌≡◌, ◌<◌, ◌≤◌, ◌+◌, ◌*◌, ◌^◌, ◌∷◌, ◌||◌, ◌&&◌, ◌∙◌, ◌⊎◌, subst, rules, ℕ, List, [], Bool}
+use Rattle.std.proofs.Common.{true, false, cond, map, length, drop, get_or, zero, Ok, refl, sym, ap, ap₂, arith, eqb}
+use Rattle.std.proofs.Common.{ltb, inl, inr, Option, Some, None, Err, suc, pred, not, lt-ltb, le-ltb, ltb-false}
+use Rattle.std.proofs.Common.{ltb-true, eqb-true, ne_eqb}
+use Rattle.std.proofs.lemmas.Bool.{cases_lt, cases_Bool, or_parts, or_from, and_parts, not-true, not-false}
 use Rattle.aig_circuit.specs.declared.circuit.TheConstants.{LARGEST}
 use Rattle.aig_rows.specs.declared.fault.ReadKind.{ReadKind}
 use Rattle.aig_rows.specs.declared.fault.ReadKind.TheVariants as kinds
 use Rattle.aig_rows.specs.declared.row.Role.TheVariants as roles
 use Rattle.std.proofs.Math.Seq.{drop-nil}
 use Rattle.std.proofs.lemmas.List.{length-map}
-use Rattle.aig_rows.specs.Lines.{Line, line}
+use Rattle.aig_lines.specs.Lines.{Line, line}
 use Rattle.aig_rows.specs.Scanning.{numbers_at}
 use Rattle.aig_rows.specs.Rows.{Role, Form, roles_of}
 use Rattle.aig_rows.specs.Reading.{is_no_variable, misdefines, exceeds, misresets, oversizes, own_literal, any_number}
@@ -22,7 +20,6 @@ use Rattle.aig_rows.specs.Kept.{kept, kept_numbers}
 use Rattle.aig_rows.specs.Parts.Right.{is_right, are_right}
 use Rattle.aig_rows.proofs.Grammar.NumberLines.{row_reads}
 use Rattle.aig_rows.proofs.Kept.Numbers.{kept_small, kept_large}
-use Rattle.std.proofs.lemmas.Bool.{or_parts, or_from, and_parts, not-true, not-false}
 
 pub above_kept : (limit n : ℕ) → limit < 2 ^ 33 → ltb limit (kept n) ≡ ltb limit n
 above_kept limit n l = search (rules, cases_lt, kept_small, kept_large, lt-ltb)

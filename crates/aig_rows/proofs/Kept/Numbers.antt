@@ -1,15 +1,14 @@
 -- What is kept of a number answers each question that is asked of it.
-use Rattle.std.proofs.Common.{rules}
-use Rattle.std.proofs.Common.{◌≡◌, ◌<◌, ◌≤◌, ◌+◌, ◌-◌, ◌%◌, ◌^◌, ℕ, List, Bool, true, false, eqb, ◌&&◌, zero, map, take}
-use Rattle.std.proofs.Common.{drop, length, get_or, refl, sym, ap, ◌∙◌, arith, Option, Some, None, ◌++◌, [], ◌∷◌, suc}
-use Rattle.std.proofs.Common.{append_assoc}
+use Rattle.std.proofs.Common.{◌≡◌, ◌<◌, ◌≤◌, ◌+◌, ◌-◌, ◌%◌, ◌^◌, ◌&&◌, ◌∙◌, ◌++◌, ◌∷◌, rules, ℕ, List, Bool, true}
+use Rattle.std.proofs.Common.{false, eqb, zero, map, take, drop, length, get_or, refl, sym, ap, arith, Option, Some}
+use Rattle.std.proofs.Common.{None, [], suc, append_assoc, lt-ltb, le-ltb, eqb-true, take-append-drop, drop-set-lt}
+use Rattle.std.proofs.Common.{drop-drop, set, length-set}
 use Rattle.std.specs.List.{prefix_len}
-use Rattle.std.proofs.lemmas.Bool.{lt-ltb, le-ltb, and_parts, eqb-true}
+use Rattle.std.proofs.lemmas.Bool.{and_parts}
 use Rattle.std.proofs.lemmas.List.Sums.{prefix_len_is}
-use Rattle.std.proofs.lemmas.List.{take_more_set, take-append-drop, drop-set-lt, drop-replicate, drop-drop}
-use Rattle.std.proofs.Math.ListN.{set, length-set}
+use Rattle.std.proofs.lemmas.List.{take_more_set, drop-replicate}
 use Rattle.aig_rows.specs.Spelling.{is_digit, zeros}
-use Rattle.aig_rows.specs.Scanning.{after_gap, number_at, more_numbers_at, is_line_end, ◌>>=◌}
+use Rattle.aig_rows.specs.Scanning.{◌>>=◌, after_gap, number_at, more_numbers_at, is_line_end}
 use Rattle.aig_rows.specs.Kept.{kept, kept_numbers, kept_first}
 
 pub kept_small : (n : ℕ) → n < 2 ^ 36 → kept n ≡ n

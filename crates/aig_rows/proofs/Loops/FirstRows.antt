@@ -1,12 +1,12 @@
 -- Rows of which the first were read: what the others are read as, and where they stand.
-use Rattle.std.proofs.Common.{◌≡◌, ◌≢◌, ◌+◌, ◌-◌, ◌<◌, ◌∙◌, ℕ, zero, suc, List, [], ◌∷◌, ◌++◌, map, get_or, length}
-use Rattle.std.proofs.Common.{◌⊎◌, inl, inr}
-use Rattle.std.proofs.Common.{Result, Ok, Err, refl, sym, ap, subst, append_assoc, append-nil, length-append, arith}
+use Rattle.std.proofs.Common.{◌≡◌, ◌≢◌, ◌+◌, ◌-◌, ◌<◌, ◌∙◌, ◌∷◌, ◌++◌, ◌⊎◌, ℕ, zero, suc, List, [], map, get_or, length}
+use Rattle.std.proofs.Common.{inl, inr, Result, Ok, Err, refl, sym, ap, subst, append_assoc, append-nil, length-append}
+use Rattle.std.proofs.Common.{arith}
 use Rattle.std.proofs.lemmas.List.{map-append}
 use Rattle.aig_rows.specs.declared.fault.ReadFault.{ReadFault}
 use Rattle.aig_rows.specs.declared.fault.ReadKind.{ReadKind}
 use Rattle.aig_rows.specs.declared.fault.ReadKind.TheVariants as kinds
-use Rattle.aig_rows.specs.Lines.{Line, Ahead, IsBehind, ahead, lines_of, with_lines}
+use Rattle.aig_lines.specs.Lines.{Line, Ahead, IsBehind, ahead, lines_of, with_lines}
 use Rattle.aig_rows.specs.Rows.{Role, Form}
 use Rattle.aig_rows.specs.Outcomes.{row_meant, rows_meant}
 use Rattle.aig_rows.specs.Reading.{◌>>=◌, Found, carried_on, at_line, fault_at, line_found, row_of, row_at, rows_at}
@@ -14,7 +14,7 @@ use Rattle.aig_rows.specs.Reading.{want_of_memory}
 use Rattle.aig_rows.specs.declared.rows.Due.{Due}
 use Rattle.aig_rows.specs.Begun.{carried_over, AreFirst, HaveRead}
 use Rattle.aig_rows.proofs.Steps.{both_ok, ok_same}
-use Rattle.aig_rows.proofs.Loops.Cutting.{some_lines}
+use Rattle.aig_lines.proofs.Cutting.{some_lines}
 use Rattle.aig_rows.proofs.Loops.Rows.{IsCarried, meant_row}
 
 -- what the first line tells, where more lines come behind those

@@ -1,22 +1,16 @@
 -- Reading rows one after another.
-use Rattle.std.proofs.Common.{subst}
+use Rattle.std.proofs.Common.{◌≡◌, ◌+◌, ◌≤◌, ◌∷◌, subst, length, rules, ℕ, zero, suc, List, [], map, get_or, false}
+use Rattle.std.proofs.Common.{Option, Some, None, Ok, Err, refl, arith, Result, OnOk, sum, ltb-false}
 use Rattle.aig_rows.specs.Scanning.{numbers_at}
-use Rattle.std.proofs.Common.{length}
-use Rattle.std.proofs.Common.{rules}
-use Rattle.std.proofs.Common.{◌≡◌, ◌+◌, ◌≤◌, ℕ, zero, suc, List, [], ◌∷◌, map, get_or, false}
-use Rattle.std.proofs.Common.{Option, Some, None, Ok, Err, refl, arith}
-use Rattle.std.specs.Prelude.{Result, OnOk}
-use Rattle.std.specs.List.{sum}
-use Rattle.std.proofs.lemmas.Bool.{ltb-false}
 use Rattle.std.proofs.lemmas.List.Sums.{sum_by-cons, sum_by-append}
 use Rattle.aig_rows.specs.declared.fault.ReadFault.{ReadFault}
 use Rattle.aig_rows.specs.declared.fault.ReadKind.TheVariants as kinds
 use Rattle.aig_rows.specs.declared.row.Role.TheVariants as roles
-use Rattle.aig_rows.specs.Lines.{Line, Ahead}
+use Rattle.aig_lines.specs.Lines.{Line, Ahead}
 use Rattle.aig_rows.specs.Rows.{Role, Form, size_form, size_of}
 use Rattle.aig_rows.specs.Outcomes.{row_meant, rows_meant, GivesOrMemory}
-use Rattle.aig_rows.specs.Reading.{◌>>=◌, Found, carried_on, oversizes, fault_in_row}
-use Rattle.aig_rows.specs.Reading.{checked_row, row_of, line_found, row_at, rows_at}
+use Rattle.aig_rows.specs.Reading.{◌>>=◌, Found, carried_on, oversizes, fault_in_row, checked_row, row_of, line_found}
+use Rattle.aig_rows.specs.Reading.{row_at, rows_at}
 use Rattle.aig_rows.proofs.Steps.{both_ok, ok_at_line, ok_same}
 use Rattle.aig_rows.proofs.Kept.Checks.{first_is_right, right_parts}
 

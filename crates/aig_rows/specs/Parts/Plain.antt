@@ -1,11 +1,7 @@
 -- Rows in plain spelling: digits, one space between numbers, and a line feed behind the last.
-use Rattle.std.specs.Prelude.{◌≡◌, ◌≤◌, ◌==◌, ◌++◌, ℕ, List, ◌∷◌, false, length}
-use Rattle.std.specs.List.{AllByRecursion}
+use Rattle.std.specs.Prelude.{◌≡◌, ◌≤◌, ◌++◌, ℕ, List, ◌∷◌, length}
+use Rattle.aig_lines.specs.Lines.{HasNoLineFeed}
 use Rattle.aig_rows.specs.Spelling.{IsNumber, AreMoreNumbers, zeros}
-
--- no byte is a line feed
-abbrev pub HasNoLineFeed : List ℕ → Type 0
-HasNoLineFeed text = AllByRecursion (λ b. (b == 10) ≡ false) text
 
 -- the bytes begin with digits that spell the number
 pub record BeginsWithNumber (bytes : List ℕ) (n : ℕ) (rest : List ℕ) : Type 0 where

@@ -1,24 +1,80 @@
--- Tables of values as bytes.
-use Rattle.std.proofs.Common.{rules}
-use Rattle.std.proofs.Common.{◌≡◌, ◌+◌, ◌*◌, ◌%◌, ◌/◌, ◌<◌, ◌==◌, if◌then◌else◌, ℕ, zero, suc, List}
-use Rattle.std.proofs.Common.{[], ◌∷◌, length, get_or, refl, sym, ap, ap₂}
-use Rattle.std.proofs.Common.{◌∙◌, ◌≤◌, arith, drop, drop-cons, set, replicate}
+-- Tables of values as bytes, and characters that stand for values.
+use Rattle.std.proofs.Common.{◌≡◌, ◌∙◌, ◌∷◌, ◌+◌, ◌*◌, ◌%◌, ◌/◌, ◌<◌, ◌==◌, if◌then◌else◌, ◌≤◌, ℕ, zero, suc, List, []}
+use Rattle.std.proofs.Common.{Option, None, Some, get_or, option_map, replicate, refl, sym, ap, arith, rules, length}
+use Rattle.std.proofs.Common.{ap₂, drop, drop-cons, set}
+use Rattle.std.specs.Int.Bits.{bit_and}
 use Rattle.std.proofs.lemmas.List.{drop_all, length-replicate}
 use Rattle.aig_circuit.specs.declared.value.Val.{Val}
 use Rattle.aig_circuit.specs.declared.value.Val.TheVariants.{Zero, One, X}
 use Rattle.aig_circuit.specs.Literal.{variable_of}
 use Rattle.aig_circuit.specs.Values.{value_and, value_not}
 use Rattle.aig_meaning.specs.Meaning.{literal_value}
+use Rattle.aig_step.specs.Stimulus.{value_of}
+use Rattle.aig_step.specs.Parts.Cells.{bytes_of_values, AreCodes, code_of, value_of_code, values_of_bytes}
 use Rattle.aig_step.specs.declared.evaluate.Pair.{Pair}
-use Rattle.aig_step.specs.Parts.Cells.{AreCodes, bytes_of_values, code_of, value_of_code, values_of_bytes}
 use Rattle.aig_step.specs.Parts.Tables.{evaluated, read_from}
 
-pub code_back : (v : Val) → value_of_code (code_of v) ≡ v
+-- the characters that stand for values, each at the place of its low four bits
+abbrev pub standing : List ℕ
+standing = 48 ∷ 49 ∷ 0 ∷ 0 ∷ 0 ∷ 0 ∷ 0 ∷ 0 ∷ 120 ∷ 0 ∷ 0 ∷ 0 ∷ 0 ∷ 0 ∷ 0 ∷ 0 ∷ []
+
+abbrev none : List ℕ
+none = 0 ∷ 0 ∷ []
+
+-- the bytes of the values that they stand for, each with that of its negation
+abbrev pub stood_for : List (List ℕ)
+stood_for =
+    (0 ∷ 3 ∷ []) ∷ (3 ∷ 0 ∷ []) ∷ none ∷ none ∷ none ∷ none ∷ none ∷ none ∷ (1 ∷ 1 ∷ [])
+    ∷ none ∷ none ∷ none ∷ none ∷ none ∷ none ∷ none ∷ []
+
+zero_in : (n k : ℕ) → get_or (replicate {A = ℕ} n 0) k 0 ≡ zero
+zero_in zero k = refl
+zero_in (suc n) zero = refl
+zero_in (suc n) (suc k) = zero_in n k
+
+-- the character 0 is at no place but the first
+not_zero : {m : ℕ} (b : ℕ) → 0 ≡ b → bit_and b 15 ≡ suc m → ⊥
+not_zero b stands place = omega (arith, ap (λ x. bit_and x 15) stands, place)
+
+abbrev bytes_for : ℕ → Option (List ℕ)
+bytes_for b = option_map (λ v. bytes_of_values (v ∷ [])) (value_of b)
+
+-- a character that stands at the place of its low four bits stands for the value of the bytes there
+from_place : (m b : ℕ) → get_or standing m 0 ≡ b → bit_and b 15 ≡ m → Some (get_or stood_for m []) ≡ bytes_for b
+from_place zero b stands place = ap bytes_for stands
+from_place (suc zero) b stands place = ap bytes_for stands
+from_place (suc (suc zero)) b stands place = absurd (not_zero b stands place)
+from_place (suc (suc (suc zero))) b stands place = absurd (not_zero b stands place)
+from_place (suc (suc (suc (suc zero)))) b stands place = absurd (not_zero b stands place)
+from_place (suc (suc (suc (suc (suc zero))))) b stands place = absurd (not_zero b stands place)
+from_place (suc (suc (suc (suc (suc (suc zero)))))) b stands place = absurd (not_zero b stands place)
+from_place (suc (suc (suc (suc (suc (suc (suc zero))))))) b stands place = absurd (not_zero b stands place)
+from_place (suc (suc (suc (suc (suc (suc (suc (suc zero)))))))) b stands place = ap bytes_for stands
+from_place (suc (suc (suc (suc (suc (suc (suc (suc (suc k))))))))) b stands place =
+    absurd (not_zero b (sym (zero_in 7 k) ∙ stands) place)
+
+pub stands_for : (b : ℕ) → get_or standing (bit_and b 15) 0 ≡ b
+    → Some (get_or stood_for (bit_and b 15) []) ≡ option_map (λ v. bytes_of_values (v ∷ [])) (value_of b)
+stands_for b stands = from_place (bit_and b 15) b stands refl
+
+-- what was found of a character has a value, which it stands for
+pub found_value : (o : Option Val) (bytes : List ℕ) → Some bytes ≡ option_map (λ v. bytes_of_values (v ∷ [])) o
+    → (v : Val) × (o ≡ Some v) × (bytes ≡ bytes_of_values (v ∷ []))
+found_value None bytes is = cc
+found_value (Some v) bytes is = (v, refl, cc)
+
+-- of a character of which nothing was found none is known
+pub no_value : (o : Option Val) → None ≡ option_map (λ v. bytes_of_values (v ∷ [])) o → o ≡ None
+no_value None is = refl
+no_value (Some v) is = cc
+
+-- Tables of values as bytes.
+code_back : (v : Val) → value_of_code (code_of v) ≡ v
 code_back Zero = refl
 code_back One = refl
 code_back X = refl
 
-pub bytes_back : (vs : List Val) → values_of_bytes (bytes_of_values vs) ≡ vs
+bytes_back : (vs : List Val) → values_of_bytes (bytes_of_values vs) ≡ vs
 bytes_back [] = refl
 bytes_back (v ∷ vs) = ap₂ (λ w ws. w ∷ ws) (code_back v) (bytes_back vs)
 
@@ -30,7 +86,7 @@ are_codes bytes vs made =
 pub values_are : (bytes : List ℕ) (vs : List Val) → bytes ≡ bytes_of_values vs → values_of_bytes bytes ≡ vs
 values_are bytes vs made = ap values_of_bytes made ∙ bytes_back vs
 
-pub bytes_length : (vs : List Val) → length (bytes_of_values vs) ≡ 2 * length vs
+bytes_length : (vs : List Val) → length (bytes_of_values vs) ≡ 2 * length vs
 bytes_length [] = refl
 bytes_length (v ∷ vs) = omega (arith, bytes_length vs)
 
@@ -51,7 +107,7 @@ read_bytes (v ∷ vs) (suc (suc l)) d below =
     parity variable)
 
 -- writing both bytes of a variable is putting its value
-pub written_bytes : (vs : List Val) (v : ℕ) (x : Val) → v < length vs
+written_bytes : (vs : List Val) (v : ℕ) (x : Val) → v < length vs
     → set (set (bytes_of_values vs) (2 * v) (code_of x)) (2 * v + 1) (code_of (value_not x))
     ≡ bytes_of_values (set vs v x)
 written_bytes [] v x below = absurd (omega (arith, below))
@@ -59,7 +115,7 @@ written_bytes (w ∷ ws) zero x below = refl
 written_bytes (w ∷ ws) (suc v) x below = search (rules, written_bytes ws v x (omega (arith, below)))
 
 -- a table of x alone
-pub all_x : (n : ℕ) → bytes_of_values (replicate n X) ≡ replicate (2 * n) 1
+all_x : (n : ℕ) → bytes_of_values (replicate n X) ≡ replicate (2 * n) 1
 all_x zero = refl
 all_x (suc n) =
     let twice : 2 * suc n ≡ suc (suc (2 * n)) = omega arith in

@@ -1,6 +1,6 @@
 -- Places of announced indices: each has one of its own.
-use Rattle.std.proofs.Common.{◌≡◌, ◌≢◌, ◌+◌, ◌-◌, ◌/◌, ◌%◌, ◌^◌, ◌<◌, ◌≤◌, ℕ, List, Bool, true, cond, eqb, ltb}
-use Rattle.std.proofs.Common.{length, get_or, None, ap, ◌∙◌, subst, ⊎_elim, arith}
+use Rattle.std.proofs.Common.{◌≡◌, ◌≢◌, ◌+◌, ◌-◌, ◌/◌, ◌%◌, ◌^◌, ◌<◌, ◌≤◌, ◌∙◌, ℕ, List, Bool, true, cond, eqb, ltb}
+use Rattle.std.proofs.Common.{length, get_or, None, ap, subst, ⊎_elim, arith}
 use Rattle.std.specs.Prelude.{count_ones}
 use Rattle.std.specs.Int.{bit_at}
 use Rattle.std.proofs.Math.ListN.{set as put}

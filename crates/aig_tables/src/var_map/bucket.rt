@@ -6,8 +6,8 @@ ghost use Rattle.std.specs.FinMap.{find};
 
 use std::marker::Model;
 
-/// How many variables a bucket has room for. With numbers as values, and their count, they fill a line of the
-/// processor's cache.
+/// How many variables a bucket has room for. With numbers as values, and their count, they fill a
+/// line of the processor's cache.
 const ROOM: usize = 7;
 
 /// A few variables and their values that lie together.
@@ -28,8 +28,8 @@ impl<T: Copy> Model for Bucket<T> {
     ghost invariant = { λ b. (b.len ≤ MOST) × (length b.entries ≡ MOST) };
 }
 
-/// The place of the first entry that has the index, or how many entries there are. All are looked at, and no branch is
-/// taken at any of them: where an index stands in its bucket is not to be guessed.
+/// All are looked at, and no branch is taken at any of them: where an index stands in its bucket is
+/// not to be guessed.
 #[inline(always)]
 fn first_place<T: Copy>(entries: &[(u32, T)], index: u32) -> usize
     ensures { result ≡ position_or_len (λ e. e.0 == index) entries.now }
@@ -45,7 +45,7 @@ fn first_place<T: Copy>(entries: &[(u32, T)], index: u32) -> usize
 }
 
 impl<T: Copy> Bucket<T> {
-    /// An empty bucket. What stands where there is no entry yet is never read.
+    /// What stands where there is no entry yet is never read.
     pub(super) fn new(any: T) -> Self
         ensures { result ≡ [] }
     {
@@ -55,7 +55,6 @@ impl<T: Copy> Bucket<T> {
         }
     }
 
-    /// The value of an index.
     #[inline(always)]
     pub(super) fn get(&self, index: u32) -> Option<T>
         ensures { result ≡ find nat_cmp index self.now }
@@ -68,7 +67,6 @@ impl<T: Copy> Bucket<T> {
         }
     }
 
-    /// Whether there is no room.
     #[inline(always)]
     pub(super) fn is_full(&self) -> bool
         ensures { IsTrue result ↔ (ROOM ≤ length self.now) }
@@ -84,7 +82,6 @@ impl<T: Copy> Bucket<T> {
         self.len as usize > ROOM
     }
 
-    /// Puts one more entry there.
     #[inline(always)]
     pub(super) fn put(&mut self, index: u32, value: T)
         requires { length self.old < ROOM }

@@ -5,15 +5,15 @@ ghost use Rattle.aig_tables.specs.Parts.Ranks.{is_announced, rank_of, IsRanking}
 use aig_circuit::{Circuit, Entry, LARGEST, Listing, Var};
 use std::alloc::{AllocError, Global};
 
-/// 32 indices: a bit for each, set if it is announced, and how many bits there are in the words before.
+/// 32 indices: a bit for each that is announced, and how many bits the words before have.
 #[derive(Clone, Copy)]
 struct Word {
     bits: u32,
     before: u32,
 }
 
-/// Indices that are announced. The place of each is how many smaller ones are announced, so there are places for them
-/// alone.
+/// Indices that are announced. The place of each is how many smaller ones are announced, so there
+/// are places for them alone.
 #[derive(Drop)]
 pub(super) struct Ranks {
     words: Vec<Word>,
@@ -52,7 +52,6 @@ fn count_bits(words: &mut [Word]) -> u32
 }
 
 impl Ranks {
-    /// No index announced, nor room for any.
     pub(super) fn none(alloc: Global) -> Self
         ensures words { result.words.items ≡ [] }
         ensures count { result.count ≡ 0 }
@@ -74,7 +73,6 @@ impl Ranks {
         Ok(Ranks { words, count })
     }
 
-    /// How many places there are.
     pub(super) fn count(&self) -> usize
         ensures { result ≡ self.now.count }
     {
@@ -89,7 +87,6 @@ impl Ranks {
         self.words.is_empty()
     }
 
-    /// Whether an index is announced.
     #[inline(always)]
     pub(super) fn has(&self, index: usize) -> bool
         ensures { result ≡ is_announced self.now.words.items index }
@@ -97,7 +94,6 @@ impl Ranks {
         index / 32 < self.words.len() && self.words[index / 32].bits >> (index % 32) & 1 == 1
     }
 
-    /// The place of an announced index.
     #[inline(always)]
     pub(super) fn rank(&self, index: usize) -> usize
         requires { is_announced self.now.words.items index ≡ true }

@@ -1,5 +1,6 @@
 //! Maps from variables of large indices.
-ghost use Rattle.std.specs.Prelude.{◌≡◌, ◌^◌, ◌<◌, ◌≤◌, ℕ, List, [], length, IfOk, OnOk, OnErr, not, false};
+ghost use Rattle.std.specs.Prelude.{◌≡◌, ◌^◌, ◌<◌, ◌≤◌, ℕ, List, [], length};
+ghost use Rattle.std.specs.Prelude.{IfOk, OnOk, OnErr, not, false};
 ghost use Rattle.std.proofs.Math.ListN.{replicate};
 ghost use Rattle.std.specs.Ordering.{nat_cmp};
 ghost use Rattle.std.specs.FinMap as map;
@@ -17,14 +18,13 @@ use std::marker::Model;
 /// How many variables there are in a bucket on average.
 const VARIABLES_PER_BUCKET: usize = 4;
 
-/// The most buckets that there may be.
 const MOST_BUCKETS: usize = u32::MAX as usize;
 
 /// An odd number whose multiples spread over the numbers of 32 bits.
 const MULTIPLIER: u32 = 2_654_435_769;
 
-/// Values of variables in buckets by a fixed multiplier, and in a tree where a bucket has no room. So indices that are
-/// chosen against the multiplier take the time of the tree.
+/// Values of variables in buckets by a fixed multiplier, and in a tree where a bucket has no room.
+/// So indices that are chosen against the multiplier take the time of the tree.
 #[derive(Drop)]
 pub(super) struct Spread<T: MapValue> {
     buckets: Vec<Bucket<T>>,
@@ -41,7 +41,6 @@ impl<T: MapValue> Model for Spread<T> {
     ghost invariant = { λ a. IsSpread a.buckets.items a.others };
 }
 
-/// Which of so many buckets an index belongs to.
 fn bucket_of(count: usize, index: u32) -> usize
     requires some { 0 < count }
     requires few { count < 2 ^ 32 }
@@ -52,7 +51,6 @@ fn bucket_of(count: usize, index: u32) -> usize
     (hash * count as u64 >> 32) as usize
 }
 
-/// So many empty buckets.
 fn empty_buckets<T: MapValue>(alloc: Global, count: usize) -> Result<Vec<Bucket<T>>, AllocError>
     ensures { IfOk result (λ buckets. buckets.items ≡ replicate count []) }
 {
@@ -76,7 +74,6 @@ impl<T: MapValue> Spread<T> {
         })
     }
 
-    /// The value of a variable.
     #[tactic(auto, using(crate::proofs::Tables::Maps::map_has))]
     #[inline(never)]
     pub(super) fn get(&self, var: Var) -> Option<T>
@@ -102,7 +99,6 @@ impl<T: MapValue> Spread<T> {
         self.buckets[bucket_of(self.buckets.len(), var.0)].is_overfull()
     }
 
-    /// Gives a variable its value, unless it has one, and answers whether it had none.
     #[inline(never)]
     pub(super) fn insert(&mut self, var: Var, value: T) -> Result<bool, AllocError>
         ensures added { IfOk result (λ added. added ≡ not (map.contains_key self.old var)) }

@@ -10,8 +10,8 @@ use crate::var_map::ranks::Ranks;
 use aig_circuit::Circuit;
 use std::alloc::{AllocError, Global};
 
-/// A table of numbers: one more than the number, or 0 where there is none. Each index has its place, or each that is
-/// announced.
+/// A table of numbers: one more than the number, or 0 where there is none. Each index has its
+/// place, or each that is announced.
 #[derive(Drop)]
 pub struct Table {
     ranks: Ranks,
@@ -28,7 +28,6 @@ impl MapValue for u32 {
 }
 
 impl Table {
-    /// The place of an index.
     #[inline(always)]
     fn slot(&self, index: usize) -> usize
         requires { has_place self.now.ranks.words.items self.now.places.items index ≡ true }
@@ -42,11 +41,12 @@ impl Table {
         }
     }
 
-    /// One more than the number of an index, or 0 where there is none: what its place has, so nothing is decided.
+    /// One more than an index's number, or 0 for none: what its place has, so nothing is decided.
     #[inline(always)]
     pub(super) fn link(&self, index: usize) -> u32
         requires { has_place self.now.ranks.words.items self.now.places.items index ≡ true }
-        ensures { result ≡ link_to (number_of self.now.ranks.words.items self.now.places.items index) }
+        ensures { result ≡ link_to
+            (number_of self.now.ranks.words.items self.now.places.items index) }
     {
         self.places[self.slot(index)]
     }

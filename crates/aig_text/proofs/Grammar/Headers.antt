@@ -1,26 +1,84 @@
--- A header that is read tells its numbers, and the other way round, whatever the word of its format.
+-- How a header is spelled and read, and what it tells, whatever the word of its format.
+use Rattle.std.proofs.Common.{◌≡◌, ◌<◌, ◌≤◌, ◌∷◌, ◌++◌, ◌∙◌, ◌+◌, rules, ℕ, suc, true, false, List, [], length, take}
+use Rattle.std.proofs.Common.{drop, Some, refl, ap, arith, append_assoc, min, cond, get_or, Option, None, Result, Ok}
+use Rattle.std.proofs.Common.{Err, sym, sum, bytes_eq, take-append-drop, eqb-true, ltb-false, le-ltb, ltb}
+use Rattle.std.specs.List.{AllByRecursion, before_first, position_or_len, list_any}
 use Rattle.std.proofs.lemmas.Grind.{common_steps}
-use Rattle.std.proofs.Common.{rules}
-use Rattle.std.proofs.Common.{◌≡◌, ℕ, ◌+◌, ◌≤◌, min, true, false, cond, List, [], ◌∷◌, drop, length, get_or, Option}
-use Rattle.std.proofs.Common.{None, Some, Result, Ok, Err, refl, ap, ◌∙◌, sym, arith}
-use Rattle.std.specs.List.{AllByRecursion, list_any, before_first, sum}
-use Rattle.std.specs.Str.{bytes_eq}
-use Rattle.std.proofs.lemmas.Bool.{ltb-false, le-ltb, or_parts, or_from}
-use Rattle.std.proofs.Math.Dec.{ltb}
+use Rattle.std.proofs.Math.Seq.{take-append_seam, drop-append_seam}
+use Rattle.std.proofs.lemmas.Bool.{or_parts, or_from}
+use Rattle.std.proofs.lemmas.Slice.Eq.{bytes_eq-Decides}
 use Rattle.aig_circuit.specs.declared.circuit.Circuit.{Circuit}
-use Rattle.aig_circuit.proofs.Checking.Fitting.{all_weaker}
 use Rattle.aig_circuit.specs.Wellformed.{IsWithinLimits, largest_index}
+use Rattle.aig_circuit.proofs.Checking.{all_weaker}
+use Rattle.aig_lines.specs.Lines.{Line}
+use Rattle.aig_rows.specs.Spelling.{IsGap, AreMoreNumbers}
+use Rattle.aig_rows.specs.Scanning.{more_numbers_at}
 use Rattle.aig_rows.specs.declared.fault.ReadKind.{ReadKind}
 use Rattle.aig_rows.specs.declared.fault.ReadKind.TheVariants as kinds
-use Rattle.aig_rows.specs.Lines.{Line}
-use Rattle.aig_text.specs.AsciiGrammar.{IsHeaderLine}
-use Rattle.aig_rows.specs.Scanning.{more_numbers_at}
-use Rattle.aig_text.specs.Sections.{Header, header_row, least_header_numbers, most_header_numbers}
-use Rattle.aig_text.specs.Reading.{ends_word, header_of_row, header_within, header_of}
+use Rattle.aig_rows.proofs.Grammar.Spellings.{one_more}
+use Rattle.aig_rows.proofs.Grammar.NumberLines.{end_is_numbers, more_reads}
 use Rattle.aig_rows.proofs.Steps.{ok_same, passed, let_through}
-use Rattle.aig_text.proofs.Grammar.HeaderLines.{header_reads, header_is_read}
+use Rattle.aig_text.specs.Reading.{ends_word, header_of_row, header_within, header_of}
+use Rattle.aig_text.specs.AsciiGrammar.{IsHeaderLine}
+use Rattle.aig_text.specs.Sections.{Header, header_row, least_header_numbers, most_header_numbers}
 use Rattle.aig_text.proofs.Grammar.Sections.{row_of_header}
 
+-- the header
+after_word : (k : ℕ) (text word : List ℕ) → take k text ≡ word → text ≡ word ++ drop (length word) text
+after_word k text word h = grind (arith, common_steps, take-append-drop, drop-append_seam)
+
+-- a line that begins with the word, and whose numbers are read, holds them
+pub header_reads : (word : List ℕ) (l : Line) (least most : ℕ) (ns : List ℕ) → least ≤ most
+    → bytes_eq (before_first ends_word l.text) word ≡ true
+    → more_numbers_at l.ended least most (drop (length word) l.text) ≡ Some ns
+    → IsHeaderLine word least l ns × (length ns ≡ most)
+header_reads word l least most ns small first h =
+    let is_word : before_first ends_word l.text ≡ word =
+    (bytes_eq-Decides (before_first ends_word l.text) word).0 first in
+    let found = more_reads least most l.ended (drop (length word) l.text) ns small h in (
+      record {
+        rest = drop (length word) l.text;
+        begins =
+            after_word (position_or_len ends_word l.text) l.text word is_word;
+        others = found.0;
+      },
+      found.1,
+    )
+
+-- a word ends where the first byte that ends words stands
+word_len : (word : List ℕ) (b : ℕ) (rest : List ℕ) → AllByRecursion (λ c. ends_word c ≡ false) word
+    → ends_word b ≡ true → position_or_len ends_word (word ++ b ∷ rest) ≡ length word
+word_len [] b rest h e = rw e refl
+word_len (c ∷ word) b rest h e =
+    rw h.0 (one_more (position_or_len ends_word (word ++ b ∷ rest)) ∙ ap suc (word_len word b rest h.1 e))
+
+word_before_gap : (word gap rest : List ℕ) → AllByRecursion (λ c. ends_word c ≡ false) word → IsGap gap
+    → before_first ends_word (word ++ (gap ++ rest)) ≡ word
+word_before_gap word [] rest h g = let long : 0 < 0 = g.0 in absurd (omega arith)
+word_before_gap word (b ∷ bs) rest h g = search (rules, eqb-true, word_len, take-append_seam)
+
+word_before_numbers : (word numbers ending written : List ℕ) → 0 < length written
+    → AllByRecursion (λ c. ends_word c ≡ false) word → AreMoreNumbers numbers written
+    → before_first ends_word (word ++ (numbers ++ ending)) ≡ word
+word_before_numbers word numbers ending [] some plain h = absurd (omega arith)
+word_before_numbers word numbers ending (n ∷ ns) some plain h = search (rules, append_assoc, word_before_gap)
+
+-- the numbers that a line holds after the word are read
+pub header_is_read : (word : List ℕ) (l : Line) (least most : ℕ) (ns : List ℕ) → 0 < least
+    → AllByRecursion (λ b. ends_word b ≡ false) word → IsHeaderLine word least l ns → length ns ≡ most
+    → (bytes_eq (before_first ends_word l.text) word ≡ true)
+    × (more_numbers_at l.ended least most (drop (length word) l.text) ≡ Some ns)
+header_is_read word l least most ns some plain h long =
+    let enough : least ≤ length h.others.written = h.others.enough in
+    let is_word : before_first ends_word l.text ≡ word =
+    rw (h.begins, h.others.text_is)
+    (word_before_numbers word h.others.numbers h.others.ending h.others.written (omega arith) plain h.others.spelled) in (
+      (bytes_eq-Decides (before_first ends_word l.text) word).1 is_word,
+      rw (ap (drop (length word)) h.begins ∙ drop-append_seam word h.rest)
+          (end_is_numbers l.ended least most h.rest ns h.others long),
+    )
+
+-- A header that is read tells its numbers, and the other way round, whatever the word of its format.
 none_larger : (m : ℕ) (ns : List ℕ) → list_any (λ n. ltb m n) ns ≡ false → AllByRecursion (λ n. n ≤ m) ns
 none_larger m [] h = tt
 none_larger m (n ∷ ns) h =
@@ -57,7 +115,7 @@ pub header_tells : (word : List ℕ) (limit : ℕ) (l : Line) (h : Header) → h
 unfolding header_of
 header_tells word limit l h is = search (rules, let_through, within_tells)
 
-pub found_header : (word : List ℕ) (limit : ℕ) (l : Line) (h : Header) → TellsHeader word limit l h
+found_header : (word : List ℕ) (limit : ℕ) (l : Line) (h : Header) → TellsHeader word limit l h
     → header_of word limit l ≡ Ok h
 unfolding header_of header_within
 found_header word limit l h t = search (rules, all_within, le-ltb)
@@ -104,7 +162,7 @@ module _ (word : List ℕ) (limit : ℕ) (l : Line) (h : Header) (c : Circuit) (
 pub header_limited : (c : Circuit) → IsWithinLimits c → AllByRecursion (λ n. n ≤ largest_index) (header_row c)
 header_limited c w = search rules
 
-pub both_limits : (limit : ℕ) (ns : List ℕ) → AllByRecursion (λ n. n ≤ limit) ns
+both_limits : (limit : ℕ) (ns : List ℕ) → AllByRecursion (λ n. n ≤ limit) ns
     → AllByRecursion (λ n. n ≤ largest_index) ns → AllByRecursion (λ n. n ≤ min limit largest_index) ns
 both_limits limit [] g h = tt
 both_limits limit (n ∷ ns) g h =

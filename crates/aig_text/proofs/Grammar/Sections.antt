@@ -1,7 +1,6 @@
 -- Sections that are read hold the rows of the circuit, and the other way round.
 use Rattle.std.proofs.lemmas.Grind.{common_steps}
-use Rattle.std.proofs.Common.{rules}
-use Rattle.std.proofs.Common.{◌≡◌, ℕ, ◌≤◌, List, [], ◌∷◌, ◌++◌, map, length, None, Ok, refl, ap, ◌∙◌, sym, arith}
+use Rattle.std.proofs.Common.{◌≡◌, ◌≤◌, ◌∷◌, ◌++◌, ◌∙◌, rules, ℕ, List, [], map, length, None, Ok, refl, ap, sym, arith}
 use Rattle.std.proofs.Common.{append_assoc}
 use Rattle.std.specs.List.{AllByRecursion, AllZip, sum}
 use Rattle.std.proofs.lemmas.List.{length-map}
@@ -11,10 +10,10 @@ use Rattle.aig_circuit.specs.declared.circuit.Latch.{Latch}
 use Rattle.aig_circuit.specs.declared.circuit.Gate.{Gate}
 use Rattle.aig_circuit.specs.Wellformed.{IsWithinLimits, IsVariableUpTo, operands}
 use Rattle.aig_circuit.specs.Form.{AreInRange, HasEntriesInRange, IsInForm}
-use Rattle.aig_circuit.proofs.Checking.InForm.{by_parts, in_range}
+use Rattle.aig_circuit.proofs.Checking.{by_parts, in_range}
 use Rattle.aig_rows.specs.declared.fault.ReadFault.{ReadFault}
 use Rattle.aig_text.specs.declared.section.Section.TheVariants.{Inputs}
-use Rattle.aig_rows.specs.Lines.{Line, Ahead, ahead}
+use Rattle.aig_lines.specs.Lines.{Line, Ahead, ahead}
 use Rattle.aig_text.specs.Sections.{Header, Section, sections, Listed, in_ascii, rows_of, header_row}
 use Rattle.aig_rows.specs.Rows.{Form, Row, row, input_row, latch_row, literal_row, size_row, gate_row, input_of}
 use Rattle.aig_rows.specs.Rows.{latch_of, literal_in, size_of, gate_of, input_form, latch_form, literal_form, size_form}
@@ -22,11 +21,10 @@ use Rattle.aig_rows.specs.Rows.{gate_form, IsRowLine}
 use Rattle.aig_text.specs.Reading.{section_at, sections_at, header_of_row, empty_circuit}
 use Rattle.aig_rows.specs.Reading.{Found, rows_at}
 use Rattle.aig_rows.proofs.Steps.{both_ok, ok_same}
-use Rattle.aig_rows.proofs.Grammar.Entries.{AreGoodRows, IsEntry, HasGoodRow, IsLiteralUpTo}
-use Rattle.aig_rows.proofs.Grammar.Entries.{IsLatchUpTo, IsSizeUpTo, IsGateUpTo, input_entry, latch_entry}
-use Rattle.aig_rows.proofs.Grammar.Entries.{literal_entry, size_entry, gate_entry, good_input, good_latch, good_literal}
-use Rattle.aig_rows.proofs.Grammar.Entries.{good_gate, good_sizes, sizes_within, all_again, entries_back}
-use Rattle.aig_rows.proofs.Grammar.Entries.{all_good, zips_joined}
+use Rattle.aig_rows.proofs.Grammar.Entries.{AreGoodRows, IsEntry, HasGoodRow, IsLiteralUpTo, IsLatchUpTo, IsSizeUpTo}
+use Rattle.aig_rows.proofs.Grammar.Entries.{IsGateUpTo, input_entry, latch_entry, literal_entry, size_entry, gate_entry}
+use Rattle.aig_rows.proofs.Grammar.Entries.{good_input, good_latch, good_literal, good_gate, good_sizes, sizes_within}
+use Rattle.aig_rows.proofs.Grammar.Entries.{all_again, entries_back, all_good, zips_joined}
 use Rattle.aig_rows.proofs.Grammar.Rows.{IsSound, AreRows, rows_meant, rows_are_found}
 
 -- rows that a section may have, the first one beside what is carried at the start, and as many as it has

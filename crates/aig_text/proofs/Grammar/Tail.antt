@@ -1,30 +1,33 @@
 -- A tail that is read tells its symbols and its comment, and the other way round.
-use Rattle.std.proofs.Common.{rules}
-use Rattle.std.proofs.Common.{◌≡◌, ◌≢◌, ◌+◌, ◌<◌, ℕ, Bool, false, cond, List, [], ◌∷◌, ◌++◌, Option, None, Some}
-use Rattle.std.proofs.Common.{Ok, Result, refl, sym, ap, ◌∙◌, append_assoc, append-nil, inl, inr}
+use Rattle.std.proofs.Common.{◌≡◌, ◌≢◌, ◌+◌, ◌<◌, ◌∷◌, ◌++◌, ◌∙◌, rules, ℕ, Bool, false, cond, List, [], Option, None}
+use Rattle.std.proofs.Common.{Some, Ok, Result, refl, sym, ap, append_assoc, append-nil, inl, inr, arith}
 use Rattle.std.specs.List.{AllByRecursion, AllZip}
 use Rattle.std.proofs.lemmas.Bool.{leb-false, lt-leb}
-use Rattle.aig_core.specs.declared.names.Names.{Names}
+use Rattle.std.proofs.lemmas.Grind.{common_steps}
 use Rattle.aig_circuit.specs.declared.circuit.Circuit.{Circuit}
 use Rattle.aig_circuit.specs.declared.circuit.Symbol.{Symbol}
-use Rattle.aig_core.specs.Names.{is_named, with_name}
-use Rattle.aig_circuit.specs.Wellformed.{IsAmong}
-use Rattle.aig_circuit.proofs.Checking.InForm.{back}
+use Rattle.aig_circuit.specs.Wellformed.{IsAmong, HasGoodSymbols, count_of}
+use Rattle.aig_circuit.specs.declared.circuit.Kind.{Kind}
+use Rattle.aig_circuit.specs.declared.circuit.Kind.TheVariants.{Input}
+use Rattle.aig_circuit.proofs.Checking.{back, front}
+use Rattle.aig_core.specs.declared.names.Names.{Names}
+use Rattle.aig_core.specs.Names.{is_named, with_name, nothing_named}
+use Rattle.aig_lines.specs.Lines.{Line, bytes_of}
+use Rattle.aig_lines.specs.Laws.{IsOneLine}
 use Rattle.aig_rows.specs.declared.fault.ReadFault.{ReadFault}
 use Rattle.aig_rows.specs.declared.fault.ReadKind.{ReadKind}
 use Rattle.aig_rows.specs.declared.fault.ReadKind.TheVariants as kinds
-use Rattle.aig_rows.specs.Lines.{Line, bytes_of}
-use Rattle.aig_rows.specs.Laws.{IsOneLine}
-use Rattle.aig_text.specs.Sections.{Header}
-use Rattle.aig_text.specs.Tail.{IsSymbolLine, IsComment}
-use Rattle.aig_text.specs.Scanning.{symbol_at, is_comment_line}
-use Rattle.aig_text.specs.Reading.{count_named, checked_symbol, with_comment, with_symbol, tail_at}
 use Rattle.aig_rows.specs.Reading.{◌>>=◌, at_line, unless_wrong}
 use Rattle.aig_rows.proofs.Steps.{both_ok, ok_at_line, ok_same}
-use Rattle.aig_text.proofs.Grammar.Symbols.{symbol_reads, symbol_is_read, symbol_is_no_comment, comment_reads}
-use Rattle.aig_text.proofs.Grammar.Symbols.{comment_is_read}
-use Rattle.aig_text.proofs.Grammar.Named.{AreNew}
 use Rattle.aig_rows.proofs.Grammar.NumberLines.{branches as branch}
+use Rattle.aig_text.specs.Sections.{Header}
+use Rattle.aig_text.specs.Tail.{IsSymbolLine, IsComment, AreTailLines}
+use Rattle.aig_text.specs.Scanning.{symbol_at, is_comment_line}
+use Rattle.aig_text.specs.Reading.{count_named, checked_symbol, with_comment, with_symbol, tail_at}
+use Rattle.aig_text.proofs.Grammar.Symbols.{symbol_reads, symbol_is_read, symbol_is_no_comment, comment_reads}
+use Rattle.aig_text.proofs.Grammar.Symbols.{comment_is_read, AreNew, IsPlaced, new_apart, new_placed, apart_new}
+use Rattle.aig_text.proofs.Grammar.Headers.{HasCounts, own_header}
+use Rattle.aig_text.proofs.Grammar.Sections.{bare}
 
 -- the circuit with these symbols and this comment more
 abbrev pub with_tail : Circuit → List Symbol → Option (List ℕ) → Circuit
@@ -130,7 +133,7 @@ comment_found h before c n (l ∷ ls) (Some bytes) none is =
     rw (comment_is_read l is.0) (ap (λ (b : List ℕ). Ok (with_comment c b)) (sym is.1))
 comment_found h before c n ls comment none is = absurd is
 
-pub tail_is_found : (h : Header) (before : Names) (c : Circuit) (n : ℕ) (named rest : List Line) (ss : List Symbol)
+tail_is_found : (h : Header) (before : Names) (c : Circuit) (n : ℕ) (named rest : List Line) (ss : List Symbol)
     (comment : Option (List ℕ)) → c.comment ≡ None → AllZip IsSymbolLine named ss → AreNew h before ss → IsComment
     rest comment
     → tail_at h before c n (named ++ rest) ≡ Ok (with_tail c ss comment)
@@ -147,11 +150,54 @@ none_among : (xs : List ℕ) → AllByRecursion (λ b. b ≢ 10) xs → ¬ IsAmo
 none_among [] h = λ a. a
 none_among (x ∷ xs) h = λ a. elim a as (λ _. ⊥) [ inl e ↦ h.0 (sym e) | inr r ↦ none_among xs h.1 r ]
 
-pub name_in_line : (l : Line) (s : Symbol) → IsSymbolLine l s → IsOneLine l → ¬ IsAmong 10 s.name
+name_in_line : (l : Line) (s : Symbol) → IsSymbolLine l s → AllByRecursion (λ b. b ≢ 10) l.text → ¬ IsAmong 10 s.name
 name_in_line l s h one = search (rules, none_among, back)
 
-pub names_in_lines : (named : List Line) (ss : List Symbol) → AllZip IsSymbolLine named ss
+names_in_lines : (named : List Line) (ss : List Symbol) → AllZip IsSymbolLine named ss
     → AllByRecursion IsOneLine named → AllByRecursion (λ (s : Symbol). ¬ IsAmong 10 s.name) ss
 names_in_lines [] [] z one = tt
 names_in_lines (l ∷ ls) (s ∷ ss) z one = (name_in_line l s z.0 one.0, names_in_lines ls ss z.1 one.1)
 names_in_lines ls ss z one = absurd z
+
+-- The tail of a circuit: what it tells besides, and how it is read again.
+
+-- as many things as the header tells may be named
+count_is : (h : Header) (c : Circuit) → HasCounts h c → (k : Kind) → count_named h k ≡ count_of c k
+count_is h c e Input = cc
+count_is h c e k = cc
+
+placed : (h : Header) (c : Circuit) → HasCounts h c → (ss : List Symbol) → AllByRecursion (IsPlaced h) ss
+    → AllByRecursion (λ (s : Symbol). s.position < count_of c s.kind) ss
+placed h c e [] p = tt
+placed h c e (s ∷ ss) p = (rw (count_is h c e s.kind) at p.0, placed h c e ss p.1)
+
+-- lines that tell the tail of a circuit that had none
+module _ (h : Header) (before : Names) (c d : Circuit) (ls : List Line) (t : TellsTail h before c d ls)
+    (none : c.symbols ≡ []) where
+  pub tail_holds : AreTailLines ls d
+  tail_holds = search rules
+
+-- the symbols that lines tell are good
+pub good_symbols : (h : Header) (c d : Circuit) (ls : List Line) → TellsTail h nothing_named c d ls → c.symbols ≡ []
+    → HasCounts h d → AllByRecursion IsOneLine ls → HasGoodSymbols d
+good_symbols h c d ls t none counts one =
+    grind (arith, common_steps, front, placed, new_placed, new_apart, names_in_lines)
+
+own_count : (limit : ℕ) (c : Circuit) (k : Kind) → count_of c k ≡ count_named (own_header limit c) k
+own_count limit c Input = refl
+own_count limit c k = refl
+
+own_placed : (limit : ℕ) (c : Circuit) (ss : List Symbol)
+    → AllByRecursion (λ (s : Symbol). s.position < count_of c s.kind) ss
+    → AllByRecursion (IsPlaced (own_header limit c)) ss
+own_placed limit c [] p = tt
+own_placed limit c (s ∷ ss) p =
+    (rw (own_count limit c s.kind) at p.0, own_placed limit c ss p.1)
+
+-- the tail of a circuit with good symbols is read as it
+pub own_tail : (limit : ℕ) (c : Circuit) (n : ℕ) (ls : List Line) → HasGoodSymbols c → AreTailLines ls c
+    → tail_at (own_header limit c) nothing_named (bare c) n ls ≡ Ok c
+own_tail limit c n ls good a =
+    ap (tail_at (own_header limit c) nothing_named (bare c) n) a.are
+    ∙ tail_is_found (own_header limit c) nothing_named (bare c) n a.named a.rest c.symbols c.comment refl a.symbols
+    (apart_new (own_header limit c) c.symbols (own_placed limit c c.symbols good.positions) good.apart) a.comment

@@ -1,37 +1,36 @@
--- A text that is read is the text of its circuit, and the other way round.
-use Rattle.std.proofs.Common.{rules}
-use Rattle.std.proofs.Common.{◌≡◌, ℕ, ◌≤◌, List, [], ◌∷◌, ◌++◌, Option, None, Some, Result, Ok, refl, ap}
-use Rattle.std.proofs.Common.{subst, ◌∙◌, sym, length, min}
-use Rattle.std.specs.List.{AllByRecursion, sum}
+-- A text that is read is the text of its circuit, and the other way round; and the first fault of a text.
+use Rattle.std.proofs.Common.{◌≡◌, ◌≤◌, ◌∷◌, ◌++◌, ◌∙◌, ◌⊎◌, rules, ℕ, List, [], Option, None, Some, Result, Ok, refl}
+use Rattle.std.proofs.Common.{ap, subst, sym, length, min, Err, ⊎_elim, inl, inr, sum, IfOk, IfErr, MatchResult}
+use Rattle.std.specs.List.{AllByRecursion}
 use Rattle.aig_circuit.specs.declared.circuit.Circuit.{Circuit}
-use Rattle.aig_core.specs.declared.fault.CheckFault.{CheckFault}
-use Rattle.aig_core.specs.Fault.{first_structural_fault}
-use Rattle.aig_core.proofs.Checking.Faultless.{well_formed, faultless}
-use Rattle.aig_circuit.proofs.Checking.Fitting.{well_formed_in_form}
 use Rattle.aig_circuit.specs.declared.circuit.Symbol.{Symbol}
-use Rattle.aig_core.specs.Names.{nothing_named}
 use Rattle.aig_circuit.specs.Wellformed.{IsWellFormed, IsWithinLimits, HasGoodSymbols, largest_index}
 use Rattle.aig_circuit.specs.Form.{IsInForm}
-use Rattle.aig_circuit.proofs.Checking.InForm.{back}
+use Rattle.aig_circuit.proofs.Checking.{well_formed_in_form, back}
+use Rattle.aig_core.specs.declared.fault.CheckFault.{CheckFault}
+use Rattle.aig_core.specs.Fault.{first_structural_fault}
+use Rattle.aig_core.specs.Names.{nothing_named}
+use Rattle.aig_core.specs.Fault as structure
+use Rattle.aig_core.proofs.Checking.Faultless.{well_formed, faultless}
+use Rattle.aig_lines.specs.Lines.{Line, Ahead, ahead, lines_of}
+use Rattle.aig_lines.specs.Laws.{IsOneLine}
+use Rattle.aig_lines.proofs.Cutting.{pieces}
 use Rattle.aig_rows.specs.declared.fault.ReadFault.{ReadFault}
 use Rattle.aig_rows.specs.declared.fault.ReadKind.TheVariants as kinds
-use Rattle.aig_rows.specs.Lines.{Line, Ahead, ahead, lines_of}
-use Rattle.aig_text.specs.Sections.{ascii_word, Header, header_row, rows_of, sections, in_ascii}
-use Rattle.aig_rows.specs.Laws.{IsOneLine}
-use Rattle.aig_text.specs.AsciiGrammar.{IsAsciiText}
-use Rattle.aig_text.specs.Reading.{header_of, tail_at, header_at, sections_at, empty_circuit, circuit_at, unless_faulty}
-use Rattle.aig_text.specs.Reading.{reading}
-use Rattle.aig_rows.specs.Reading.{◌>>=◌}
+use Rattle.aig_rows.specs.Reading.{◌>>=◌, want_of_memory}
+use Rattle.aig_rows.specs.Outcomes.{GivesOrMemory}
 use Rattle.aig_rows.proofs.Steps.{both_ok, ok_same}
 use Rattle.aig_rows.proofs.Grammar.Rows.{first_found}
+use Rattle.aig_text.specs.Sections.{ascii_word, Header, header_row, rows_of, sections, in_ascii}
+use Rattle.aig_text.specs.AsciiGrammar.{IsAsciiText}
+use Rattle.aig_text.specs.Reading.{header_of, tail_at, header_at, sections_at, empty_circuit, circuit_at, unless_faulty}
+use Rattle.aig_text.specs.Reading.{reading, first_ascii_fault, fault_of, IsFirstFault}
 use Rattle.aig_text.proofs.Grammar.Sections.{AreAllSections, all_found, rows_read, counts_read, in_form, sizes_read}
 use Rattle.aig_text.proofs.Grammar.Sections.{sizes_limited, sections_are_read, bare}
 use Rattle.aig_text.proofs.Grammar.Headers.{TellsHeader, HasCounts, own_header, header_tells, header_is_found, heads}
 use Rattle.aig_text.proofs.Grammar.Headers.{limited, sizes_within_limit, definitions_counted, within_limits}
 use Rattle.aig_text.proofs.Grammar.Headers.{sizes_in_both}
-use Rattle.aig_text.proofs.Grammar.WholeTail.{tail_holds, good_symbols, own_tail}
-use Rattle.aig_text.proofs.Grammar.Tail.{TellsTail, with_tail, tail_tells}
-use Rattle.aig_rows.proofs.Loops.Cutting.{pieces}
+use Rattle.aig_text.proofs.Grammar.Tail.{tail_holds, good_symbols, own_tail, TellsTail, with_tail, tail_tells}
 
 -- what the lines of a text tell
 record TellCircuit (limit : ℕ) (ls : List Line) (c : Circuit) : Type 0 where
@@ -191,3 +190,52 @@ accepted_lines limit text c a =
 pub accepted_is_read : (limit : ℕ) (text : List ℕ) (c : Circuit) → IsAsciiText text limit c → reading limit text ≡ Ok c
 unfolding reading
 accepted_is_read limit text c a = rw (accepted_lines limit text c a) (ap (unless_faulty c) (faultless c a.well_formed))
+
+-- The first fault of a text: of its lines, and then of the structure of its circuit.
+reading_of : (limit : ℕ) (text : List ℕ) (c : Circuit) → circuit_at limit (lines_of text) ≡ Ok c
+    → reading limit text ≡ unless_faulty c (structure.first_structural_fault c)
+unfolding reading
+reading_of limit text c h = rw h refl
+
+-- the fault of a line is the first fault
+pub line_fault : (limit : ℕ) (text : List ℕ) (e : ReadFault)
+    → (e ≡ want_of_memory) ⊎ (circuit_at limit (lines_of text) ≡ Err e) → IsFirstFault e (first_ascii_fault limit text)
+unfolding reading
+line_fault limit text e (inl m) = inl m
+line_fault limit text e (inr h) = inr (rw h refl)
+
+-- a text that is the file of a circuit is refused only for want of memory
+pub memory_only : (limit : ℕ) (text : List ℕ) (c : Circuit) (e : ReadFault)
+    → IsFirstFault e (first_ascii_fault limit text)
+    → IsAsciiText text limit c → e ≡ want_of_memory
+memory_only limit text c e (inl m) a = m
+memory_only limit text c e (inr h) a =
+    let none : first_ascii_fault limit text ≡ None = ap fault_of (accepted_is_read limit text c a) in cc
+
+-- and it is the file of no other circuit
+one_circuit : (limit : ℕ) (text : List ℕ) (c d : Circuit) → reading limit text ≡ Ok d → IsAsciiText text limit c
+    → d ≡ c
+one_circuit limit text c d h a = let same : reading limit text ≡ Ok c = accepted_is_read limit text c a in cc
+
+-- what a reader of a text answered that gave what is read of it
+pub record Tells (limit : ℕ) (text : List ℕ) (r : Result Circuit ReadFault) : Type 0 where
+  pub ok : IfOk r (λ c. IsAsciiText text limit c)
+  pub only :
+      (c : Circuit) → IsAsciiText text limit c → MatchResult r (λ d. d ≡ c) (λ e. e ≡ want_of_memory)
+  pub fault : IfErr r (λ e. IsFirstFault e (first_ascii_fault limit text))
+
+read_tells : (limit : ℕ) (text : List ℕ) (r : Result Circuit ReadFault)
+    → GivesOrMemory (λ c. c) r (reading limit text) → Tells limit text r
+read_tells limit text (Ok c) h = record {
+  ok = reading_is_accepted limit text c h;
+  only = λ d is. one_circuit limit text d c h is;
+  fault = tt;
+}
+read_tells limit text (Err e) h =
+    let first = ⊎_elim inl (λ (is : reading limit text ≡ Err e). inr (ap fault_of is)) h in
+    record { ok = tt; only = λ c is. memory_only limit text c e first is; fault = first }
+
+pub checked_tells : (limit : ℕ) (text : List ℕ) (c : Circuit) (r : Result Circuit ReadFault)
+    → circuit_at limit (lines_of text) ≡ Ok c
+    → GivesOrMemory (λ d. d) r (unless_faulty c (structure.first_structural_fault c)) → Tells limit text r
+checked_tells limit text c r h is = read_tells limit text r (rw (reading_of limit text c h) is)

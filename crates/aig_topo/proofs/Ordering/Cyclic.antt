@@ -1,10 +1,8 @@
 -- Which gates depend on a cycle: those that the least ready order does not have.
-use Rattle.std.proofs.Common.{rules}
-use Rattle.std.proofs.Common.{◌≡◌, ◌<◌, ◌≤◌, ◌+◌, ◌-◌, ◌*◌, ℕ, zero, suc, List, [], ◌∷◌, ◌++◌, Bool, true, false, not}
-use Rattle.std.proofs.Common.{◌&&◌, cond, Option, None, Some, length, map, get_or, refl, sym, ap, subst, ◌∙◌, ◌⊎◌}
-use Rattle.std.proofs.Common.{◌↔◌, inl, inr, ⊎_elim, arith}
-use Rattle.std.specs.List.{AllByRecursion, list_all, find, position}
-use Rattle.std.specs.Option.{option_map}
+use Rattle.std.proofs.Common.{◌≡◌, ◌<◌, ◌≤◌, ◌+◌, ◌-◌, ◌*◌, ◌∷◌, ◌++◌, ◌&&◌, ◌∙◌, ◌⊎◌, ◌↔◌, rules, ℕ, zero, suc, List}
+use Rattle.std.proofs.Common.{[], Bool, true, false, not, cond, Option, None, Some, length, map, get_or, refl, sym, ap}
+use Rattle.std.proofs.Common.{subst, inl, inr, ⊎_elim, arith, find, position, option_map, lt-ltb}
+use Rattle.std.specs.List.{AllByRecursion, list_all}
 use Rattle.aig_circuit.specs.declared.circuit.Gate.{Gate}
 use Rattle.aig_circuit.specs.declared.circuit.Circuit.{Circuit}
 use Rattle.aig_circuit.specs.declared.circuit.Latch.{Latch}
@@ -13,10 +11,10 @@ use Rattle.aig_circuit.specs.Form.{IsInForm}
 use Rattle.aig_circuit.specs.Wellformed.{IsAmong, AreDistinct}
 use Rattle.aig_topo.specs.Order.{gate_operands, IsReady, TakesLeast, IsFull, IsLeastReadyOrder, ends_within}
 use Rattle.aig_topo.specs.Order.{depends_on_cycle, first_cyclic}
-use Rattle.aig_circuit.proofs.Checking.Fitting.{each, at_most_below}
+use Rattle.aig_circuit.proofs.Checking.{each, at_most_below}
 use Rattle.aig_topo.proofs.Ordering.Ranked.{over_one, all_of, no_gate, at, needed, stands_there}
 use Rattle.std.proofs.lemmas.List.Folds.{find_at}
-use Rattle.std.proofs.lemmas.Bool.{cases_lt, lt-ltb}
+use Rattle.std.proofs.lemmas.Bool.{cases_lt}
 use Rattle.std.proofs.lemmas.List.Sums.{position_or_len_is, fails_before_first}
 use Rattle.std.proofs.lemmas.List.Quantifiers.{position-Some}
 use Rattle.std.proofs.lemmas.Option.{slice_get-get_or}

@@ -1,28 +1,25 @@
 -- A search for a gate that depends on a cycle, depth first.
 use Rattle.std.proofs.lemmas.Grind.{common_steps}
-use Rattle.std.proofs.Common.{rules}
-use Rattle.std.proofs.Common.{◌≡◌, ◌≢◌, ◌<◌, ◌≤◌, ◌+◌, ◌-◌, ◌*◌, ℕ, zero, suc, List, [], ◌∷◌, ◌++◌, Bool, true, false}
-use Rattle.std.proofs.Common.{cond, eqb, None, Some, length, map, take, replicate, get_or, refl, sym, ap, ap₂, subst}
-use Rattle.std.proofs.Common.{◌∙◌, inl, inr, ⊎_elim, arith}
-use mathlib.Core.Bool.{◌&&◌, not}
-use Rattle.std.specs.List.{sum, list_all, position, position_or_len}
-use Rattle.std.specs.Option.{option_to_list, unwrap_or}
+use Rattle.std.proofs.Common.{◌≡◌, ◌≢◌, ◌<◌, ◌≤◌, ◌+◌, ◌-◌, ◌*◌, ◌∷◌, ◌++◌, ◌∙◌, ◌&&◌, rules, ℕ, zero, suc, List, []}
+use Rattle.std.proofs.Common.{Bool, true, false, cond, eqb, None, Some, length, map, take, replicate, get_or, refl, sym}
+use Rattle.std.proofs.Common.{ap, ap₂, subst, inl, inr, ⊎_elim, arith, not, sum, position, option_to_list, unwrap_or}
+use Rattle.std.proofs.Common.{ltb-true, le-ltb, lt-ltb, get_or-set_same, get_or-set_other, length-set, length-append}
+use Rattle.std.proofs.Common.{get_or-take, length-take-le}
+use Rattle.std.specs.List.{list_all, position_or_len}
 use Rattle.std.proofs.Math.ListN.{set as put}
 use Rattle.std.proofs.Math.Seq.{get_or-append_seam}
-use Rattle.std.proofs.lemmas.Bool.{cases_lt, ltb-true, le-ltb, lt-ltb}
+use Rattle.std.proofs.lemmas.Bool.{cases_lt}
 use Rattle.std.proofs.lemmas.Bool.Decides.{eqb_tells}
-use Rattle.std.proofs.lemmas.List.{get_or-set_same, get_or-set_other, get_or_past, get_or-map, length-set, length-append}
-use Rattle.std.proofs.lemmas.List.{get_or_append_left, get_or-take, length-take-le, length-map, length-replicate}
+use Rattle.std.proofs.lemmas.List.{get_or_past, get_or-map, get_or_append_left, length-map, length-replicate}
 use Rattle.std.proofs.lemmas.List.Sums.{sum_by-cons, sum_by-set, count_by-le-length, position_or_len_is}
 use Rattle.std.proofs.lemmas.List.Quantifiers.{position-Some}
 use Rattle.aig_circuit.specs.Wellformed.{IsAmong}
 use Rattle.aig_topo.specs.declared.cycle.Pair.{Pair}
-use Rattle.aig_topo.specs.Cycle.{comes_to_end, how_many_done, IsSearching, IsAtEnd, IsRisen}
-use Rattle.aig_topo.specs.Cycle.{gate_at, over_pair, needs_in, pair_at}
-use Rattle.aig_topo.specs.Cycle.{pair_of, place_of, AreWithin}
+use Rattle.aig_topo.specs.Cycle.{comes_to_end, how_many_done, IsSearching, IsAtEnd, IsRisen, gate_at, over_pair}
+use Rattle.aig_topo.specs.Cycle.{needs_in, pair_at, pair_of, place_of, AreWithin}
 use Rattle.aig_circuit.specs.declared.circuit.Gate.{Gate}
 use Rattle.aig_topo.specs.Order.{gate_of, gates_under, gate_operands, ends_within, depends_on_cycle}
-use Rattle.aig_topo.proofs.Ordering.Gates.{zeros}
+use Rattle.aig_topo.proofs.Ordering.Trees.{zeros}
 use Rattle.aig_topo.proofs.Ordering.Counted.{among_either}
 use Rattle.aig_topo.proofs.Ordering.Ranked.{over_one, no_gate, at, needed}
 use Rattle.aig_topo.proofs.Ordering.Cyclic.{all_true, each_true}

@@ -1,14 +1,13 @@
 -- Lists in one table: what becomes of them where a gate is put at the front of one, or taken from there.
-use Rattle.std.proofs.Common.{rules}
-use Rattle.std.proofs.Common.{◌≡◌, ◌≢◌, ◌<◌, ◌≤◌, ℕ, zero, suc, List, [], ◌∷◌, length, get_or, eqb, false}
-use Rattle.std.proofs.Common.{refl, sym, ap, subst, ◌∙◌, inl, inr, ⊎_elim, arith}
+use Rattle.std.proofs.Common.{◌≡◌, ◌≢◌, ◌<◌, ◌≤◌, ◌∷◌, ◌∙◌, rules, ℕ, zero, suc, List, [], length, get_or, eqb, false}
+use Rattle.std.proofs.Common.{refl, sym, ap, subst, inl, inr, ⊎_elim, arith}
 use Rattle.std.specs.List.{AllByRecursion}
 use Rattle.std.proofs.Math.ListN.{set as put}
 use Rattle.std.proofs.lemmas.Bool.Decides.{eqb_tells}
 use Rattle.std.proofs.lemmas.List.{get_or-set_same, get_or-set_other, get_or_default, length-set}
 use Rattle.aig_circuit.specs.Wellformed.{IsAmong, AreDistinct}
 use Rattle.aig_topo.specs.Lists.{Link, no_link, next_of, first_of, gates_up_to, list_of, LeadsTo, AreLists}
-use Rattle.aig_circuit.proofs.Checking.Fitting.{at_most_below}
+use Rattle.aig_circuit.proofs.Checking.{at_most_below}
 
 -- where a link leads to some gates, they are what it gives
 list_is : (most : ℕ) (links : List Link) (link : ℕ) (us : List ℕ) → LeadsTo links link us → length us ≤ most

@@ -1,22 +1,31 @@
--- A rank of gates exists exactly where their order has all of them.
-use Rattle.std.proofs.Common.{rules}
-use Rattle.std.proofs.Common.{◌≡◌, ◌≢◌, ◌<◌, ◌+◌, ℕ, zero, suc, List, [], ◌∷◌, ◌++◌, Option, None, Some, length, map}
-use Rattle.std.proofs.Common.{get_or, cond, eqb, false, refl, sym, ap, subst, ◌∙◌, ◌⊎◌, ◌↔◌, inl, inr}
-use Rattle.std.proofs.Common.{⊎_elim, arith}
-use Rattle.std.specs.List.{AllByRecursion, Contains}
+-- A rank of gates exists exactly where their order has all of them; and what gates need.
+use Rattle.std.proofs.Common.{◌≡◌, ◌≢◌, ◌<◌, ◌+◌, ◌∷◌, ◌++◌, ◌∙◌, ◌⊎◌, ◌↔◌, ◌≤◌, rules, ℕ, zero, suc, List, [], Option}
+use Rattle.std.proofs.Common.{None, Some, length, map, get_or, cond, eqb, false, refl, sym, ap, subst, inl, inr, ⊎_elim}
+use Rattle.std.proofs.Common.{arith, ap₂}
+use Rattle.std.specs.List.{AllByRecursion, Contains, count_by, sum, sum_by, flat_map}
 use Rattle.std.specs.Option.{option_to_list, option_map_or}
-use Rattle.std.proofs.lemmas.Bool.{ne_eqb, lt-ltb}
+use Rattle.std.proofs.lemmas.Bool.{ne_eqb, lt-ltb, cases_lt}
 use Rattle.std.proofs.lemmas.Bool.Decides.{Decides-eqb, eqb_tells}
-use Rattle.std.proofs.lemmas.List.{get_or_default, get_or-map}
+use Rattle.std.proofs.lemmas.List.{get_or_default, get_or-map, get_or_past, length-map}
 use Rattle.std.proofs.lemmas.List.Quantifiers.{position-Some}
-use Rattle.std.proofs.lemmas.List.Sums.{position_or_len_is}
+use Rattle.std.proofs.lemmas.List.Sums.{position_or_len_is, sum_by-cons, sum_by-append, sum-map}
+use Rattle.std.proofs.lemmas.List.Concat.{flat_map-cons}
+use Rattle.std.proofs.lemmas.Simd.{map-map}
+use mathlib.Core.Path.{fun_ext}
 use Rattle.aig_circuit.specs.declared.circuit.Gate.{Gate}
 use Rattle.aig_circuit.specs.declared.circuit.Circuit.{Circuit}
 use Rattle.aig_circuit.specs.Literal.{variable_of}
 use Rattle.aig_circuit.specs.Wellformed.{IsAmong, AreDistinct, HasRank, operands, defined_variables}
-use Rattle.aig_topo.specs.Order.{gate_of, gates_under, gate_operands, TakesLeast, IsFull, IsLeastReadyOrder}
-use Rattle.aig_circuit.proofs.Checking.Fitting.{each}
-use Rattle.aig_topo.proofs.Ordering.LeastReady.{among_or_not}
+use Rattle.aig_circuit.proofs.Checking.{each}
+use Rattle.aig_tables.specs.VarMap.{link_to}
+use Rattle.aig_topo.specs.Order.{gate_of, gates_under, gate_operands, TakesLeast, IsFull, IsLeastReadyOrder, left_over}
+use Rattle.aig_topo.specs.Order.{operands_over}
+use Rattle.aig_topo.specs.Progress.{has_gate}
+use Rattle.aig_topo.specs.declared.lists.GateNode.{GateNode}
+use Rattle.aig_topo.specs.declared.operands.Needs.{Needs}
+use Rattle.aig_topo.specs.Lists.{needs_in}
+use Rattle.aig_topo.specs.Needs.{linked, needs_of, under, how_many, needs_at, no_needs, AreThere}
+use Rattle.aig_topo.proofs.Ordering.LeastReady.{among_or_not, has_or_not}
 
 -- a number, by the gates that it needs
 abbrev Ranks : ℕ → (ℕ → List ℕ) → (ℕ → ℕ) → Type 0
@@ -87,7 +96,7 @@ told_by_either p (Some x) (Some y) among =
     (λ (later : IsAmong p (y ∷ [])). ⊎_elim (λ (e : p ≡ y). inr (ap Some (sym e))) (λ (n : ⊥). absurd n) later)
     among
 
-pub told_by_right : (p : ℕ) (a : Option ℕ) → IsAmong p (option_to_list a ++ option_to_list (Some p))
+told_by_right : (p : ℕ) (a : Option ℕ) → IsAmong p (option_to_list a ++ option_to_list (Some p))
 told_by_right p None = inl refl
 told_by_right p (Some x) = inr (inl refl)
 
@@ -180,3 +189,119 @@ rank_exactly_where_all_are_ordered c list once order = (
   listed c.gates list order.in_turn order.full,
   search (rules, ranked, distinct_back),
 )
+
+-- Steps of an order: one for each gate that is listed, and one for each operand over it.
+module _ (gates : List Gate) (list : List ℕ) where
+  abbrev pub waiting_of : Gate → ℕ
+  waiting_of g = left_over list (gates_under gates g)
+
+  by_gates : (gs : List Gate)
+      → sum_by waiting_of gs + count_by (has_gate list) (flat_map (gates_under gates) gs)
+      ≡ sum_by (λ g. length (gates_under gates g)) gs
+  by_gates [] = refl
+  by_gates (g ∷ gs) =
+      let waits : sum_by waiting_of (g ∷ gs) ≡ waiting_of g + sum_by waiting_of gs = sum_by-cons waiting_of g gs in
+      let all = sum_by-cons (λ h. length (gates_under gates h)) g gs in
+      let has = ap (count_by (has_gate list)) (flat_map-cons (gates_under gates) g gs)
+      ∙ sum_by-append (λ h. cond (has_gate list h) 1 0) (gates_under gates g) (flat_map (gates_under gates) gs) in
+      omega (arith, waits, all, has, has_or_not list (gates_under gates g), by_gates gs)
+
+-- what all gates wait for, by gates
+sum_at : (f : Gate → ℕ) (gs : List Gate) (ws : List ℕ) → length ws ≡ length gs
+    → ((u : ℕ) → u < length gs → get_or ws u 0 ≡ f (get_or gs u no_gate)) → sum ws ≡ sum_by f gs
+sum_at f [] [] same each = refl
+sum_at f (g ∷ gs) (w ∷ ws) same each =
+    let here : w ≡ f g = each 0 (omega arith) in
+    sum_by-cons (λ x. x) w ws ∙ ap₂ (λ a b. a + b) here
+    (sum_at f gs ws (omega (arith, same)) (λ u below. each (suc u) (omega (arith, below))))
+    ∙ sym (sum_by-cons f g gs)
+sum_at f gs ws same each = absurd (omega (arith, same))
+
+module _ (gates : List Gate) where
+  -- how many operands are over gates
+  abbrev pub total : ℕ
+  total = sum (map (λ (g : Gate). length (gates_under gates g)) gates)
+
+-- steps are as many as the listed gates and the operands over them, where gates wait for what is left over
+pub steps_are : (c : Circuit) (list waiting : List ℕ) (steps : ℕ) → length waiting ≡ length c.gates
+    → ((u : ℕ) → u < length c.gates → get_or waiting u 0 ≡ left_over list (gate_operands c.gates u))
+    → steps + sum waiting ≡ length list + total c.gates → steps ≡ length list + operands_over c list
+steps_are c list waiting steps as_many waits paid =
+    let left : sum waiting ≡ sum_by (waiting_of c.gates list) c.gates =
+    search (rules, sum_at, needed) in search (rules, by_gates, sum-map)
+
+two_at_most : (a b : Option ℕ) → length (option_to_list a ++ option_to_list b) ≤ 2
+two_at_most None None = omega arith
+two_at_most None (Some y) = omega arith
+two_at_most (Some x) None = omega arith
+two_at_most (Some x) (Some y) = omega arith
+
+two_operands : (gates gs : List Gate)
+    → AllByRecursion (λ w. w ≤ 2) (map (λ (g : Gate). length (gates_under gates g)) gs)
+two_operands gates [] = tt
+two_operands gates (g ∷ gs) = (
+  two_at_most (gate_of gates (variable_of g.left)) (gate_of gates (variable_of g.right)),
+  two_operands gates gs,
+)
+
+-- What gates need, as the code looks it up.
+linked_to : (o : Option ℕ) → linked (link_to o) ≡ option_to_list o
+linked_to None = refl
+linked_to (Some x) = refl
+
+same_under : (gates : List Gate) (g : Gate) → under (needs_of gates g) ≡ gates_under gates g
+same_under gates g = search (rules, linked_to)
+
+pub here_needs : (all : List Needs) (gate : ℕ) (n : Needs) → gate < length all → n ≡ get_or all gate n
+    → needs_at all gate ≡ under n
+here_needs all gate n there is = get_or-map under all gate n [] there ∙ ap under (sym is)
+
+module _ (gates : List Gate) (all : List Needs) (all_are : all ≡ map (needs_of gates) gates) where
+  pub as_long : length all ≡ length gates
+  as_long = ap length all_are ∙ length-map gates (needs_of gates)
+
+  pub same_needs : (u : ℕ) → needs_at all u ≡ gate_operands gates u
+  same_needs u =
+      ⊎_elim (λ (there : u < length gates).
+      get_or-map under all u no_needs [] (omega (arith, there, as_long))
+      ∙ ap (λ ns. under (get_or ns u no_needs)) all_are
+      ∙ ap under (get_or-map (needs_of gates) gates u no_gate no_needs there)
+      ∙ same_under gates (get_or gates u no_gate)
+      ∙ sym (needed gates u there))
+      (search (rules, get_or_past, as_long, length-map))
+      (cases_lt u (length gates))
+
+  pub are_there : AreThere all
+  are_there u = search (rules, all_of, same_needs, as_long, over_one, cases_lt, get_or_past, length-map)
+
+-- an order by what is needed, however that is told
+module _ (count : ℕ) (some other : ℕ → List ℕ) (same : (u : ℕ) → some u ≡ other u) where
+  pub in_turn_too : (taken xs : List ℕ) → TakesLeast count some taken xs → TakesLeast count other taken xs
+  in_turn_too taken xs in_turn = subst (λ needs. TakesLeast count needs taken xs) (fun_ext same) in_turn
+
+  pub full_too : (list : List ℕ) → IsFull count some list → IsFull count other list
+  full_too list full = subst (λ needs. IsFull count needs list) (fun_ext same) full
+
+-- how many operands each gate waits for at first
+one_by_one : (gates gs : List Gate) → map (λ (g : Gate). how_many (needs_of gates g)) gs
+    ≡ map (λ (g : Gate). length (gates_under gates g)) gs
+one_by_one gates [] = refl
+one_by_one gates (g ∷ gs) = ap₂ (λ n ns. n ∷ ns) (ap length (same_under gates g)) (one_by_one gates gs)
+
+length_at : (xss : List (List ℕ)) (u : ℕ) → get_or (map length xss) u 0 ≡ length (get_or xss u [])
+length_at (xs ∷ xss) (suc u) = length_at xss u
+length_at xs n = refl
+
+module _ (gates : List Gate) (rows : List GateNode) (counts : List ℕ)
+    (needs_are : needs_in rows ≡ map (needs_of gates) gates) (are : counts ≡ map how_many (needs_in rows)) where
+  pub counts_are : counts ≡ map (λ (g : Gate). length (gates_under gates g)) gates
+  counts_are = are ∙ ap (map how_many) needs_are ∙ map-map how_many (needs_of gates) gates ∙ one_by_one gates gates
+
+  pub as_many_counts : length counts ≡ length gates
+  as_many_counts = ap length counts_are ∙ length-map gates (λ (g : Gate). length (gates_under gates g))
+
+  pub at_most_two : AllByRecursion (λ w. w ≤ 2) counts
+  at_most_two = subst (AllByRecursion (λ w. w ≤ 2)) (sym counts_are) (two_operands gates gates)
+
+  pub each_count : (u : ℕ) → get_or counts u 0 ≡ length (needs_at (needs_in rows) u)
+  each_count u = search (rules, map-map, length_at)

@@ -1,23 +1,50 @@
--- Trees of words, where below bit b stands word b + 1.
-use Rattle.std.proofs.lemmas.Grind.{common_steps}
-use Rattle.std.proofs.Common.{rules}
-use Rattle.std.proofs.Common.{◌≡◌, ◌≢◌, ◌<◌, ◌≤◌, ◌+◌, ◌-◌, ◌*◌, ◌/◌, ◌%◌, ◌^◌, ℕ, zero, suc, List, Bool, true, false}
-use Rattle.std.proofs.Common.{cond, eqb, ltb, length, get_or, refl, sym, subst, ap, ap₂, ◌∙◌, ⊎_elim, arith}
-use mathlib.Core.Bool.{not}
-use Rattle.std.specs.Int.{w64, bit_at}
+-- Gates by the variables that they define, and trees of words, where below bit b stands word b + 1.
+use Rattle.std.proofs.Common.{◌≡◌, ◌<◌, ◌+◌, ◌∷◌, ◌++◌, ◌∙◌, ◌≢◌, ◌≤◌, ◌-◌, ◌*◌, ◌/◌, ◌%◌, ◌^◌, ℕ, List, [], Bool, cond}
+use Rattle.std.proofs.Common.{eqb, length, get_or, take, None, Some, ap, ap₂, arith, suc, refl, rules, zero, true}
+use Rattle.std.proofs.Common.{false, ltb, sym, subst, ⊎_elim, replicate, position, w64, length-take-le, get_or-set_same}
+use Rattle.std.proofs.Common.{get_or-set_other, length-set, ne_eqb, lt-ltb, ltb-true, not}
+use Rattle.std.specs.Option.{option_or}
+use Rattle.std.specs.Int.{bit_at, trailing_zeros}
 use Rattle.std.specs.Int.Bits.{bit_and, bit_or}
+use Rattle.std.proofs.lemmas.Grind.{common_steps}
+use Rattle.std.proofs.lemmas.List.Folds.{position_or_len_push}
+use Rattle.std.proofs.lemmas.List.Sums.{prefix_len-le-length}
+use Rattle.std.proofs.lemmas.List.{take_more, get_or_past, length-replicate}
 use Rattle.std.proofs.Math.ListN.{set as put}
-use Rattle.std.proofs.lemmas.Bool.{ne_eqb, cases_lt, lt-ltb, ltb-true}
+use Rattle.std.proofs.lemmas.Bool.{cases_lt}
 use Rattle.std.proofs.lemmas.Bool.Decides.{eqb_tells}
-use Rattle.std.proofs.lemmas.List.{get_or-set_same, get_or-set_other, get_or_past, length-set, length-replicate}
-use Rattle.std.specs.Prelude.{replicate}
-use Rattle.std.specs.Int.{trailing_zeros}
 use Rattle.std.proofs.lemmas.Nat.Bits.{bit_at-zero, bit_at-trailing_zeros, bit_at_set_same, bit_at_set_other}
 use Rattle.std.proofs.lemmas.Nat.Bits.{bit_at_clear_same, bit_at_clear_other}
+use Rattle.aig_circuit.specs.declared.circuit.Gate.{Gate}
 use Rattle.aig_tables.specs.Parts.Marks.{is_marked}
+use Rattle.aig_tables.proofs.Tables.Maps.{one_place}
+use Rattle.aig_topo.specs.Order.{gate_of}
 use Rattle.aig_topo.specs.Ready.{Tells, IsTree, first_bit}
-use Rattle.aig_topo.proofs.Ordering.Gates.{zeros}
-use Rattle.aig_tables.proofs.Tables.Bits.{one_place}
+
+-- the first place in a list that grows
+position_push : {X : Type 0} (p : X → Bool) (xs : List X) (y : X)
+    → position p (xs ++ y ∷ []) ≡ option_or (position p xs) (cond (p y) (Some (length xs)) None)
+position_push p xs y = grind (arith, common_steps, position_or_len_push, prefix_len-le-length)
+
+pub eqb_comm : (a b : ℕ) → eqb a b ≡ eqb b a
+eqb_comm a b = grind arith
+
+-- the first gates, and one more
+pub gate_of_more : (gates : List Gate) (i v : ℕ) (g : Gate) → i < length gates
+    → gate_of (take (i + 1) gates) v
+    ≡ option_or (gate_of (take i gates) v) (cond (eqb v (get_or gates i g).var) (Some i) None)
+gate_of_more gates i v g below =
+    ap (λ gs. gate_of gs v) (take_more gates i g below)
+    ∙ position_push (λ (h : Gate). eqb h.var v) (take i gates) (get_or gates i g)
+    ∙ ap₂ (λ b n. option_or (gate_of (take i gates) v) (cond b (Some n) None)) (eqb_comm (get_or gates i g).var v)
+    (length-take-le i gates (omega arith))
+
+-- a table at first
+pub zeros : (n i : ℕ) → get_or {A = ℕ} (replicate n 0) i 0 ≡ 0
+zeros (suc n) (suc i) = zeros n i
+zeros n m = refl
+
+-- Trees of words, where below bit b stands word b + 1.
 
 -- a word with a bit set, and one with a bit cleared
 pub bit_set : (word k i : ℕ) → k < 64
@@ -58,7 +85,7 @@ module _ (words : List ℕ) (k : ℕ) (on : Bool) (after : ℕ) (there : k / 64 
     tells_elsewhere b fits other = search (rules, get_or-set_other, marked_put, eqb_tells)
 
     -- the one above tells of it too, where there is none, or where the word has any as before
-    pub all_tell : (k / 64 ≢ 0 → ltb 0 (get_or words (k / 64) 0) ≡ ltb 0 after) → (b : ℕ) → b + 1 < length words
+    all_tell : (k / 64 ≢ 0 → ltb 0 (get_or words (k / 64) 0) ≡ ltb 0 after) → (b : ℕ) → b + 1 < length words
         → Tells more b
     all_tell as_before b fits =
         ⊎_elim (search (rules, marked_put, ne_eqb, get_or-set_same))

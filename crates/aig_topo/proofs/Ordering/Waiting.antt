@@ -1,18 +1,15 @@
 -- Who waits for whom, where gates are looked at, let wait, released and taken, the least ready one each time.
-use Rattle.std.proofs.Common.{rules}
-use Rattle.std.proofs.Common.{◌≡◌, ◌≢◌, ◌<◌, ◌≤◌, ◌+◌, ◌-◌, ℕ, suc, List, [], ◌∷◌, ◌++◌, eqb, Bool, length, get_or}
-use Rattle.std.proofs.Common.{true, false, Option, None, Some, refl, sym, ap, subst, ◌∙◌, ◌⊎◌, inl, inr, ⊎_elim, arith}
-use Rattle.std.proofs.Common.{true≢false, map}
-use mathlib.Core.Bool.{◌||◌, ◌&&◌, not}
-use Rattle.std.specs.List.{AllByRecursion, sum}
+use Rattle.std.proofs.Common.{◌≡◌, ◌≢◌, ◌<◌, ◌≤◌, ◌+◌, ◌-◌, ◌∷◌, ◌++◌, ◌∙◌, ◌⊎◌, ◌||◌, ◌&&◌, rules, ℕ, suc, List, []}
+use Rattle.std.proofs.Common.{eqb, Bool, length, get_or, true, false, Option, None, Some, refl, sym, ap, subst, inl}
+use Rattle.std.proofs.Common.{inr, ⊎_elim, arith, true≢false, map, not, sum, length-append, get_or-set_same}
+use Rattle.std.specs.List.{AllByRecursion}
 use Rattle.std.proofs.Math.ListN.{set as put}
 use Rattle.std.proofs.lemmas.Bool.{cases_lt}
 use Rattle.std.proofs.lemmas.Bool.Decides.{eqb_tells}
-use Rattle.std.proofs.lemmas.List.{length-append, get_or-set_same}
 use Rattle.aig_circuit.specs.declared.circuit.TheConstants.{LARGEST}
 use Rattle.aig_circuit.specs.declared.circuit.Gate.{Gate}
 use Rattle.aig_circuit.specs.Wellformed.{IsAmong}
-use Rattle.aig_circuit.proofs.Checking.InForm.{joined}
+use Rattle.aig_circuit.proofs.Checking.{joined}
 use Rattle.aig_topo.specs.declared.least_ready.taking.Search.{Search}
 use Rattle.aig_topo.specs.declared.lists.GateNeeds.{GateNeeds}
 use Rattle.aig_topo.specs.declared.lists.GateNode.{GateNode}
@@ -23,18 +20,14 @@ use Rattle.aig_topo.specs.Lists.{needs_in, links_in, list_in, first_of, AreLists
 use Rattle.aig_topo.specs.Needs.{linked, needs_at, how_many, AreThere}
 use Rattle.aig_topo.specs.Progress.{Progress, CountsFor}
 use Rattle.aig_topo.specs.Ready.{Tree, has, room}
-use Rattle.aig_topo.specs.Waiting.{rest_by, HasAll, Suffices, AreApart, IsRoomy, IsServed, WaitsFor, RowsWait}
-use Rattle.aig_topo.specs.Waiting.{Stands}
-use Rattle.aig_topo.proofs.Ordering.Asked.{counts_one}
+use Rattle.aig_topo.specs.Waiting.{rest_by, HasAll, Suffices, AreApart, IsRoomy, IsServed, WaitsFor, RowsWait, Stands}
+use Rattle.aig_topo.proofs.Ordering.LeastReady.{counts_one, among_or_not, listed_first, missing_first, none_left}
+use Rattle.aig_topo.proofs.Ordering.LeastReady.{all_in, still_none, at_the_end}
 use Rattle.aig_topo.proofs.Ordering.Counted.{among_first, in_longer}
 use Rattle.aig_topo.proofs.Ordering.Cyclic.{among_last}
-use Rattle.aig_topo.proofs.Ordering.LeastReady.{among_or_not}
-use Rattle.aig_topo.proofs.Ordering.LeftOver.{listed_first, missing_first, none_left, all_in, still_none}
-use Rattle.aig_topo.proofs.Ordering.Needs.{as_long, are_there, as_many_counts, each_count}
-use Rattle.aig_topo.proofs.Ordering.Rows.{as_many_needs}
-use Rattle.aig_topo.proofs.Ordering.Rows.{rest_here, rest_elsewhere, needs_elsewhere, as_many, as_many_links, as_many_then}
-use Rattle.aig_topo.proofs.Ordering.Rows.{first_fits, there_then, rest_there}
-use Rattle.aig_topo.proofs.Ordering.TakenLeast.{at_the_end}
+use Rattle.aig_topo.proofs.Ordering.Ranked.{as_long, are_there, as_many_counts, each_count}
+use Rattle.aig_topo.proofs.Ordering.Rows.{as_many_needs, rest_here, rest_elsewhere, needs_elsewhere, as_many}
+use Rattle.aig_topo.proofs.Ordering.Rows.{as_many_links, as_many_then, first_fits, there_then, rest_there}
 
 -- what holds by a list holds by a longer one
 still_served : (seen u n : ℕ) (list more needs : List ℕ) → HasAll list more → IsServed seen u list needs n

@@ -1,5 +1,6 @@
 //! The gates that may be taken.
-ghost use Rattle.std.specs.Prelude.{◌≡◌, ◌≢◌, ◌==◌, ◌||◌, ◌&&◌, ◌+◌, ◌/◌, ◌<◌, ◌≤◌, ℕ, true, false, not, length};
+ghost use Rattle.std.specs.Prelude.{◌≡◌, ◌≢◌, ◌==◌, ◌||◌, ◌&&◌, ◌+◌, ◌/◌};
+ghost use Rattle.std.specs.Prelude.{◌<◌, ◌≤◌, ℕ, true, false, not, length};
 ghost use Rattle.std.specs.Prelude.{nat_lt, slice_index, if◌then◌else◌, IfOk};
 ghost use Rattle.std.specs.Int.{bit_at};
 ghost use Rattle.std.specs.Option.{IfSome, IfNone};
@@ -10,13 +11,12 @@ use aig_circuit::LARGEST;
 use std::alloc::{AllocError, Global};
 use std::marker::Model;
 
-/// A set of gates, by their positions, that gives the least one first. That one stands apart, so that a gate that comes
-/// where there is none, and goes before another comes, never goes through the tree. The tree, which has the others, is
-/// made of words, where below bit b stands word b + 1. Each bit of the lowest level is a gate, and each bit above is
-/// set if the word below it has any.
+/// A set of gates, by their positions, that gives the least one first. That one stands apart, so
+/// that a gate that comes where there is none, and goes before another comes, never goes through
+/// the tree. The tree, which has the others, is made of words, where below bit b stands word b + 1.
+/// Each bit of the lowest level is a gate, and each bit above is set if the word below it has any.
 #[derive(Drop)]
 pub(super) struct Ready {
-    /// The least gate, if there is any.
     least: Option<u32>,
     words: Vec<u64>,
     /// The bit of the first gate.
@@ -37,11 +37,11 @@ impl Model for Ready {
     ghost invariant = { λ r. IsReady r.least r.words.items r.first r.levels };
 }
 
-/// The word with a bit set or cleared.
 #[inline(always)]
 fn with_bit(word: u64, place: usize, on: bool) -> u64
     requires { place < 64 }
-    ensures bits { (i : ℕ) → i < 64 → (bit_at result i == 1) ≡ (if i == place then on else (bit_at word i == 1)) }
+    ensures bits { (i : ℕ) → i < 64 → (bit_at result i == 1)
+        ≡ (if i == place then on else (bit_at word i == 1)) }
     ensures some { on ≡ true → 0 < result }
     ensures no_more { on ≡ false → result ≤ word }
 {
@@ -72,7 +72,6 @@ fn tell(words: &mut [u64], bit: usize, on: bool)
     tell(words, at - 1, on);
 }
 
-/// The least bit that is set, of the lowest level.
 fn least_bit(words: &[u64], levels: u32) -> usize
     requires tree { IsTree words.now (first_bit levels) levels }
     requires some { 0 < slice_index words.now 0 }
@@ -88,13 +87,13 @@ fn least_bit(words: &[u64], levels: u32) -> usize
     bit
 }
 
-/// Takes the least gate out of the tree.
 fn pop_least(words: &mut [u64], first: usize, levels: u32) -> Option<u32>
     requires { IsTree words.old first levels }
     ensures none { IfNone result ((g : ℕ) → is_in_tree words.old first g ≡ false) }
     ensures same { IfNone result (words.new ≡ words.old) }
     ensures first { IfSome result (λ gate. is_in_tree words.old first gate ≡ true) }
-    ensures least { IfSome result (λ gate. (g : ℕ) → is_in_tree words.old first g ≡ true → gate ≤ g) }
+    ensures least { IfSome result (λ gate. (g : ℕ)
+        → is_in_tree words.old first g ≡ true → gate ≤ g) }
     ensures rest { IfSome result (λ gate. (g : ℕ) → is_in_tree words.new first g
         ≡ (not (g == gate) && is_in_tree words.old first g)) }
     ensures as_many { length words.new ≡ length words.old }
@@ -130,7 +129,6 @@ impl Ready {
         })
     }
 
-    /// Puts a gate there.
     pub(super) fn insert(&mut self, gate: u32)
         requires { gate < room self.old }
         ensures ready { (g : ℕ) → has self.new g ≡ ((g == gate) || has self.old g) }
@@ -147,13 +145,13 @@ impl Ready {
         tell(&mut self.words, self.first + gate.max(least) as usize, true);
     }
 
-    /// Takes the least gate out.
     pub(super) fn pop_first(&mut self) -> Option<u32>
         ensures none { IfNone result ((g : ℕ) → has self.old g ≡ false) }
         ensures same { IfNone result (self.new ≡ self.old) }
         ensures first { IfSome result (λ gate. has self.old gate ≡ true) }
         ensures least { IfSome result (λ gate. (g : ℕ) → has self.old g ≡ true → gate ≤ g) }
-        ensures rest { IfSome result (λ gate. (g : ℕ) → has self.new g ≡ (not (g == gate) && has self.old g)) }
+        ensures rest { IfSome result (λ gate. (g : ℕ)
+            → has self.new g ≡ (not (g == gate) && has self.old g)) }
         ensures room { room self.new ≡ room self.old }
     {
         let least = self.least?;

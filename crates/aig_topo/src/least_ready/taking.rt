@@ -1,6 +1,7 @@
-//! Gates are looked at one after the other, and taken once they are ready: each that is left waits in the list of one
-//! gate that it needs.
-ghost use Rattle.std.specs.Prelude.{◌≡◌, ◌≢◌, ◌==◌, ◌||◌, ◌+◌, ◌<◌, ◌≤◌, ℕ, suc, List, ◌∷◌, None, Some};
+//! Gates are looked at one after the other, and taken once they are ready: each that is left waits
+//! in the list of one gate that it needs.
+ghost use Rattle.std.specs.Prelude.{◌≡◌, ◌≢◌, ◌==◌, ◌||◌, ◌+◌, ◌<◌, ◌≤◌};
+ghost use Rattle.std.specs.Prelude.{ℕ, suc, List, ◌∷◌, None, Some};
 ghost use Rattle.std.specs.Prelude.{[], false, length, map, nat_lt, slice_index};
 ghost use Rattle.std.specs.List.{AllByRecursion, sum};
 ghost use Rattle.std.specs.Option.{IfSome, IfNone};
@@ -19,15 +20,15 @@ use crate::operands::Needs;
 use crate::order::Order;
 use aig_circuit::LARGEST;
 
-/// A gate that is missing, by its position, and what is needed beside it and what is taken: one more than a position,
-/// or 0 for nothing.
+/// A gate that is missing, by its position, and what is needed beside it and what is taken: one
+/// more than a position, or 0 for nothing.
 #[derive(Clone, Copy)]
 struct Missing {
     gate: u32,
     rest: u32,
 }
 
-/// Counts down what a gate waits for, if the gate that it needs is taken. Answers whether that one is missing.
+/// Answers whether the gate that is needed is missing.
 #[inline(always)]
 fn count_if_taken(needed: u32, gate: u32, order: &mut Order) -> bool
     requires there { gate < length order.old.waiting }
@@ -48,7 +49,7 @@ fn count_if_taken(needed: u32, gate: u32, order: &mut Order) -> bool
     false
 }
 
-/// The first of the gates that are asked for that is not taken, and what is needed beside. Those before it are counted.
+/// Those before the missing one are counted.
 #[inline(always)]
 fn missing_gate(asked: Needs, gate: u32, order: &mut Order) -> Option<Missing>
     requires there { gate < length order.old.waiting }
@@ -58,8 +59,10 @@ fn missing_gate(asked: Needs, gate: u32, order: &mut Order) -> Option<Missing>
     ensures none { IfNone result (left_over order.old.list (under asked) ≡ 0) }
     ensures idle { IfNone result (slice_index order.new.waiting gate ≡ 0) }
     ensures missing { IfSome result (λ m. ¬ IsAmong m.gate order.old.list) }
-    ensures enough { IfSome result (λ m. Suffices order.old.list (under asked) (m.gate ∷ linked m.rest)) }
-    ensures counted { IfSome result (λ m. slice_index order.new.waiting gate ≡ suc (length (linked m.rest))) }
+    ensures enough { IfSome result (λ m.
+        Suffices order.old.list (under asked) (m.gate ∷ linked m.rest)) }
+    ensures counted { IfSome result (λ m. slice_index order.new.waiting gate
+        ≡ suc (length (linked m.rest))) }
     ensures there { IfSome result (λ m.
         AllByRecursion (λ h. h < length order.old.waiting) (m.gate ∷ linked m.rest)) }
 {
@@ -78,9 +81,9 @@ fn missing_gate(asked: Needs, gate: u32, order: &mut Order) -> Option<Missing>
     None
 }
 
-/// Puts a gate among those that are ready. No gate needs one at so high a position: that is asked for the sake of the read
-/// alone, by which the row of the first gate that waits for this one is on its way from memory before this one is taken.
-/// A read that decided nothing would be left out by the compiler.
+/// No gate needs one at so high a position: that is asked for the sake of the read alone, by which
+/// the row of the first gate that waits for this one is on its way from memory before this one is
+/// taken. A read that decided nothing would be left out by the compiler.
 #[inline(always)]
 fn make_ready(gate: u32, lists: &Lists, ready: &mut Ready)
     requires few { length lists.now.rows.items ≤ LARGEST }
@@ -109,7 +112,8 @@ fn count_rest(gate: u32, order: &mut Order, lists: &Lists)
     ensures for_gate { CountsFor gate order.old order.new }
     ensures idle { slice_index order.old.waiting gate ≡ 0 → slice_index order.new.waiting gate ≡ 0 }
     ensures counted { 0 < slice_index order.old.waiting gate
-        → slice_index order.new.waiting gate ≡ suc (left_over order.old.list (rest_by lists.now.rows.items gate)) }
+        → slice_index order.new.waiting gate
+        ≡ suc (left_over order.old.list (rest_by lists.now.rows.items gate)) }
 {
     if order.waiting(gate) > 0 {
         count_if_taken(lists.rest(gate), gate, order);
@@ -127,8 +131,8 @@ pub(super) struct Search {
 }
 
 impl Search {
-    /// Lets a gate wait for the first of those that are still to be asked for and that is not taken, and counts those
-    /// before it; if there is none, the gate is ready.
+    /// Lets a gate wait for the first of those that are still to be asked for and that is not
+    /// taken, and counts those before it; if there is none, the gate is ready.
     #[inline(always)]
     fn enter(&mut self, gate: u32, asked: Needs)
         ghost all: { List Needs }
@@ -150,8 +154,7 @@ impl Search {
         }
     }
 
-    /// Counts down each gate that waited for this one, and enters it again. What the next of them needs beside is read
-    /// before one is entered, so that it comes from memory meanwhile.
+    /// What the next one needs beside is read before one is entered, to come from memory meanwhile.
     #[inline(always)]
     fn release_waiting(&mut self, gate: u32)
         ghost all: { List Needs }
@@ -173,7 +176,7 @@ impl Search {
         }
     }
 
-    /// Enters the gate behind those that were looked at, and takes all that are ready then, each time the least one.
+    /// Enters the next gate, and takes all that are ready then, each time the least one.
     fn look_at_next(&mut self)
         ghost all: { List Needs }
         requires left { self.old.seen < length all }
@@ -193,7 +196,8 @@ impl Search {
         }
     }
 
-    /// Counts down what gates that are left need and was taken after it was asked for. Where none is left there is none.
+    /// Counts down what gates that are left need and was taken after it was asked for. Where none
+    /// is left there is none.
     fn count_rests(&mut self)
         ghost all: { List Needs }
         requires seen { self.old.seen ≡ length all }
@@ -201,7 +205,8 @@ impl Search {
         requires stands { Stands all None self.old }
         ensures down { CountsDown self.old.order self.new.order }
         ensures waiting { (u : ℕ) → u < length all
-            → slice_index self.new.order.waiting u ≡ left_over self.old.order.list (needs_at all u) }
+            → slice_index self.new.order.waiting u
+            ≡ left_over self.old.order.list (needs_at all u) }
     {
         if self.order.list().len() == self.lists.len() {
             return;
@@ -211,7 +216,6 @@ impl Search {
         }
     }
 
-    /// Looks at all gates, one after the other, and counts what is then left to count.
     pub(super) fn look_at_all(&mut self)
         ghost all: { List Needs }
         requires none { (g : ℕ) → has self.old.ready g ≡ false }
@@ -220,7 +224,8 @@ impl Search {
         ensures full { IsFull (length all) (needs_at all) self.new.order.list }
         ensures as_many { length self.new.order.waiting ≡ length all }
         ensures waiting { (u : ℕ) → u < length all
-            → slice_index self.new.order.waiting u ≡ left_over self.new.order.list (needs_at all u) }
+            → slice_index self.new.order.waiting u
+            ≡ left_over self.new.order.list (needs_at all u) }
         ensures paid { due self.new.order ≡ length self.new.order.list + sum (map how_many all) }
     {
         while (self.seen as usize) < self.lists.len() {

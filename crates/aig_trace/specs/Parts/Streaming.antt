@@ -3,17 +3,19 @@ use Rattle.std.specs.Prelude.{◌≡◌, ℕ, List, Bool, false, true, None, Som
 use Rattle.aig_circuit.specs.declared.circuit.Circuit.{Circuit}
 use Rattle.aig_io.specs.Devices.{Past}
 use Rattle.aig_io.specs.Output.{Out, Put}
+use Rattle.aig_io.specs.Runs.{Ran}
 use Rattle.aig_lines.specs.Fed.{Feeder}
 use Rattle.aig_step.specs.declared.fault.SimFault.{SimFault}
 use Rattle.aig_step.specs.declared.fault.SimFault.TheVariants.{BadStimulus, WriteFailed}
 use Rattle.aig_step.specs.declared.trace.Columns.{Columns}
-use Rattle.aig_step.specs.Outcome.{NotSimulated, Simulated, Traced, first_bad_line}
+use Rattle.aig_step.specs.Outcome.{IsTraceUpTo, TraceSays}
 
 -- The text for these bytes was put, which are over or not, and which of their lines is the first bad one is known.
 pub record IsTraced {W : Type 0} (c : Circuit) (columns : Columns) (bytes : List ℕ) (over : Bool) (from to : Out W)
     (f : Feeder) : Type 0 where
-  pub traced : Traced c columns bytes over (Put from to)
-  pub bad : first_bad_line c bytes over ≡ (if f.refused then Some f.number else None)
+  pub text : List ℕ
+  pub is_trace : IsTraceUpTo c columns bytes over (if f.refused then Some f.number else None) text
+  pub put : Put from to text
 
 -- how lines end that were taken, where the text for them was not sent, or the line of a number is bad, or neither
 abbrev pub ended_so : (failed good : Bool) → ℕ → Result (Unit {0}) SimFault
@@ -21,14 +23,8 @@ ended_so true good number = Err WriteFailed
 ended_so false true number = Ok tt
 ended_so false false number = Err (BadStimulus number)
 
--- what an answer says
-abbrev pub Simulates : Circuit → Columns → Result (Unit {0}) SimFault → (source source_now sink sink_now : Past)
-    → Type 0
-Simulates c columns (Ok x) source source_now sink sink_now = Simulated c columns source source_now sink sink_now
-Simulates c columns (Err e) source source_now sink sink_now = NotSimulated c columns e source source_now sink sink_now
-
 -- what came of a source, and of the output for it
 pub record Ends {W : Type 0} (c : Circuit) (columns : Columns) (r : Result (Unit {0}) SimFault)
     (source source_now : Past) (from to : Out W) : Type 0 where
-  pub is : Simulates c columns r source source_now from.past to.past
+  pub ran : Ran (TraceSays c columns r) source source_now from.past to.past
   pub same : to.name ≡ from.name

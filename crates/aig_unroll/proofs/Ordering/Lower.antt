@@ -1,7 +1,7 @@
 -- Which variables the literals of a frame are over: none above what stands before the frame's gates, or above the copy
 -- of the gate that a literal is over.
-use Rattle.std.proofs.Common.{◌≡◌, ◌+◌, ◌-◌, ◌*◌, ◌%◌, ◌<◌, ◌≤◌, ℕ, zero, suc, List, [], ◌∷◌, length, map}
-use Rattle.std.proofs.Common.{subst, arith, eqb}
+use Rattle.std.proofs.Common.{◌≡◌, ◌+◌, ◌-◌, ◌*◌, ◌%◌, ◌<◌, ◌≤◌, ◌∷◌, ℕ, zero, suc, List, [], length, map, subst, arith}
+use Rattle.std.proofs.Common.{eqb}
 use Rattle.std.specs.List.{AllByRecursion}
 use Rattle.std.proofs.lemmas.Bool.{cond_both}
 use Rattle.std.proofs.lemmas.Bool.Decides.{Decides-eqb, not_from_Decides}
@@ -9,12 +9,10 @@ use Rattle.aig_circuit.specs.declared.circuit.Circuit.{Circuit}
 use Rattle.aig_circuit.specs.declared.circuit.Reset.{Reset}
 use Rattle.aig_circuit.specs.declared.circuit.Reset.TheVariants as resets
 use Rattle.aig_circuit.specs.Literal.{literal_of, negation_of, variable_of}
-use Rattle.aig_circuit.proofs.Checking.Fitting.{all_weaker}
-use Rattle.aig_unroll.specs.Unrolled.{at, chain_at, chain_behind, first_constraint, first_gate}
-use Rattle.aig_unroll.specs.Unrolled.{first_latches, latches_at, literal_in, next_of, resets_of, standing_for}
-use Rattle.aig_unroll.specs.Unrolled.{uninitialised}
-use Rattle.aig_unroll.proofs.Ordering.Frames.{next_gate}
-use Rattle.aig_unroll.proofs.Ordering.Frames.{by_order, in_row, read_anywhere}
+use Rattle.aig_circuit.proofs.Checking.{all_weaker}
+use Rattle.aig_unroll.specs.Unrolled.{at, chain_at, chain_behind, first_constraint, first_gate, first_latches}
+use Rattle.aig_unroll.specs.Unrolled.{latches_at, literal_in, next_of, resets_of, standing_for, uninitialised}
+use Rattle.aig_unroll.proofs.Ordering.Frames.{next_gate, by_order, in_row, read_anywhere}
 use Rattle.aig_rows.proofs.Grammar.Entries.{all_mapped}
 
 -- a literal is over a variable below n

@@ -1,6 +1,6 @@
 -- How far a dump has come.
-use Rattle.std.specs.Prelude.{◌+◌, ◌==◌, ◌++◌, ℕ, List, [], if◌then◌else◌}
-use Rattle.aig_wave.specs.Frames.{Frame, closing_line, frame, is_stop, is_trace_line, next_state}
+use Rattle.std.specs.Prelude.{◌+◌, ◌==◌, ◌&&◌, ◌++◌, ℕ, List, [], Bool, nat_lt, if◌then◌else◌}
+use Rattle.aig_wave.specs.Frames.{Frame, closing_line, frame, is_stop, is_trace_line, most_frames, next_state}
 use Rattle.aig_wave.specs.Layout.{Layout}
 use Rattle.aig_wave.specs.Wave.{blank, frame_text}
 
@@ -41,9 +41,13 @@ head_at w time = if time == 0 then w.head else []
 abbrev pub piece : Layout → Point → List ℕ → List ℕ
 piece w p line = head_at w p.time ++ frame_text w p.time p.before (frame_at w p line)
 
--- the same of any line: one that is no line of a trace is passed over
+-- a line has a frame: it is one of a trace, and there is a time for it
+abbrev pub is_framed : Layout → Point → List ℕ → Bool
+is_framed w p line = is_trace_line w line && nat_lt p.time most_frames
+
+-- the same of any line: one that has no frame is passed over
 abbrev pub behind_line : Layout → Point → List ℕ → Point
-behind_line w p line = if is_trace_line w line then behind w p line else p
+behind_line w p line = if is_framed w p line then behind w p line else p
 
 abbrev pub line_piece : Layout → Point → List ℕ → List ℕ
-line_piece w p line = if is_trace_line w line then piece w p line else []
+line_piece w p line = if is_framed w p line then piece w p line else []

@@ -7,9 +7,8 @@ use Rattle.aig_lanes.specs.declared.lane_columns.LaneColumns.{LaneColumns}
 use Rattle.aig_lanes.specs.Parts.LaneTexts.{IsTextOf}
 use Rattle.aig_lanes.specs.Parts.Benches.{HasRoomFor}
 use Rattle.aig_batch.specs.Parts.RunsRead.{PutRuns, kept_texts}
-use Rattle.aig_batch.proofs.Side.Fronts.{put_more}
-use Rattle.aig_lanes.proofs.Benches.Rooms.{room_stays}
-use Rattle.aig_batch.proofs.Side.TextGroups.{zipped_texts}
+use Rattle.aig_batch.proofs.Side.Fronts.{put_more, zipped_texts}
+use Rattle.aig_lanes.proofs.Benches.Steps.{room_stays}
 use Rattle.aig_batch.proofs.batched.put_groups.Goals as goal
 
 pub loop-group-preserved : goal.loop-group-preserved

@@ -1,5 +1,4 @@
-use Rattle.std.specs.Prelude.{◌≡◌, take}
-use Rattle.std.specs.List.{All}
+use Rattle.std.proofs.Common.{◌≡◌, take, All}
 use Rattle.aig_lanes.specs.Parts.Benches.{HasRoomFor, IsBench}
 use Rattle.aig_batch.specs.Parts.RunsRead.{PutRuns}
 use Rattle.aig_batch.proofs.batched.put_groups.Given as goal

@@ -1,22 +1,21 @@
 use Rattle.std.proofs.Common.{rules}
-use Rattle.std.proofs.lemmas.Result.{IfErr-weaker, on_ok_weaker}
-use Rattle.aig_io.proofs.Took.{gave_none}
-use Rattle.aig_batch.proofs.Batching.{batched, not_batched}
+use Rattle.aig_io.specs.Runs.{AtEnd}
+use Rattle.aig_io.proofs.Runs.{ran_none}
+use Rattle.aig_batch.proofs.Batching.{not_all_came}
 use Rattle.aig_batch.proofs.batched.simulate_batched.Goals as goal
 
-pub returns-in_err-reader-clause-err : goal.returns-in_err-reader-clause-err
-returns-in_err-reader-clause-err g c = let none = gave_none (g.R.Source.past c.args.source.now) in search rules
+pub returns-in_err-reader : goal.returns-in_err-reader
+returns-in_err-reader g c = search (rules, ran_none)
 
-pub returns-clause-ok : goal.returns-clause-ok
-returns-clause-ok g c =
-    let came = rw (← c.deref.ensures.value) at c.in-Ok.ensures.ok in
-    on_ok_weaker c.trace_collected-traced.result
-    (λ traced. batched c.args.checked.now c.args.columns c.deref.result.now _ _ _ _ came traced)
-    c.trace_collected-traced.ensures.ok
+pub returns-in-Err : goal.returns-in-Err
+returns-in-Err g c = record { ran = not_all_came _ _ _ _ _ _ c.in-Err.ensures.err }
 
-pub returns-clause-err : goal.returns-clause-err
-returns-clause-err g c =
-    let came = rw (← c.deref.ensures.value) at c.in-Ok.ensures.ok in
-    IfErr-weaker c.trace_collected-traced.result _ _
-    (λ e said. not_batched c.args.checked.now c.args.columns c.deref.result.now _ _ _ _ came e said)
-    c.trace_collected-traced.ensures.err
+pub returns : goal.returns
+returns g c = record {
+  ran = record {
+    bytes = c.deref.result.now;
+    ending = AtEnd;
+    says = c.trace_collected-traced.ensures;
+    came = rw (← c.deref.ensures.value) at c.in-Ok.ensures.came;
+  };
+}

@@ -11,6 +11,6 @@ returns g c = λ circuit means none.
     let all = put_behind circuit tracing.circuit tracing bytes bytes [] output output _ means means
     (record { parted = refl }) none (record { text = []; put = put_nothing output; goes = (refl, refl) })
     c.put_text.ensures in
-    let found = sent_so _ _ _ _ all.text c.finish-sent.result.0 c.new.ensures refl refl all.done
+    let found = sent_so circuit tracing.columns bytes _ _ _ _ c.finish-sent.result.0 all c.new.ensures refl refl
     c.finish-sent.ensures.put refl refl in
-    record { text = all.text; is_text = all.is_text; done = search rules }
+    search rules

@@ -1,4 +1,4 @@
-use Rattle.aig_batch.proofs.Side.GoodLines.{step_ends}
+use Rattle.aig_batch.proofs.Side.RunsRead.{step_ends}
 use Rattle.aig_batch.proofs.runs_read.first_end.Goals as goal
 
 pub returns-then-bytes-ne46 : goal.returns-then-bytes-ne46

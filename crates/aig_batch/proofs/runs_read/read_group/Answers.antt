@@ -1,6 +1,4 @@
-use Rattle.std.proofs.Common.{◌≡◌, ◌++◌, ◌∷◌, List, [], ap, arith, length, subst, sym}
-use Rattle.std.specs.List.{All}
-use Rattle.std.proofs.lemmas.List.{length-append}
+use Rattle.std.proofs.Common.{◌≡◌, ◌++◌, ◌∷◌, List, [], ap, arith, length, subst, sym, All, length-append}
 use Rattle.std.proofs.lemmas.List.Elements.{All-push}
 use Rattle.aig_circuit.specs.declared.value.Val.{Val}
 use Rattle.aig_lanes.specs.declared.run.Run.{Run}

@@ -1,14 +1,12 @@
-use Rattle.std.proofs.Common.{◌≡◌, ◌∙◌, ◌+◌, List, Some, ℕ, ap, arith, bytes_eq, codes, drop, length}
-use Rattle.std.proofs.Common.{subst, sym, take}
+use Rattle.std.proofs.Common.{◌≡◌, ◌∙◌, ◌+◌, List, Some, ℕ, ap, arith, bytes_eq, codes, drop, length, subst, sym, take}
 use Rattle.std.specs.List.{All}
 use Rattle.aig_circuit.specs.declared.value.Val.{Val}
 use Rattle.aig_step.specs.Stimulus.{without_return}
 use Rattle.aig_step.specs.Parts.Lines.{vector_in}
 use Rattle.aig_batch.specs.Parts.RunsRead.{HasNoBadLine, Says, entries_of_run}
 use Rattle.aig_lanes.specs.Parts.Vectors.{vectors_in}
-use Rattle.aig_batch.proofs.Side.GoodLines.{good_line, is_step}
-use Rattle.aig_batch.proofs.Side.RunsRead.{one_step, rest_more, run_ends, vectors_are, vectors_more}
-use Rattle.aig_lanes.proofs.Side.Vectors.{vectors_fit}
+use Rattle.aig_batch.proofs.Side.RunsRead.{good_line, is_step, one_step, rest_more, run_ends, vectors_are, vectors_more}
+use Rattle.aig_lanes.proofs.Side.Sheets.{vectors_fit}
 use Rattle.aig_batch.proofs.runs_read.read_run.Goals as goal
 
 pub returns-then-is_stop-clause-says : goal.returns-then-is_stop-clause-says

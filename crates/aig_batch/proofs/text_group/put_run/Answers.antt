@@ -3,7 +3,7 @@ use Rattle.aig_io.specs.Output.{Put}
 use Rattle.aig_io.proofs.Puts.{put_twice}
 use Rattle.aig_lanes.specs.Parts.LaneTexts.{kept_text, shown_text}
 use Rattle.aig_lanes.specs.Parts.Sheets.{text_in}
-use Rattle.aig_batch.proofs.Side.TextGroups.{one_behind}
+use Rattle.aig_batch.proofs.Side.Fronts.{one_behind}
 use Rattle.aig_batch.proofs.text_group.put_run.Goals as goal
 
 pub loop-step-preserved : goal.loop-step-preserved

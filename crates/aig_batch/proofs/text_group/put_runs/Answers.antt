@@ -1,5 +1,4 @@
-use Rattle.std.proofs.Common.{◌≡◌, ◌++◌, ◌∷◌, ◌∙◌, ℕ, List, [], ap, append-nil, arith, codes, get_or, length}
-use Rattle.std.proofs.Common.{subst}
+use Rattle.std.proofs.Common.{◌≡◌, ◌++◌, ◌∷◌, ◌∙◌, ℕ, List, [], ap, append-nil, arith, codes, get_or, length, subst}
 use Rattle.std.proofs.Common.{sym}
 use Rattle.std.proofs.lemmas.List.{get_or_default}
 use Rattle.std.proofs.lemmas.List.Concat.{flat_map-append}
@@ -9,7 +8,7 @@ use Rattle.aig_lanes.specs.declared.run.Run.{Run}
 use Rattle.aig_lanes.specs.Parts.LaneTexts.{kept_text}
 use Rattle.aig_lanes.specs.Parts.Sheets.{text_in}
 use Rattle.aig_batch.specs.Parts.RunsRead.{kept_texts, no_run, text_of_group}
-use Rattle.aig_batch.proofs.Side.TextGroups.{one_behind}
+use Rattle.aig_batch.proofs.Side.Fronts.{one_behind}
 use Rattle.aig_batch.proofs.text_group.put_runs.Goals as goal
 
 pub loop-lane-preserved : goal.loop-lane-preserved

@@ -1,5 +1,5 @@
 use Rattle.std.proofs.Common.{get_or, length}
-use Rattle.aig_lanes.proofs.Benches.Rooms.{fits_shown}
+use Rattle.aig_lanes.proofs.Benches.Steps.{fits_shown}
 use Rattle.aig_batch.proofs.text_group.run_group.Goals as goal
 
 pub put_runs-requires-clause-fits : goal.put_runs-requires-clause-fits

@@ -1,7 +1,6 @@
-use Rattle.std.proofs.Common.{rules}
-use Rattle.std.proofs.Common.{◌≡◌, ◌+◌, ◌*◌, ◌%◌, get_or, arith, ap, sym, subst}
-use Rattle.aig_binary.proofs.Deltas.Going.{AreRead, read_on, read_end, read_without_end, read_too_far}
-use Rattle.aig_binary.proofs.Deltas.Reading.{delta_none, found}
+use Rattle.std.proofs.Common.{◌≡◌, ◌+◌, ◌*◌, ◌%◌, rules, get_or, arith, ap, sym, subst}
+use Rattle.aig_binary.proofs.Deltas.Reading.{AreRead, read_on, read_end, read_without_end, read_too_far, delta_none}
+use Rattle.aig_binary.proofs.Deltas.Reading.{found}
 use Rattle.aig_binary.proofs.delta.get_groups.Goals as goal
 
 pub returns-clause-delta : goal.returns-clause-delta

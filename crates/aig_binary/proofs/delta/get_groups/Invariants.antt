@@ -1,4 +1,4 @@
-use Rattle.aig_binary.proofs.Deltas.Going.{AreRead}
+use Rattle.aig_binary.proofs.Deltas.Reading.{AreRead}
 use Rattle.aig_binary.proofs.delta.get_groups.Given as goal
 
 abbrev pub invariant-loop-at : goal.invariant-loop-at

@@ -1,5 +1,5 @@
 use Rattle.std.proofs.Common.{rules}
-use Rattle.aig_binary.proofs.Deltas.Stored.{all_stored, group_stored, none_stored}
+use Rattle.aig_binary.proofs.Deltas.Shortest.{all_stored, group_stored, none_stored}
 use Rattle.aig_binary.proofs.delta.write_long_delta.Goals as goal
 
 pub loop-left-init : goal.loop-left-init

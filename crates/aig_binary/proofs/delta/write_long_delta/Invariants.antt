@@ -1,4 +1,4 @@
-use Rattle.aig_binary.proofs.Deltas.Stored.{IsGoingOn}
+use Rattle.aig_binary.proofs.Deltas.Shortest.{IsGoingOn}
 use Rattle.aig_binary.proofs.delta.write_long_delta.Given as goal
 
 abbrev pub invariant-loop-left : goal.invariant-loop-left

@@ -1,4 +1,4 @@
-use Rattle.aig_binary.proofs.Deltas.Stored.{short_stored}
+use Rattle.aig_binary.proofs.Deltas.Shortest.{short_stored}
 use Rattle.aig_binary.proofs.delta.write_short_delta.Goals as goal
 
 pub returns-clause-text : goal.returns-clause-text

@@ -1,4 +1,4 @@
-use Rattle.std.proofs.Common.{◌≡◌, ◌+◌, ◌<◌, ◌∙◌, Err, ℕ, [], ◌∷◌, length, length-append, inr, ap, sym, arith}
+use Rattle.std.proofs.Common.{◌≡◌, ◌+◌, ◌<◌, ◌∙◌, ◌∷◌, Err, ℕ, [], length, length-append, inr, ap, sym, arith}
 use Rattle.aig_rows.specs.declared.fault.Place.TheVariants as places
 use Rattle.aig_binary.specs.BinaryReading.{gate_at}
 use Rattle.aig_binary.proofs.OneByOne.{gate_on, gate_refused, gate_taken}

@@ -1,5 +1,5 @@
 use Rattle.aig_binary.proofs.Grammar.Accepted.{reading_is_accepted}
-use Rattle.aig_binary.proofs.Grammar.Faults.{read_without_fault, no_fault}
+use Rattle.aig_binary.proofs.Grammar.Read.{read_without_fault, no_fault}
 use Rattle.aig_binary.proofs.laws.binary_faulty_or_accepted.Goals as goal
 
 pub returns : goal.returns

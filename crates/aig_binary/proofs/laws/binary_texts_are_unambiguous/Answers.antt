@@ -1,5 +1,4 @@
-use Rattle.aig_binary.proofs.Grammar.Faults.{one_circuit}
-use Rattle.aig_binary.proofs.Grammar.Read.{accepted_is_read}
+use Rattle.aig_binary.proofs.Grammar.Read.{one_circuit, accepted_is_read}
 use Rattle.aig_binary.proofs.laws.binary_texts_are_unambiguous.Goals as goal
 
 pub returns : goal.returns

@@ -1,4 +1,4 @@
-use Rattle.std.proofs.Common.{◌≡◌, ℕ, List, ◌++◌, sym, ap, ◌∙◌}
+use Rattle.std.proofs.Common.{◌≡◌, ◌++◌, ◌∙◌, ℕ, List, sym, ap}
 use Rattle.std.proofs.lemmas.List.{append_cancel_right}
 use Rattle.aig_binary.specs.Delta.{delta_at}
 use Rattle.aig_binary.proofs.Deltas.Reading.{delta_read}

@@ -1,4 +1,4 @@
-use Rattle.std.proofs.Common.{ap, ◌∙◌}
+use Rattle.std.proofs.Common.{◌∙◌, ap}
 use Rattle.aig_binary.specs.Delta.{delta_at}
 use Rattle.aig_binary.proofs.Deltas.Reading.{delta_is, delta_read}
 use Rattle.aig_binary.proofs.laws.read_exactly.Goals as goal

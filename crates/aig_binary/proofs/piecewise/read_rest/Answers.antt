@@ -1,5 +1,5 @@
 use Rattle.std.proofs.Common.{Err, Ok}
-use Rattle.aig_binary.proofs.ReadingOn.{rest_read}
+use Rattle.aig_binary.proofs.FileSource.{rest_read}
 use Rattle.aig_binary.proofs.piecewise.read_rest.Goals as goal
 
 pub returns-in-Ok : goal.returns-in-Ok

@@ -1,6 +1,5 @@
-use Rattle.std.proofs.Common.{rules}
-use Rattle.std.proofs.Common.{◌∙◌, sym, arith}
-use Rattle.aig_binary.proofs.Defined.{no_latches, latches_more}
+use Rattle.std.proofs.Common.{◌∙◌, rules, sym, arith}
+use Rattle.aig_binary.proofs.Front.{no_latches, latches_more}
 use Rattle.aig_binary.proofs.reader.latches.Goals as goal
 
 pub loop-next-init : goal.loop-next-init

@@ -1,9 +1,8 @@
-use Rattle.std.proofs.Common.{rules}
-use Rattle.std.proofs.Common.{◌∙◌}
+use Rattle.std.proofs.Common.{◌∙◌, rules}
 use Rattle.std.proofs.lemmas.Result.{err_from_is_err_and}
-use Rattle.aig_rows.specs.Lines.{lines_of}
+use Rattle.aig_lines.specs.Lines.{lines_of}
 use Rattle.aig_binary.proofs.Grammar.Accepted.{read_is_ordered, read_is_well_formed, reading_is_accepted}
-use Rattle.aig_binary.proofs.Grammar.Faults.{line_fault, memory_only, one_circuit}
+use Rattle.aig_binary.proofs.Grammar.Read.{line_fault, memory_only, one_circuit}
 use Rattle.aig_binary.proofs.reader.read_binary.Goals as goal
 
 pub returns-in_err-circuit-clause-only : goal.returns-in_err-circuit-clause-only

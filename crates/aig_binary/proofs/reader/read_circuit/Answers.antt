@@ -1,6 +1,6 @@
 use Rattle.std.proofs.lemmas.Result.{err_from_is_err_and}
-use Rattle.aig_rows.specs.Lines.{lines_of}
-use Rattle.aig_rows.proofs.Loops.Cutting.{pieces}
+use Rattle.aig_lines.specs.Lines.{lines_of}
+use Rattle.aig_lines.proofs.Cutting.{pieces}
 use Rattle.aig_binary.proofs.Front.{front_then, front_wrong}
 use Rattle.aig_binary.proofs.reader.read_circuit.Goals as goal
 

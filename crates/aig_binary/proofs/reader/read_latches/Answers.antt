@@ -1,9 +1,8 @@
-use Rattle.std.proofs.Common.{rules}
-use Rattle.std.proofs.Common.{◌+◌}
+use Rattle.std.proofs.Common.{◌+◌, rules}
 use Rattle.aig_circuit.specs.Literal.{literal_of}
 use Rattle.aig_rows.specs.Rows.{next_form}
 use Rattle.aig_rows.specs.Reading.{rows_at}
-use Rattle.aig_binary.proofs.Stages.{nexts_make_latches, found_count}
+use Rattle.aig_binary.proofs.Front.{nexts_make_latches, found_count}
 use Rattle.aig_binary.proofs.reader.read_latches.Goals as goal
 
 pub latches-requires : goal.latches-requires

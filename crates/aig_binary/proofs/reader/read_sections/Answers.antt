@@ -1,5 +1,4 @@
-use Rattle.std.proofs.Common.{rules}
-use Rattle.std.proofs.Common.{◌∙◌}
+use Rattle.std.proofs.Common.{◌∙◌, rules}
 use Rattle.aig_text.specs.Sections.{in_binary}
 use Rattle.aig_text.proofs.Loops.Sections.{sections_more, sections_wrong, sections_done}
 use Rattle.aig_binary.proofs.reader.read_sections.Goals as goal

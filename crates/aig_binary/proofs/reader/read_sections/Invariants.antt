@@ -1,5 +1,4 @@
-use Rattle.std.proofs.Common.{◌≡◌, ◌≤◌, drop}
-use Rattle.std.specs.List.{sum}
+use Rattle.std.proofs.Common.{◌≡◌, ◌≤◌, drop, sum}
 use Rattle.aig_text.specs.Sections.{sections, in_binary}
 use Rattle.aig_text.specs.Reading.{sections_at}
 use Rattle.aig_binary.proofs.reader.read_sections.Given as goal

@@ -1,7 +1,6 @@
 use Rattle.std.proofs.Common.{rules}
 use Rattle.std.proofs.lemmas.Result.{err_from_is_err_and}
-use Rattle.aig_io.proofs.Took.{gave_none, memory_refused}
-use Rattle.aig_io.proofs.Took.{some_later}
+use Rattle.aig_io.proofs.Took.{gave_none, memory_refused, some_later}
 use Rattle.aig_binary.proofs.source.fetch_first.Goals as goal
 
 pub returns-in_err-window-clause-err : goal.returns-in_err-window-clause-err

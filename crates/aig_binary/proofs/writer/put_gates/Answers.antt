@@ -1,5 +1,5 @@
 use Rattle.std.proofs.Common.{rules}
-use Rattle.aig_binary.proofs.Written.{pieces_put}
+use Rattle.aig_binary.proofs.Files.{pieces_put}
 use Rattle.aig_binary.proofs.writer.put_gates.Goals as goal
 
 pub loop-at-preserved : goal.loop-at-preserved

@@ -1,5 +1,4 @@
-use Rattle.std.proofs.Common.{◌≤◌, ◌-◌, length, take}
-use Rattle.std.specs.List.{flat_map}
+use Rattle.std.proofs.Common.{◌≤◌, ◌-◌, length, take, flat_map}
 use Rattle.aig_io.specs.Output.{Put}
 use Rattle.aig_binary.specs.BinaryText.{gate_text}
 use Rattle.aig_binary.proofs.writer.put_gates.Given as goal

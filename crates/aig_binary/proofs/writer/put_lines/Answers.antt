@@ -1,5 +1,5 @@
 use Rattle.aig_io.proofs.Puts.{put_twice}
-use Rattle.aig_binary.proofs.Written.{lines_text}
+use Rattle.aig_binary.proofs.Files.{lines_text}
 use Rattle.aig_binary.proofs.writer.put_lines.Goals as goal
 
 pub returns : goal.returns

@@ -1,6 +1,6 @@
 use Rattle.aig_io.proofs.Puts.{put_twice}
 use Rattle.aig_binary.specs.BinaryText.{binary_text}
-use Rattle.aig_binary.proofs.Written.{has_deltas}
+use Rattle.aig_binary.proofs.Files.{has_deltas}
 use Rattle.aig_binary.proofs.writer.put_text.Goals as goal
 
 pub put_gates-requires : goal.put_gates-requires

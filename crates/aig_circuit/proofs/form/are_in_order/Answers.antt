@@ -1,4 +1,4 @@
-use Rattle.aig_circuit.proofs.Checking.InForm.{rising_apart}
+use Rattle.aig_circuit.proofs.Checking.{rising_apart}
 use Rattle.aig_circuit.proofs.form.are_in_order.Goals as goal
 
 pub returns-clause-apart : goal.returns-clause-apart

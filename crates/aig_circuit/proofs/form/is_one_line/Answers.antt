@@ -1,4 +1,4 @@
-use Rattle.aig_circuit.proofs.Checking.InForm.{none_among}
+use Rattle.aig_circuit.proofs.Checking.{none_among}
 use Rattle.aig_circuit.proofs.form.is_one_line.Goals as goal
 
 pub returns : goal.returns

@@ -1,7 +1,5 @@
-use Rattle.std.proofs.Common.{◌∙◌, ◌≡◌, ap, codes, false, true, None, Some, rules}
-use Rattle.std.specs.Prelude.{string_bytes}
-use Rattle.std.specs.Str.{bytes_eq}
-use Rattle.aig_command.proofs.Read.{named_file, no_file, stream}
+use Rattle.std.proofs.Common.{◌∙◌, ◌≡◌, ap, codes, false, true, None, Some, rules, string_bytes, bytes_eq}
+use Rattle.aig_command.proofs.Within.{named_file, no_file, stream}
 use Rattle.aig_command.proofs.options.file.Goals as goal
 
 pub returns-in_default : goal.returns-in_default

@@ -1,7 +1,7 @@
 use Rattle.std.proofs.Common.{◌∙◌}
 use Rattle.clap.specs.Words.{found_of, one_of, rows_of}
 use Rattle.clap.proofs.WalkLemmas.{one_text-rows}
-use Rattle.aig_command.proofs.Read.{number_is}
+use Rattle.aig_command.proofs.Within.{number_is}
 use Rattle.aig_command.proofs.options.number.Goals as goal
 
 pub returns : goal.returns

@@ -1,6 +1,5 @@
-use Rattle.std.proofs.Common.{◌≡◌, drop}
+use Rattle.std.proofs.Common.{◌≡◌, drop, string_bytes}
 use Rattle.std.specs.List.{list_any}
-use Rattle.std.specs.Prelude.{string_bytes}
 use Rattle.aig_command.specs.Answer.{is_option}
 use Rattle.aig_command.proofs.reader.any_option.Given as goal
 

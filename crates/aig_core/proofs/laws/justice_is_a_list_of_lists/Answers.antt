@@ -1,4 +1,4 @@
-use Rattle.aig_core.proofs.Checking.Properties.{justice_is_of_lists, lists_are_justice}
+use Rattle.aig_core.proofs.Checking.Sections.{justice_is_of_lists, lists_are_justice}
 use Rattle.aig_core.proofs.laws.justice_is_a_list_of_lists.Goals as goal
 
 pub returns : goal.returns

@@ -1,4 +1,4 @@
-use Rattle.aig_image.proofs.Relabelling.Exchanged.{exchange_keeps_form}
+use Rattle.aig_image.proofs.Relabelling.Permuted.{exchange_keeps_form}
 use Rattle.aig_image.proofs.algebra.exchange_keeps_form.Goals as goal
 
 pub returns : goal.returns

@@ -1,5 +1,4 @@
-use Rattle.std.proofs.Common.{rules}
-use Rattle.std.proofs.Common.{◌≡◌, List, map, sym, subst}
+use Rattle.std.proofs.Common.{◌≡◌, rules, List, map, sym, subst}
 use Rattle.aig_checked.specs.BinaryOrder.{IsInBinaryOrder, IsNumberedInOrder}
 use Rattle.aig_circuit.specs.Wellformed.{IsWellFormed}
 use Rattle.aig_circuit.specs.declared.circuit.Circuit.{Circuit}

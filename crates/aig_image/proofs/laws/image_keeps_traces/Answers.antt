@@ -1,4 +1,4 @@
-use Rattle.aig_image.proofs.Meaning.Images.{image_keeps_traces}
+use Rattle.aig_image.proofs.Meaning.{image_keeps_traces}
 use Rattle.aig_image.proofs.laws.image_keeps_traces.Goals as goal
 
 pub returns : goal.returns

@@ -1,4 +1,4 @@
-use Rattle.aig_image.proofs.Meaning.Images.{image_means_the_same}
+use Rattle.aig_image.proofs.Meaning.{image_means_the_same}
 use Rattle.aig_image.proofs.laws.image_means_the_same.Goals as goal
 
 pub returns : goal.returns

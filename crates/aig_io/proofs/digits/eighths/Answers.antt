@@ -1,4 +1,4 @@
-use Rattle.aig_io.proofs.DigitWords.{eighths_are}
+use Rattle.aig_io.proofs.DigitCounts.{eighths_are}
 use Rattle.aig_io.proofs.digits.eighths.Goals as goal
 
 pub returns : goal.returns

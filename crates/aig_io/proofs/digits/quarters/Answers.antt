@@ -1,4 +1,4 @@
-use Rattle.aig_io.proofs.DigitWords.{quarters_are}
+use Rattle.aig_io.proofs.DigitCounts.{quarters_are}
 use Rattle.aig_io.proofs.digits.quarters.Goals as goal
 
 pub returns : goal.returns

@@ -1,6 +1,5 @@
-use Rattle.std.proofs.Common.{◌≡◌, ◌+◌, ◌-◌, ◌++◌, ◌∙◌, List, [], ℕ, ap, arith, map, take}
+use Rattle.std.proofs.Common.{◌≡◌, ◌+◌, ◌-◌, ◌++◌, ◌∙◌, List, [], ℕ, ap, arith, map, take, length-take-le}
 use borrow.Rule.Slice.PartMut.{put_mid}
-use Rattle.std.proofs.lemmas.List.{length-take-le}
 use Rattle.aig_io.specs.Digits.{last_digits}
 use Rattle.aig_io.proofs.LeadingDigits.{eight_bytes, text_stands}
 use Rattle.aig_io.proofs.digits.write_eight_digits.Goals as goal

@@ -1,5 +1,4 @@
-use Rattle.std.proofs.Common.{◌≡◌, ◌≤◌, ◌+◌, ◌*◌, ◌++◌, length, take, codes, decimal}
-use Rattle.std.specs.List.{flat_map}
+use Rattle.std.proofs.Common.{◌≡◌, ◌≤◌, ◌+◌, ◌*◌, ◌++◌, length, take, codes, decimal, flat_map}
 use Rattle.aig_io.specs.declared.digits.TheConstants.{MOST_DIGITS}
 use Rattle.aig_io.proofs.digits.write_row.Given as goal
 

@@ -1,10 +1,6 @@
-use Rattle.std.proofs.Common.{rules}
-use Rattle.std.proofs.Common.{◌≡◌, ◌+◌, ◌-◌, ◌++◌, arith, take, ◌∙◌, ap}
-use Rattle.std.specs.Fmt.{decimal}
-use Rattle.std.proofs.Math.ListN.{replicate}
+use Rattle.std.proofs.Common.{◌≡◌, ◌+◌, ◌-◌, ◌++◌, ◌∙◌, rules, arith, take, ap, decimal, replicate, length-take-le}
 use borrow.Rule.Slice.PartMut.{put_mid}
 use Rattle.std.proofs.lemmas.Fmt.{decimal_nonempty}
-use Rattle.std.proofs.lemmas.List.{length-take-le}
 use Rattle.aig_io.proofs.LeadingDigits.{text_bytes, text_stands}
 use Rattle.aig_io.proofs.digits.write_short_number.Goals as goal
 

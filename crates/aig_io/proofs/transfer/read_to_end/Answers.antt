@@ -1,4 +1,4 @@
-use Rattle.std.proofs.Common.{rules, ◌∙◌, arith}
+use Rattle.std.proofs.Common.{◌∙◌, rules, arith}
 use Rattle.aig_io.proofs.Took.{gave_more, gave_next, memory_refused}
 use Rattle.aig_io.proofs.transfer.read_to_end.Goals as goal
 

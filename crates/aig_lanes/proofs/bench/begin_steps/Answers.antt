@@ -1,5 +1,4 @@
-use Rattle.std.proofs.Common.{◌+◌, ◌/◌, ap, arith, length, subst, sym}
-use Rattle.std.specs.List.{All}
+use Rattle.std.proofs.Common.{◌+◌, ◌/◌, ap, arith, length, subst, sym, All}
 use Rattle.std.proofs.lemmas.List.{length-map}
 use Rattle.aig_step.specs.Parts.Tables.{IsLiteralBelow}
 use Rattle.aig_lanes.proofs.Benches.Steps.{resets_below, stands_first}

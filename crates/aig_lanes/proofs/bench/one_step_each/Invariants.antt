@@ -1,5 +1,4 @@
-use Rattle.std.specs.Prelude.{◌≡◌, length}
-use Rattle.std.specs.List.{All}
+use Rattle.std.proofs.Common.{◌≡◌, length, All}
 use Rattle.aig_lanes.specs.declared.run.Run.{Run}
 use Rattle.aig_lanes.proofs.bench.one_step_each.Given as goal
 

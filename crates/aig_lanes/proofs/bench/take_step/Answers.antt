@@ -1,5 +1,4 @@
-use Rattle.std.proofs.Common.{◌≡◌, ◌+◌, ◌/◌, ◌∙◌, List, [], ap, arith, get_or, length, map, subst, sym, ℕ}
-use Rattle.std.specs.List.{All}
+use Rattle.std.proofs.Common.{◌≡◌, ◌+◌, ◌/◌, ◌∙◌, List, [], ap, arith, get_or, length, map, subst, sym, ℕ, All}
 use Rattle.std.proofs.lemmas.List.{length-map}
 use Rattle.aig_circuit.specs.declared.circuit.Latch.{Latch}
 use Rattle.aig_meaning.specs.Meaning.{literal_value}

@@ -1,5 +1,4 @@
-use Rattle.std.specs.Prelude.{◌≡◌, List, length}
-use Rattle.std.specs.List.{All}
+use Rattle.std.proofs.Common.{◌≡◌, List, length, All}
 use Rattle.aig_lanes.specs.declared.run.Run.{Run}
 use Rattle.aig_lanes.specs.Parts.InputBits.{HasRoom}
 use Rattle.aig_lanes.proofs.input_bits.new_bits.Given as goal

@@ -1,8 +1,7 @@
 use Rattle.std.proofs.Common.{◌≡◌, ◌+◌, ◌++◌, ◌-◌, ◌*◌, ◌<◌, ◌≤◌, ◌∙◌, ℕ, List, ap, ap₂, arith, get_or, inl, inr}
-use Rattle.std.proofs.Common.{length, map, sym, take}
-use Rattle.std.proofs.Math.Seq.{take-add}
+use Rattle.std.proofs.Common.{length, map, sym, take, take-add, take-take}
 use Rattle.std.proofs.lemmas.Bool.{cases_lt}
-use Rattle.std.proofs.lemmas.List.{get_or-map, length-map, take-take}
+use Rattle.std.proofs.lemmas.List.{get_or-map, length-map}
 use Rattle.aig_circuit.specs.declared.value.Val.TheVariants.{Zero}
 use Rattle.aig_meaning.specs.Meaning.{literal_value}
 use Rattle.aig_lanes.specs.Parts.Sheets.{text_in}

@@ -1,5 +1,4 @@
-use Rattle.std.proofs.Common.{◌≡◌, ◌+◌, ◌-◌, ◌/◌, ◌≤◌, List, length, ap, refl, sym, subst, ◌∙◌, set, arith}
-use Rattle.std.proofs.lemmas.List.{length-set}
+use Rattle.std.proofs.Common.{◌≡◌, ◌+◌, ◌-◌, ◌/◌, ◌≤◌, ◌∙◌, List, length, ap, refl, sym, subst, set, arith, length-set}
 use Rattle.aig_circuit.specs.declared.circuit.Circuit.{Circuit}
 use Rattle.aig_circuit.specs.declared.value.Val.{Val}
 use Rattle.aig_circuit.specs.declared.value.Val.TheVariants.{Zero}
@@ -7,8 +6,7 @@ use Rattle.aig_meaning.specs.Meaning.{IsStepAssignment}
 use Rattle.aig_lanes.specs.Parts.Lanes.{IsLane}
 use Rattle.aig_step.specs.Parts.Machines.{first_gate}
 use Rattle.aig_step.specs.Parts.Tables.{evaluated, placed, read_from}
-use Rattle.aig_step.proofs.Running.Machines.{filled, is_filled, pairs_below}
-use Rattle.aig_step.proofs.Running.Tables.{placed_length}
+use Rattle.aig_step.proofs.Running.Machines.{filled, is_filled, pairs_below, placed_length}
 use Rattle.aig_lanes.proofs.Side.Tables.{lane_length}
 use Rattle.aig_lanes.proofs.lanes.assign_lanes.Goals as goal
 

@@ -1,5 +1,5 @@
 use Rattle.std.proofs.Common.{◌∙◌, ap, replicate}
-use Rattle.aig_lanes.proofs.Side.Groups.{table_of_x}
+use Rattle.aig_lanes.proofs.Side.Sheets.{table_of_x}
 use Rattle.aig_lanes.proofs.tables.fill_table.Goals as goal
 
 pub returns-clause-lanes : goal.returns-clause-lanes

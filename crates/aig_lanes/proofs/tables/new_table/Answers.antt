@@ -1,6 +1,6 @@
 use Rattle.std.proofs.Common.{◌≡◌, ◌-◌, ◌∙◌, ◌++◌, ap, arith, replicate, take, List, [], ℕ}
 use Rattle.std.proofs.Math.Seq.{take-nil}
-use Rattle.aig_lanes.proofs.Side.Groups.{table_of_x}
+use Rattle.aig_lanes.proofs.Side.Sheets.{table_of_x}
 use Rattle.aig_lanes.proofs.tables.new_table.Goals as goal
 
 filled : (n len : ℕ) (plane : List ℕ) (planes : List (List ℕ)) → planes ≡ [] → len ≡ 0

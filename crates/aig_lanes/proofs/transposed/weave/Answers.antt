@@ -1,5 +1,4 @@
-use Rattle.std.proofs.Common.{◌*◌, ◌+◌, ◌∙◌, set}
-use Rattle.std.proofs.lemmas.List.{length-set}
+use Rattle.std.proofs.Common.{◌*◌, ◌+◌, ◌∙◌, set, length-set}
 use Rattle.aig_lanes.proofs.Side.Eights.{woven_more}
 use Rattle.aig_lanes.proofs.transposed.weave.Goals as goal
 

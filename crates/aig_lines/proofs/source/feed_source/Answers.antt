@@ -1,7 +1,7 @@
 use Rattle.std.proofs.Common.{◌∙◌, true, false, ap, arith}
 use Rattle.aig_io.specs.Devices.{failed_once}
 use Rattle.aig_lines.proofs.Feeds.{flipped}
-use Rattle.aig_lines.proofs.Sources.{reached_more, told_end, told_source}
+use Rattle.aig_lines.proofs.Tells.{reached_more, told_end, told_source}
 use Rattle.aig_lines.proofs.source.feed_source.Goals as goal
 
 pub returns-in_default : goal.returns-in_default

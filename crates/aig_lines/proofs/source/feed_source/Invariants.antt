@@ -1,5 +1,5 @@
 use Rattle.std.proofs.Common.{◌≡◌, ◌+◌, ◌^◌, ◌≤◌, false}
-use Rattle.aig_lines.proofs.Sources.{Reached}
+use Rattle.aig_lines.proofs.Tells.{Reached}
 use Rattle.aig_lines.proofs.source.feed_source.Given as goal
 
 abbrev pub invariant-loop-count : goal.invariant-loop-count

@@ -1,5 +1,5 @@
 use Rattle.std.proofs.Common.{◌∙◌}
-use Rattle.aig_lines.proofs.LineBytes.{no_return_off, none_off, return_off}
+use Rattle.aig_lines.proofs.Feeds.{no_return_off, none_off, return_off}
 use Rattle.aig_lines.proofs.text.without_return.Goals.{else-len-gt0-via-then-len-gt0+else-text-len-eq13}
 use Rattle.aig_lines.proofs.text.without_return.Goals.{else-len-gt0-via-else-len-gt0}
 use Rattle.aig_lines.proofs.text.without_return.Goals as goal

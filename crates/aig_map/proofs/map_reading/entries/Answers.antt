@@ -1,6 +1,5 @@
-use Rattle.std.proofs.Common.{rules}
-use Rattle.std.proofs.Common.{inr}
-use Rattle.aig_map.proofs.BlockReading.Entries.{entries_more, entries_wrong, entries_done}
+use Rattle.std.proofs.Common.{rules, inr}
+use Rattle.aig_map.proofs.BlockReading.Lines.{entries_more, entries_wrong, entries_done}
 use Rattle.aig_map.proofs.map_reading.entries.Goals as goal
 
 pub returns-in-None : goal.returns-in-None

@@ -1,6 +1,6 @@
 use Rattle.std.proofs.Common.{◌≡◌, ◌+◌, ◌-◌}
 use Rattle.aig_map.specs.MapReading.{entries_at}
-use Rattle.aig_map.proofs.BlockReading.Entries.{behind_found}
+use Rattle.aig_map.proofs.BlockReading.Lines.{behind_found}
 use Rattle.aig_map.proofs.map_reading.entries.Given as goal
 
 abbrev pub invariant-loop-at : goal.invariant-loop-at

@@ -1,5 +1,5 @@
 use Rattle.std.proofs.Common.{arith}
-use Rattle.aig_map.proofs.BlockText.Added.{block_put}
+use Rattle.aig_map.proofs.BlockText.{block_put}
 use Rattle.aig_map.proofs.map_text.put_block.Goals as goal
 
 pub returns : goal.returns

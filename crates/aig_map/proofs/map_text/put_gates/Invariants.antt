@@ -1,5 +1,4 @@
-use Rattle.std.proofs.Common.{take}
-use Rattle.std.specs.List.{flat_map}
+use Rattle.std.proofs.Common.{take, flat_map}
 use Rattle.aig_io.specs.Output.{Put}
 use Rattle.aig_text.specs.AsciiText.{numbers_text}
 use Rattle.aig_map.specs.MapBlock.{gate_row, mapped_gate}

@@ -1,8 +1,6 @@
-use Rattle.std.proofs.Common.{rules}
-use Rattle.std.proofs.Common.{◌∙◌, ap, refl, arith}
+use Rattle.std.proofs.Common.{◌∙◌, rules, ap, refl, arith}
 use Rattle.aig_circuit.specs.declared.circuit.Circuit.{Circuit}
-use Rattle.aig_map.proofs.BlockText.Added.{block_put}
-use Rattle.aig_map.proofs.BlockText.Added.{as_many_inputs, as_many_latches, same_counts}
+use Rattle.aig_map.proofs.BlockText.{block_put, as_many_inputs, as_many_latches, same_counts}
 use Rattle.aig_map.proofs.map_text.put_new_block.Goals as goal
 
 pub returns : goal.returns

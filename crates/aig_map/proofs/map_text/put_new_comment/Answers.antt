@@ -1,6 +1,4 @@
-use Rattle.std.proofs.Common.{sym, subst}
-use Rattle.std.specs.Prelude.{Option, ℕ, List, ◌++◌, []}
-use Rattle.std.specs.Option.{unwrap_or}
+use Rattle.std.proofs.Common.{◌++◌, sym, subst, Option, ℕ, List, [], unwrap_or}
 use Rattle.aig_io.specs.Output.{Put}
 use Rattle.aig_map.specs.MapBlock.{block_by, block_text}
 use Rattle.aig_io.proofs.Puts.{put_twice}

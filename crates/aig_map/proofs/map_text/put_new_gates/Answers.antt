@@ -3,7 +3,7 @@ use Rattle.aig_topo.proofs.Ordering.Ranked.{at, no_gate}
 use Rattle.aig_io.proofs.Puts.{put_more}
 use Rattle.aig_text.specs.AsciiText.{numbers_text}
 use Rattle.aig_map.specs.MapBlock.{gate_row, mapped_gate}
-use Rattle.aig_map.proofs.BlockText.Added.{as_many_old, recorded_is}
+use Rattle.aig_map.proofs.BlockText.{as_many_old, recorded_is}
 use Rattle.aig_map.proofs.map_text.put_new_gates.Goals as goal
 
 pub loop-at-preserved : goal.loop-at-preserved

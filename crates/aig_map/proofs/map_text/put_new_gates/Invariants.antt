@@ -1,5 +1,4 @@
-use Rattle.std.proofs.Common.{ℕ, List, take}
-use Rattle.std.specs.List.{flat_map}
+use Rattle.std.proofs.Common.{ℕ, List, take, flat_map}
 use Rattle.aig_circuit.specs.declared.circuit.Gate.{Gate}
 use Rattle.aig_io.specs.Output.{Put}
 use Rattle.aig_text.specs.AsciiText.{numbers_text}

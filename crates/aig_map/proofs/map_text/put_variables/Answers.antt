@@ -1,5 +1,4 @@
-use Rattle.std.proofs.Common.{rules}
-use Rattle.std.proofs.Common.{arith}
+use Rattle.std.proofs.Common.{rules, arith}
 use Rattle.aig_io.proofs.Puts.{put_more}
 use Rattle.aig_text.specs.AsciiText.{numbers_text}
 use Rattle.aig_map.specs.MapBlock.{variable_row}

@@ -1,6 +1,6 @@
-use Rattle.std.proofs.Common.{◌≡◌, ◌+◌, ◌≤◌, ◌++◌, ◌∷◌, [], List, ℕ, length, length-append, ap, subst, sym, ◌∙◌}
+use Rattle.std.proofs.Common.{◌≡◌, ◌+◌, ◌≤◌, ◌++◌, ◌∷◌, ◌∙◌, [], List, ℕ, length, length-append, ap, subst, sym}
 use Rattle.aig_map.specs.Parts.Turns.{AreLinks, IsClear}
-use Rattle.aig_map.proofs.Confirming.LeastFirst.{one_more_link, one_more_clear}
+use Rattle.aig_map.proofs.Confirming.{one_more_link, one_more_clear}
 use Rattle.aig_map.proofs.turns.are_taken_in_turn.Goals as goal
 
 pub loop-gate-preserved : goal.loop-gate-preserved

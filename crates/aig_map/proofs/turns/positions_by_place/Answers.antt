@@ -1,6 +1,5 @@
-use Rattle.std.proofs.Common.{rules}
-use Rattle.std.proofs.lemmas.List.{length-set}
-use Rattle.aig_map.proofs.Confirming.PositionsPut.{one_more_put, all_put}
+use Rattle.std.proofs.Common.{rules, length-set}
+use Rattle.aig_map.proofs.Restoring.AtPositions.{one_more_put, all_put}
 use Rattle.aig_map.proofs.turns.positions_by_place.Goals as goal
 
 pub loop-position-preserved : goal.loop-position-preserved

@@ -1,5 +1,5 @@
 use Rattle.std.proofs.Common.{◌≡◌, ◌<◌, ℕ, length, get_or}
-use Rattle.aig_map.proofs.Sources.RecordedAt.{recorded_at}
+use Rattle.aig_map.proofs.Sources.Placed.{recorded_at}
 use Rattle.aig_map.proofs.turns.positions_by_place.Given as goal
 
 abbrev pub invariant-loop-position : goal.invariant-loop-position

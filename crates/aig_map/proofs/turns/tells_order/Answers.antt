@@ -1,12 +1,11 @@
-use Rattle.std.proofs.Common.{rules}
-use Rattle.std.proofs.Common.{◌≡◌, ◌+◌, ◌↔◌, length, IsTrue, arith}
+use Rattle.std.proofs.Common.{◌≡◌, ◌+◌, ◌↔◌, rules, length, IsTrue, arith}
 use Rattle.std.proofs.lemmas.Result.{IfOk-weaker}
 use Rattle.aig_topo.specs.Order.{IsLeastReadyOrder}
 use Rattle.aig_map.specs.Parts.Tables.{block_read}
 use Rattle.aig_map.specs.Parts.Turns.{positions, AreTakenInTurn}
 use Rattle.aig_map.specs.Undone.{undone}
-use Rattle.aig_map.proofs.Confirming.PositionsPut.{positions_many}
-use Rattle.aig_map.proofs.Confirming.TakenInTurn.{tells_order}
+use Rattle.aig_map.proofs.Restoring.AtPositions.{positions_many}
+use Rattle.aig_map.proofs.Confirming.{tells_order}
 use Rattle.aig_map.proofs.turns.tells_order.Goals as goal
 
 pub are_taken_in_turn-requires-clause-few : goal.are_taken_in_turn-requires-clause-few

@@ -1,7 +1,4 @@
-use Rattle.std.proofs.Common.{rules}
-use Rattle.std.proofs.Common.{◌<◌, ◌∙◌, ℕ, List, Bool, Some, None, length, ap₂, subst}
-use Rattle.std.proofs.Common.{sym}
-use Rattle.std.specs.Prelude.{if◌then◌else◌}
+use Rattle.std.proofs.Common.{◌<◌, ◌∙◌, if◌then◌else◌, rules, ℕ, List, Bool, Some, None, length, ap₂, subst, sym}
 use Rattle.std.specs.List.{AllByRecursion}
 use Rattle.std.proofs.lemmas.Result.{err_from_is_err_and}
 use Rattle.aig_circuit.specs.declared.circuit.Circuit.{Circuit}
@@ -12,7 +9,7 @@ use Rattle.aig_image.specs.Reordered.{exchanged_by}
 use Rattle.aig_map.specs.Parts.Had.{without_gates}
 use Rattle.aig_map.specs.Parts.Tables.{block_read}
 use Rattle.aig_map.specs.Undone.{comment_behind}
-use Rattle.aig_map.proofs.Confirming.Exchanges.{exchanges_of_same}
+use Rattle.aig_map.proofs.Sources.Refused.{exchanges_of_same}
 use Rattle.aig_map.proofs.Restoring.AtPositions.{exchanged_as_recorded, flags_fit, positions_fit, put_as_recorded}
 use Rattle.aig_map.proofs.Restoring.Source.{undone_is}
 use Rattle.aig_map.proofs.Sources.Placed.{they_fit}

@@ -1,7 +1,6 @@
-use Rattle.std.proofs.Common.{rules}
-use Rattle.std.proofs.lemmas.List.{length-set}
-use Rattle.aig_image.proofs.Relabelling.Standing.{at_place}
-use Rattle.aig_map.proofs.Confirming.Exchanges.{one_more_put}
+use Rattle.std.proofs.Common.{rules, length-set}
+use Rattle.aig_image.proofs.Numbering.Places.{at_place}
+use Rattle.aig_map.proofs.Sources.Refused.{one_more_put}
 use Rattle.aig_map.proofs.undone.put_at_positions.Goals as goal
 
 pub loop-place-preserved : goal.loop-place-preserved

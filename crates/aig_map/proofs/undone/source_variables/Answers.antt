@@ -1,8 +1,6 @@
-use Rattle.std.proofs.Common.{rules}
-use Rattle.std.proofs.Common.{◌≡◌, ◌∙◌, ◌++◌, ◌+◌, ◌-◌, ◌≤◌, ℕ, List, take, length}
-use Rattle.std.proofs.Common.{map, replicate, ap, ap₂, arith, inr, refl}
+use Rattle.std.proofs.Common.{◌≡◌, ◌∙◌, ◌++◌, ◌+◌, ◌-◌, ◌≤◌, rules, ℕ, List, take, length, map, replicate, ap, ap₂}
+use Rattle.std.proofs.Common.{arith, inr, refl, length-append, take_all}
 use Rattle.std.specs.List.{range_with_len}
-use Rattle.std.proofs.lemmas.List.{length-append, take_all}
 use Rattle.std.proofs.lemmas.List.FromFn.{length-map-range_with_len}
 use Rattle.std.proofs.Math.Seq.{take-append_seam}
 use Rattle.aig_map.specs.Undone.{variable_at_place}

@@ -1,12 +1,10 @@
-use Rattle.std.proofs.Common.{rules}
-use Rattle.std.proofs.Common.{◌≡◌, subst, sym, Some}
+use Rattle.std.proofs.Common.{◌≡◌, rules, subst, sym, Some}
 use Rattle.aig_circuit.specs.declared.circuit.Circuit.{Circuit}
 use Rattle.aig_circuit.specs.Wellformed.{IsWellFormed}
 use Rattle.aig_image.specs.Image.{IsBinaryImage}
 use Rattle.aig_image.specs.Parts.Numbers.{number_of}
 use Rattle.aig_map.specs.MapBlock.{block_by, mapped_comment}
-use Rattle.aig_map.proofs.Mapping.MappedOrder.{comment_is_free}
-use Rattle.aig_map.proofs.Mapping.MappedOrder.{few_before_gates, is_mapped_image, renumbering_stays}
+use Rattle.aig_map.proofs.Mapping.{comment_is_free, few_before_gates, is_mapped_image, renumbering_stays}
 use Rattle.aig_order.proofs.mapped.image_by_order.Goals as goal
 
 pub map_comment-requires-clause-fits : goal.map_comment-requires-clause-fits

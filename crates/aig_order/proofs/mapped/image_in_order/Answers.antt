@@ -1,14 +1,12 @@
-use Rattle.std.proofs.Common.{rules}
-use Rattle.std.proofs.Common.{◌≡◌, ◌∙◌, ℕ, ap, subst, sym}
+use Rattle.std.proofs.Common.{◌≡◌, ◌∙◌, rules, ℕ, ap, subst, sym}
 use Rattle.aig_circuit.specs.declared.circuit.Circuit.{Circuit}
 use Rattle.aig_checked.specs.BinaryOrder.{IsInBinaryOrder}
 use Rattle.aig_circuit.specs.Wellformed.{IsWellFormed}
-use Rattle.aig_circuit.proofs.Checking.Fitting.{definitions_fit}
+use Rattle.aig_circuit.proofs.Checking.{definitions_fit}
 use Rattle.aig_image.specs.Parts.Numbers.{number_of}
 use Rattle.aig_map.specs.MapBlock.{IsMappedImage, block_by, mapped_comment}
-use Rattle.aig_map.proofs.BlockText.Added.{as_many_gates, as_many_inputs, as_many_latches}
-use Rattle.aig_map.proofs.Mapping.Alone.{made, made_is_mapped, made_is_ordered, sorted_with}
-use Rattle.aig_map.proofs.Mapping.MappedOrder.{few_before_gates}
+use Rattle.aig_map.proofs.BlockText.{as_many_gates, as_many_inputs, as_many_latches}
+use Rattle.aig_map.proofs.Mapping.{made, made_is_mapped, made_is_ordered, sorted_with, few_before_gates}
 use Rattle.aig_order.proofs.mapped.image_in_order.Goals as goal
 
 pub new_map_comment-requires-clause-fits : goal.new_map_comment-requires-clause-fits

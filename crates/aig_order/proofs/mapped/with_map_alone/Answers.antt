@@ -1,4 +1,4 @@
-use Rattle.std.proofs.Common.{◌≡◌, ℕ, List, Some, ◌∙◌, map, subst, sym}
+use Rattle.std.proofs.Common.{◌≡◌, ◌∙◌, ℕ, List, Some, map, subst, sym}
 use Rattle.aig_checked.specs.BinaryOrder.{IsInBinaryOrder, IsNumberedInOrder}
 use Rattle.aig_circuit.specs.Wellformed.{IsWellFormed}
 use Rattle.aig_circuit.specs.declared.circuit.Circuit.{Circuit}
@@ -6,9 +6,7 @@ use Rattle.aig_circuit.specs.declared.circuit.Gate.{Gate}
 use Rattle.aig_image.specs.Reordered.{operands_sorted}
 use Rattle.aig_image.proofs.Relabelling.Relabelled.{with_gates}
 use Rattle.aig_map.specs.MapBlock.{IsMappedImage, block_by, mapped_comment}
-use Rattle.aig_map.proofs.Mapping.Alone.{kept, with_map_is_image}
-use Rattle.aig_map.proofs.Mapping.MappedOrder.{mapped_image_is_ordered}
-use Rattle.aig_map.proofs.Mapping.MappedOrder.{few_before_gates}
+use Rattle.aig_map.proofs.Mapping.{kept, with_map_is_image, mapped_image_is_ordered, few_before_gates}
 use Rattle.aig_order.proofs.mapped.with_map_alone.Goals as goal
 
 pub map_comment-requires-clause-fits : goal.map_comment-requires-clause-fits

@@ -1,5 +1,4 @@
-use Rattle.std.proofs.Common.{rules}
-use Rattle.std.proofs.Common.{◌↔◌, subst, ℕ, List, Bool, Option, IsTrue, IfOk}
+use Rattle.std.proofs.Common.{◌↔◌, rules, subst, ℕ, List, Bool, Option, IsTrue, IfOk}
 use Rattle.std.proofs.lemmas.Result.{IfOk-weaker}
 use Rattle.aig_circuit.specs.declared.circuit.Circuit.{Circuit}
 use Rattle.aig_topo.specs.Order.{IsLeastReadyOrder}
@@ -9,8 +8,8 @@ use Rattle.aig_map.specs.Parts.Confirmed.{TellsComment}
 use Rattle.aig_map.specs.Parts.Tables.{block_read, source_read}
 use Rattle.aig_map.specs.Parts.Turns.{positions}
 use Rattle.aig_map.specs.Undone.{comment_behind, undone}
-use Rattle.aig_map.proofs.Confirming.Exchanges.{image_differs}
-use Rattle.aig_map.proofs.Confirming.Judged.{by_comment, by_order}
+use Rattle.aig_map.proofs.Sources.Refused.{image_differs}
+use Rattle.aig_map.proofs.Sources.OneSource.{by_comment, by_order}
 use Rattle.aig_order.proofs.undoing.has_image.Goals as goal
 
 pub returns-then-not-tells_comment : goal.returns-then-not-tells_comment

@@ -1,5 +1,4 @@
-use Rattle.std.proofs.Common.{rules}
-use Rattle.std.proofs.Common.{◌≡◌, ◌<◌, IfOk, List, length, refl, subst, sym}
+use Rattle.std.proofs.Common.{◌≡◌, ◌<◌, rules, IfOk, List, length, refl, subst, sym}
 use Rattle.std.specs.List.{AllByRecursion}
 use Rattle.aig_circuit.specs.declared.circuit.Circuit.{Circuit}
 use Rattle.aig_map.specs.declared.map_block.MapBlock.{MapBlock}

@@ -4,7 +4,7 @@ use Rattle.aig_rows.specs.Scanning.{numbers_at}
 use Rattle.aig_rows.specs.Reading.{checked_row, row_of, unless_wrong, fault_in_row}
 use Rattle.aig_rows.specs.Laws.{HoldsRow}
 use Rattle.aig_rows.proofs.Grammar.NumberLines.{row_reads, row_is_read}
-use Rattle.aig_rows.proofs.Grammar.Judged.{by_scanner}
+use Rattle.aig_rows.proofs.Steps.{by_scanner}
 use Rattle.aig_rows.proofs.laws.rows_are_judged.Goals as goal
 
 pub returns : goal.returns

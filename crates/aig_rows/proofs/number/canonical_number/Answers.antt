@@ -1,6 +1,5 @@
 use Rattle.aig_rows.proofs.Canonical.{short_is_read}
-use Rattle.std.proofs.Common.{sym}
-use Rattle.std.proofs.Common.{◌∙◌}
+use Rattle.std.proofs.Common.{◌∙◌, sym}
 use Rattle.aig_rows.specs.CanonicalNumber.{canonical_before}
 use Rattle.aig_rows.proofs.number.canonical_number.Goals as goal
 

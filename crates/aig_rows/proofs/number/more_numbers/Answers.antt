@@ -1,5 +1,4 @@
-use Rattle.std.proofs.Common.{rules}
-use Rattle.std.proofs.Common.{◌≡◌, ◌-◌, ◌&&◌, eqb, sym, ap, ◌∙◌}
+use Rattle.std.proofs.Common.{◌≡◌, ◌-◌, ◌&&◌, ◌∙◌, rules, eqb, sym, ap}
 use Rattle.aig_rows.specs.Scanning.{is_line_end}
 use Rattle.aig_rows.proofs.Kept.Numbers.{stored_more, stored_all}
 use Rattle.aig_rows.proofs.number.more_numbers.Goals as goal

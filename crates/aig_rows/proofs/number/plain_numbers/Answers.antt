@@ -1,5 +1,5 @@
 use Rattle.std.proofs.Common.{◌∷◌}
-use Rattle.aig_rows.proofs.Kept.Plain.{plain_more, plain_end}
+use Rattle.aig_rows.proofs.Canonical.{plain_more, plain_end}
 use Rattle.aig_rows.proofs.number.plain_numbers.Goals as goal
 
 pub returns-then-behind-eq10-clause-are : goal.returns-then-behind-eq10-clause-are

@@ -1,4 +1,4 @@
-use Rattle.aig_rows.proofs.Kept.Plain.{ArePlain}
+use Rattle.aig_rows.proofs.Canonical.{ArePlain}
 use Rattle.std.proofs.Common.{◌∷◌}
 use Rattle.aig_rows.proofs.number.plain_numbers.Given as goal
 

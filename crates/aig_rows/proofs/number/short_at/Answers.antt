@@ -1,6 +1,6 @@
-use Rattle.std.proofs.Common.{arith, refl, ◌∙◌}
+use Rattle.std.proofs.Common.{◌∙◌, arith, refl}
 use Rattle.core.proofs.dec2flt.Eight.{eight_at, word_at}
-use Rattle.aig_rows.proofs.Kept.Plain.{short_number_is}
+use Rattle.aig_rows.proofs.Canonical.{short_number_is}
 use Rattle.aig_rows.proofs.number.short_at.Goals as goal
 
 pub returns-clause-number : goal.returns-clause-number

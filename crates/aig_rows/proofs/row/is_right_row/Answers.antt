@@ -1,9 +1,6 @@
 use Rattle.aig_rows.specs.Reading.{fault_in_row}
-use Rattle.std.proofs.Common.{None}
-use Rattle.std.proofs.Common.{length}
+use Rattle.std.proofs.Common.{◌≡◌, ◌∷◌, ◌∙◌, ◌≤◌, None, length, arith, sym, subst, add-one}
 use Rattle.std.proofs.lemmas.Grind.{common_steps}
-use Rattle.std.proofs.Common.{arith}
-use Rattle.std.proofs.Common.{◌≡◌, ◌∷◌, ◌∙◌, ◌≤◌, sym, subst, add-one}
 use Rattle.aig_rows.specs.Rows.{Form}
 use Rattle.aig_rows.proofs.Kept.Checks.{next_right, none_left, first_right, right_row}
 use Rattle.aig_rows.proofs.row.is_right_row.Goals as goal

@@ -1,10 +1,8 @@
-use Rattle.aig_rows.proofs.Kept.Plain.{shorter}
-use Rattle.std.proofs.Common.{rules}
-use Rattle.std.proofs.Common.{◌≡◌, ◌∷◌, None, refl, sym, subst, ◌∙◌}
+use Rattle.aig_rows.proofs.Canonical.{shorter, plain_row_is}
+use Rattle.std.proofs.Common.{◌≡◌, ◌∷◌, ◌∙◌, rules, None, refl, sym, subst}
 use Rattle.aig_rows.specs.Rows.{Form}
 use Rattle.aig_rows.specs.Reading.{fault_in_row}
 use Rattle.aig_rows.proofs.Kept.Checks.{are_bounded}
-use Rattle.aig_rows.proofs.Kept.Plain.{plain_row_is}
 use Rattle.aig_rows.proofs.row.plain_row.Goals as goal
 
 pub returns-clause-row : goal.returns-clause-row

@@ -1,5 +1,4 @@
-use Rattle.std.proofs.Common.{rules}
-use Rattle.std.proofs.Common.{◌≡◌, ◌∷◌, ◌∙◌, length, suc, sym, pred, ap}
+use Rattle.std.proofs.Common.{◌≡◌, ◌∷◌, ◌∙◌, rules, length, suc, sym, pred, ap}
 use Rattle.aig_rows.specs.Rows.{Form}
 use Rattle.aig_rows.proofs.Kept.Checks.{no_row, row_wrong, row_right, are_bounded, kept_long}
 use Rattle.aig_rows.proofs.row.row_numbers.Goals as goal

@@ -1,12 +1,12 @@
 use Rattle.std.proofs.Common.{◌≡◌, ◌≢◌, ◌+◌, ◌-◌, ◌*◌, ◌^◌, ◌<◌, ◌≤◌, ◌∙◌, Ok, inr, length, arith, sym, refl}
 use Rattle.std.proofs.lemmas.Bool.{eqb-true, eqb-false}
 use Rattle.std.proofs.lemmas.Result.{err_from_is_err_and}
-use Rattle.aig_rows.specs.Lines.{ahead, lines_of}
+use Rattle.aig_lines.specs.Lines.{ahead, lines_of}
 use Rattle.aig_rows.specs.Outcomes.{row_meant}
 use Rattle.aig_rows.specs.Reading.{row_at}
 use Rattle.aig_rows.proofs.rows.read_first_rows.Goals.{in-Some, in-None+in_ok-row-in-None}
 use Rattle.aig_rows.proofs.rows.read_first_rows.Goals.{then-loop-count-test+else-not-is_empty, else-loop-count-test}
-use Rattle.aig_rows.proofs.Loops.Cutting.{no_lines}
+use Rattle.aig_lines.proofs.Cutting.{no_lines}
 use Rattle.aig_rows.proofs.Loops.Rows.{carried_small}
 use Rattle.aig_rows.proofs.Loops.FirstRows.{have_none, have_more, wrong_first}
 use Rattle.aig_rows.proofs.rows.read_first_rows.Goals as goal

@@ -1,5 +1,5 @@
 use Rattle.std.proofs.Common.{◌+◌, ◌*◌, ◌^◌, ◌<◌, ◌≤◌, length}
-use Rattle.aig_rows.specs.Lines.{ahead, lines_of}
+use Rattle.aig_lines.specs.Lines.{ahead, lines_of}
 use Rattle.aig_rows.specs.Begun.{HaveRead}
 use Rattle.aig_rows.proofs.rows.read_first_rows.Given as goal
 

@@ -1,5 +1,5 @@
 use Rattle.std.proofs.Common.{◌∙◌, ap, inr, sym, Err, ℕ, arith}
-use Rattle.aig_rows.specs.Lines.{Ahead, ahead, lines_of}
+use Rattle.aig_lines.specs.Lines.{Ahead, ahead, lines_of}
 use Rattle.aig_rows.specs.Reading.{fault_at}
 use Rattle.aig_rows.specs.declared.fault.ReadKind.TheVariants as kinds
 use Rattle.aig_rows.proofs.Loops.FirstRows.{have_all, have_few, wrong_alone}

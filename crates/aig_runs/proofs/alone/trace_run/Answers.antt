@@ -1,4 +1,4 @@
-use Rattle.std.proofs.Common.{◌≡◌, ◌+◌, ◌++◌, List, [], ◌∷◌, map, take, ap, sym, subst, ◌∙◌}
+use Rattle.std.proofs.Common.{◌≡◌, ◌+◌, ◌++◌, ◌∷◌, ◌∙◌, List, [], map, take, ap, sym, subst}
 use Rattle.std.proofs.lemmas.List.{take_all, take_more}
 use Rattle.aig_circuit.specs.declared.circuit.Circuit.{Circuit}
 use Rattle.aig_circuit.specs.declared.value.Val.{Val}
@@ -6,7 +6,7 @@ use Rattle.aig_meaning.specs.Meaning.{IsRow, Row}
 use Rattle.aig_meaning.specs.Trace.{IsTrace, reset_state, state_after}
 use Rattle.aig_meaning.proofs.Traces.{reset_state_is_first, trace_goes_on}
 use Rattle.aig_lanes.specs.Runs.{row_of}
-use Rattle.aig_step.proofs.States.{state_after_last}
+use Rattle.aig_step.proofs.Running.Machines.{state_after_last}
 use Rattle.aig_runs.proofs.alone.trace_run.Goals as goal
 
 pub loop-given-init : goal.loop-given-init

@@ -1,10 +1,10 @@
 use Rattle.std.proofs.Common.{◌∙◌, List}
 use Rattle.std.specs.List.{AllZip}
 use Rattle.std.proofs.lemmas.Result.{IfOk-weaker}
-use Rattle.aig_meaning.proofs.Lists.{all_zip_weaker}
+use Rattle.aig_meaning.proofs.Related.{all_zip_weaker}
 use Rattle.aig_lanes.specs.declared.run.Trace.{Trace}
 use Rattle.aig_lanes.specs.Runs.{IsTraceOf}
-use Rattle.aig_lanes.proofs.Side.Groups.{same_trace_of}
+use Rattle.aig_lanes.proofs.Side.Sheets.{same_trace_of}
 use Rattle.aig_step.proofs.LineValues.{same_size}
 use Rattle.aig_runs.proofs.batch.simulate_batch.Goals as goal
 

@@ -1,10 +1,9 @@
-use Rattle.std.proofs.Common.{◌<◌, ◌∙◌, ℕ, List, arith, get_or, length, subst, sym}
-use Rattle.std.specs.List.{All}
+use Rattle.std.proofs.Common.{◌<◌, ◌∙◌, ℕ, List, arith, get_or, length, subst, sym, All}
 use Rattle.std.proofs.lemmas.Result.{IfOk-weaker}
 use Rattle.aig_lanes.specs.declared.run.Run.{Run}
 use Rattle.aig_lanes.specs.Parts.LaneTexts.{KeepsRun}
 use Rattle.aig_lanes.specs.Parts.Benches.{Fits, HasRoomFor}
-use Rattle.aig_lanes.proofs.Benches.Rooms.{fits_shown}
+use Rattle.aig_lanes.proofs.Benches.Steps.{fits_shown}
 use Rattle.aig_runs.proofs.batch.trace_group.Goals as goal
 
 pub step-requires-clause-fits : goal.step-requires-clause-fits

@@ -1,5 +1,4 @@
-use Rattle.std.specs.Prelude.{◌≡◌, take}
-use Rattle.std.specs.List.{flat_map}
+use Rattle.std.proofs.Common.{◌≡◌, take, flat_map}
 use Rattle.aig_step.specs.TraceText.{values_text}
 use Rattle.aig_runs.proofs.stimuli.text_of.Given as goal
 

@@ -1,4 +1,4 @@
-use Rattle.aig_step.proofs.Running.Characters.{stands_for}
+use Rattle.aig_step.proofs.Running.Cells.{stands_for}
 use Rattle.aig_step.proofs.cells.bytes_of_character.Goals as goal
 
 pub returns : goal.returns

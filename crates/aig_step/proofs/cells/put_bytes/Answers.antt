@@ -1,6 +1,4 @@
-use Rattle.std.proofs.Common.{rules}
-use Rattle.std.proofs.Common.{arith}
-use Rattle.std.proofs.lemmas.List.{length-set}
+use Rattle.std.proofs.Common.{rules, arith, length-set}
 use Rattle.aig_step.proofs.Running.Cells.{codes_length, put_in_bytes}
 use Rattle.aig_step.proofs.cells.put_bytes.Goals as goal
 

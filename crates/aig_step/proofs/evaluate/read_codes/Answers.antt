@@ -1,9 +1,8 @@
 use Rattle.std.proofs.lemmas.Grind.{common_steps}
-use Rattle.std.proofs.Common.{◌+◌, ap, ◌∙◌, sym, take, drop, get_or, arith}
+use Rattle.std.proofs.Common.{◌+◌, ◌∙◌, ap, sym, take, drop, get_or, arith}
 use Rattle.std.proofs.lemmas.List.{length-set, take_more, take_more_set}
 use Rattle.aig_step.specs.Stimulus.{values_of}
-use Rattle.aig_step.proofs.EntryTexts.{no_values, values_on}
-use Rattle.aig_step.proofs.LineBytes.{parted}
+use Rattle.aig_step.proofs.LineValues.{no_values, values_on, parted}
 use Rattle.aig_step.proofs.evaluate.read_codes.Goals as goal
 
 pub returns-in_default-clause-bad : goal.returns-in_default-clause-bad

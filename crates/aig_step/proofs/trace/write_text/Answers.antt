@@ -1,8 +1,6 @@
-use Rattle.std.proofs.Common.{rules}
-use Rattle.std.proofs.Common.{append_assoc}
-use Rattle.std.proofs.Common.{length-set}
+use Rattle.std.proofs.Common.{rules, append_assoc, length-set}
 use Rattle.std.proofs.lemmas.List.{length-take-le, take_more_set}
-use Rattle.aig_lines.proofs.LineBytes.{stands}
+use Rattle.aig_lines.proofs.Feeds.{stands}
 use Rattle.aig_step.proofs.trace.write_text.Goals as goal
 
 pub returns-clause-text : goal.returns-clause-text

@@ -1,5 +1,5 @@
 use Rattle.std.proofs.Common.{rules}
-use Rattle.aig_text.proofs.Kept.Headers.{header_found, no_header_found}
+use Rattle.aig_text.proofs.Kept.{header_found, no_header_found}
 use Rattle.aig_text.proofs.header_line.read_header.Goals as goal
 
 pub returns-in-Some-clause-value : goal.returns-in-Some-clause-value

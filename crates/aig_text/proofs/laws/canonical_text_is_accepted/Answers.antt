@@ -1,6 +1,6 @@
 -- The canonical text of a well-formed circuit is its file.
-use Rattle.aig_circuit.proofs.Checking.Fitting.{definitions_fit, well_formed_in_form}
-use Rattle.aig_text.proofs.Canonical.Text.{canonical_text}
+use Rattle.aig_circuit.proofs.Checking.{definitions_fit, well_formed_in_form}
+use Rattle.aig_text.proofs.Canonical.{canonical_text}
 use Rattle.aig_text.proofs.laws.canonical_text_is_accepted.Goals as goal
 
 pub returns : goal.returns

@@ -5,8 +5,8 @@ use Rattle.aig_text.specs.Sections.{least_header_numbers, most_header_numbers}
 use Rattle.aig_rows.specs.Scanning.{more_numbers_at}
 use Rattle.aig_text.specs.Reading.{header_within, header_of}
 use Rattle.aig_text.specs.Laws.{HoldsHeader}
-use Rattle.aig_text.proofs.Grammar.HeaderLines.{header_reads, header_is_read}
-use Rattle.aig_rows.proofs.Grammar.Judged.{by_scanner}
+use Rattle.aig_text.proofs.Grammar.Headers.{header_reads, header_is_read}
+use Rattle.aig_rows.proofs.Steps.{by_scanner}
 use Rattle.aig_text.proofs.laws.headers_are_judged.Goals as goal
 
 pub returns : goal.returns

@@ -1,6 +1,6 @@
 use Rattle.std.proofs.Common.{arith}
 use Rattle.aig_text.specs.Sections.{least_header_numbers, most_header_numbers}
-use Rattle.aig_text.proofs.Grammar.HeaderLines.{header_reads, header_is_read}
+use Rattle.aig_text.proofs.Grammar.Headers.{header_reads, header_is_read}
 use Rattle.aig_text.proofs.laws.headers_read_exactly.Goals as goal
 
 pub returns : goal.returns

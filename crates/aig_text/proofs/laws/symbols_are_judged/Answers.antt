@@ -5,7 +5,7 @@ use Rattle.aig_text.specs.Tail.{IsSymbolLine}
 use Rattle.aig_text.specs.Reading.{checked_symbol, fault_in_symbol}
 use Rattle.aig_rows.specs.Reading.{unless_wrong}
 use Rattle.aig_text.proofs.Grammar.Symbols.{symbol_reads, symbol_is_read}
-use Rattle.aig_rows.proofs.Grammar.Judged.{by_scanner}
+use Rattle.aig_rows.proofs.Steps.{by_scanner}
 use Rattle.aig_text.proofs.laws.symbols_are_judged.Goals as goal
 
 pub returns : goal.returns

@@ -1,7 +1,7 @@
-use Rattle.std.proofs.Common.{rules, ◌∙◌, sym}
+use Rattle.std.proofs.Common.{◌∙◌, rules, sym}
 use Rattle.std.proofs.lemmas.Result.{err_from_is_err_and}
-use Rattle.aig_rows.specs.Lines.{lines_of}
-use Rattle.aig_text.proofs.Loops.Text.{no_header, no_sections, then_tail}
+use Rattle.aig_lines.specs.Lines.{lines_of}
+use Rattle.aig_text.proofs.Loops.Text.{no_header, no_sections, tail_follows}
 use Rattle.aig_text.proofs.reader.read_circuit.Goals as goal
 
 pub returns-in_err-header : goal.returns-in_err-header
@@ -18,4 +18,4 @@ pub returns-in-Ok : goal.returns-in-Ok
 returns-in-Ok c =
     let after = c.finish.new.at in
     let numbered = sym (c.new.ensures.from c.header.new.at) ∙ c.in-Ok.ensures in
-    search (rules, then_tail)
+    search (rules, tail_follows)

@@ -1,6 +1,6 @@
-use Rattle.std.proofs.Common.{inr, ◌∙◌, ap, sym, Err}
+use Rattle.std.proofs.Common.{◌∙◌, inr, ap, sym, Err}
 use Rattle.aig_rows.specs.declared.fault.ReadFault.{ReadFault}
-use Rattle.aig_text.proofs.Loops.Begun.{begin_summed, part_summed, section_short, section_wrong}
+use Rattle.aig_text.proofs.Loops.Sections.{begin_summed, part_summed, section_short, section_wrong}
 use Rattle.aig_text.proofs.section.read_section.Goals as goal
 
 pub returns-in-Err-clause-read : goal.returns-in-Err-clause-read

@@ -1,4 +1,4 @@
-use Rattle.aig_text.proofs.Kept.Symbols.{position_read}
+use Rattle.aig_text.proofs.Kept.{position_read}
 use Rattle.aig_text.proofs.tail_lines.leading_position.Goals as goal
 
 pub returns-in-Some : goal.returns-in-Some

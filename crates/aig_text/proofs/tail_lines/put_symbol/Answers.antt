@@ -1,6 +1,6 @@
 use Rattle.std.proofs.Common.{◌∙◌, ap, arith, sym, Bool}
-use Rattle.aig_rows.specs.Lines.{line, line_bytes}
-use Rattle.aig_text.proofs.Kept.Symbols.{canonical_line}
+use Rattle.aig_lines.specs.Lines.{line, line_bytes}
+use Rattle.aig_text.proofs.Kept.{canonical_line}
 use Rattle.aig_text.proofs.tail_lines.put_symbol.Goals as goal
 
 pub push_line-requires : goal.push_line-requires

@@ -1,7 +1,6 @@
-use Rattle.std.proofs.Common.{rules}
-use Rattle.std.proofs.Common.{◌∙◌}
+use Rattle.std.proofs.Common.{◌∙◌, rules}
 use Rattle.std.proofs.lemmas.Bool.{not-true, not-false}
-use Rattle.aig_text.proofs.Kept.Symbols.{no_symbol, symbol_far, symbol_twice, symbol_right}
+use Rattle.aig_text.proofs.Kept.{no_symbol, symbol_far, symbol_twice, symbol_right}
 use Rattle.aig_text.proofs.tail_lines.read_symbol.Goals as goal
 
 pub returns-in_default-clause-symbol : goal.returns-in_default-clause-symbol

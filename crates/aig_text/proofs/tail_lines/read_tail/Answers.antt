@@ -1,6 +1,5 @@
-use Rattle.std.proofs.Common.{rules}
-use Rattle.std.proofs.lemmas.Bool.{eqb-true}
-use Rattle.aig_text.proofs.Loops.Tail.{empty_tail}
+use Rattle.std.proofs.Common.{rules, eqb-true}
+use Rattle.aig_text.proofs.Loops.Text.{empty_tail}
 use Rattle.aig_text.proofs.tail_lines.read_tail.Goals as goal
 
 pub returns-then-is_empty : goal.returns-then-is_empty

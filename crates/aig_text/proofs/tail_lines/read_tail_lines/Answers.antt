@@ -1,9 +1,8 @@
-use Rattle.std.proofs.Common.{rules}
-use Rattle.std.proofs.Common.{◌∙◌, sym}
+use Rattle.std.proofs.Common.{◌∙◌, rules, sym}
 use Rattle.std.proofs.lemmas.Result.{err_from_is_err_and}
-use Rattle.aig_rows.specs.Lines.{line}
-use Rattle.aig_text.proofs.Loops.Tail.{no_tail, comment_tail, wrong_symbol, one_symbol, done_or_memory, first_bytes}
-use Rattle.aig_text.proofs.Kept.Symbols.{right_is_told}
+use Rattle.aig_lines.specs.Lines.{line}
+use Rattle.aig_text.proofs.Loops.Text.{no_tail, comment_tail, wrong_symbol, one_symbol, done_or_memory, first_bytes}
+use Rattle.aig_text.proofs.Kept.{right_is_told}
 use Rattle.aig_text.proofs.tail_lines.read_tail_lines.Goals as goal
 
 pub returns-then-is_comment_line : goal.returns-then-is_comment_line

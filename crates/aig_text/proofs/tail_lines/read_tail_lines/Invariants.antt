@@ -1,5 +1,5 @@
 use Rattle.std.proofs.Common.{◌≡◌, ◌+◌, ◌^◌, ◌<◌, length}
-use Rattle.aig_rows.specs.Lines.{lines_of}
+use Rattle.aig_lines.specs.Lines.{lines_of}
 use Rattle.aig_text.specs.Reading.{tail_at}
 use Rattle.aig_text.proofs.tail_lines.read_tail_lines.Given as goal
 

@@ -1,5 +1,4 @@
-use Rattle.std.proofs.Common.{take}
-use Rattle.std.specs.List.{flat_map}
+use Rattle.std.proofs.Common.{take, flat_map}
 use Rattle.aig_io.specs.Output.{Put}
 use Rattle.aig_text.specs.AsciiText.{spaced_number}
 use Rattle.aig_text.proofs.writer.put_spaced_numbers.Given as goal

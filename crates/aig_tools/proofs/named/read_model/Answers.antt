@@ -1,10 +1,13 @@
 use Rattle.std.proofs.Common.{ap, rules}
 use Rattle.aig_command.specs.Answer.{name_of}
-use Rattle.aig_engines.specs.Reading.{NotRead}
-use Rattle.aig_tools.proofs.NamedFiles.{of_file}
+use Rattle.aig_tools.proofs.NamedFiles.{of_file, of_stream}
 use Rattle.aig_tools.proofs.named.read_model.Goals as goal
 
-pub returns-in-Some-clause-err : goal.returns-in-Some-clause-err
-returns-in-Some-clause-err g c =
-    of_file (NotRead _) c.read_circuit-found.result _ _ _ _ _ _ _ _ (ap name_of c.in-Some.is)
-    (rw c.as_str.ensures.value at c.new-file.ensures) (search rules) c.read_circuit-found.ensures.err
+pub returns-in-Some-clause-read : goal.returns-in-Some-clause-read
+returns-in-Some-clause-read g c = λ output.
+    of_file _ _ _ _ output _ _ _ _ _ (ap name_of c.in-Some.is) (rw c.as_str.ensures.value at c.new-file.ensures)
+    c.requires.idle (search rules) c.read_circuit-found.ensures.read
+
+pub returns-in-None-clause-read : goal.returns-in-None-clause-read
+returns-in-None-clause-read g c = λ output.
+    of_stream _ _ _ _ output _ (ap name_of c.in-None.is) c.read_circuit.ensures.read

@@ -1,11 +1,32 @@
 use Rattle.std.proofs.Common.{◌∙◌, ap, rules, sym}
+use Rattle.std.proofs.lemmas.Result.{err_from_is_err_and}
 use Rattle.aig_command.specs.Answer.{name_of}
-use Rattle.aig_tools.proofs.NamedFiles.{not_kept}
+use Rattle.aig_files.specs.Named.{closing}
+use Rattle.aig_tools.proofs.NamedFiles.{file_in_part, file_not_kept, file_whole, sent_so}
 use Rattle.aig_tools.proofs.named.write_destination.Goals as goal
 
-pub returns-in_err-closed-in-Some-clause-err : goal.returns-in_err-closed-in-Some-clause-err
-returns-in_err-closed-in-Some-clause-err g c =
-    not_kept _ c.finish-closed.result.0 _ _ _ _ _ _ c.new-file.result c.write-sent.new.sink _
-    (sym c.destination.ensures ∙ ap name_of c.in-Some.is)
-    (rw c.as_str.ensures.value at c.new-file.ensures) c.requires.idle (search rules) (search rules) (search rules)
-    c.requires.some
+pub returns-in-None-clause-sent : goal.returns-in-None-clause-sent
+returns-in-None-clause-sent g c = λ input.
+    sent_so _ _ _ input _ c.write.result _ (sym c.destination.ensures ∙ ap name_of c.in-None.is) c.write.ensures.ok
+    c.write.ensures.err
+
+pub returns-in_err-sent-in-Some-clause-sent : goal.returns-in_err-sent-in-Some-clause-sent
+returns-in_err-sent-in-Some-clause-sent g c = λ input.
+    let h = err_from_is_err_and c.from_residual.result c.from_residual.ensures.1 in
+    rw h.1 (file_in_part _ _ _ input _ _ _ _ c.new-file.result c.write-sent.new.sink (closing c.finish-closed.result.0)
+    (sym c.destination.ensures ∙ ap name_of c.in-Some.is) (rw c.as_str.ensures.value at c.new-file.ensures)
+    c.requires.idle (search rules) (search rules))
+
+pub returns-in_err-closed-in-Some-clause-sent : goal.returns-in_err-closed-in-Some-clause-sent
+returns-in_err-closed-in-Some-clause-sent g c = λ input.
+    let h =
+    err_from_is_err_and c.from_residual-in_err-closed-in-Some.result c.from_residual-in_err-closed-in-Some.ensures.1 in
+    rw h.1 (file_not_kept _ _ _ input _ _ _ _ c.new-file.result c.write-sent.new.sink (closing c.finish-closed.result.0)
+    (sym c.destination.ensures ∙ ap name_of c.in-Some.is) (rw c.as_str.ensures.value at c.new-file.ensures)
+    c.requires.idle (search rules) (search rules) c.requires.some (search rules))
+
+pub returns-in_ok-closed-in-Some-clause-sent : goal.returns-in_ok-closed-in-Some-clause-sent
+returns-in_ok-closed-in-Some-clause-sent g c = λ input.
+    file_whole _ _ _ input _ _ _ _ c.new-file.result c.write-sent.new.sink (closing c.finish-closed.result.0)
+    (sym c.destination.ensures ∙ ap name_of c.in-Some.is) (rw c.as_str.ensures.value at c.new-file.ensures)
+    c.requires.idle (search rules) (search rules) c.requires.some (search rules)

@@ -1,5 +1,4 @@
-use Rattle.std.proofs.Common.{◌≡◌, ◌<◌, ℕ, [], map}
-use Rattle.std.specs.List.{slice_index}
+use Rattle.std.proofs.Common.{◌≡◌, ◌<◌, ℕ, [], map, slice_index}
 use Rattle.aig_topo.specs.Cycle.{pair_of, IsSearch}
 use Rattle.aig_topo.proofs.cycle.first_cyclic_gate.Given as goal
 

@@ -1,6 +1,5 @@
-use Rattle.std.proofs.Common.{rules}
-use Rattle.std.proofs.Common.{◌≡◌, ◌≤◌, ◌<◌, ◌+◌, ◌*◌, ◌∙◌, [], ap, sym, subst, List, ℕ, length, map, get_or, None, arith}
-use Rattle.std.specs.List.{sum}
+use Rattle.std.proofs.Common.{◌≡◌, ◌≤◌, ◌<◌, ◌+◌, ◌*◌, ◌∙◌, rules, [], ap, sym, subst, List, ℕ, length, map, get_or}
+use Rattle.std.proofs.Common.{None, arith, sum}
 use Rattle.aig_circuit.specs.declared.circuit.Circuit.{Circuit}
 use Rattle.aig_topo.specs.declared.lists.Lists.{Lists}
 use Rattle.aig_topo.specs.declared.operands.Needs.{Needs}
@@ -10,10 +9,9 @@ use Rattle.aig_topo.specs.Needs.{needs_of, needs_at, how_many}
 use Rattle.aig_topo.specs.Progress.{Progress, due}
 use Rattle.aig_topo.specs.Waiting.{Stands}
 use Rattle.aig_topo.proofs.Ordering.Counted.{sum_few}
-use Rattle.aig_topo.proofs.Ordering.Needs.{as_long, same_needs, in_turn_too, full_too, counts_are}
-use Rattle.aig_topo.proofs.Ordering.Needs.{as_many_counts, at_most_two}
-use Rattle.aig_topo.proofs.Ordering.Steps.{total, steps_are}
-use Rattle.aig_topo.proofs.Ordering.TakenLeast.{no_longer}
+use Rattle.aig_topo.proofs.Ordering.Ranked.{as_long, same_needs, in_turn_too, full_too, counts_are, as_many_counts}
+use Rattle.aig_topo.proofs.Ordering.Ranked.{at_most_two, total, steps_are}
+use Rattle.aig_topo.proofs.Ordering.LeastReady.{no_longer}
 use Rattle.aig_topo.proofs.Ordering.Waiting.{search_of, stands_at_first}
 use Rattle.aig_topo.proofs.least_ready.order_by_needs.Goals as goal
 

@@ -1,9 +1,6 @@
-use Rattle.std.proofs.Common.{rules}
-use Rattle.std.proofs.Common.{◌∙◌, ap}
-use Rattle.std.specs.Ordering.{nat_cmp}
+use Rattle.std.proofs.Common.{◌∙◌, rules, ap, nat_cmp, take_all}
 use Rattle.std.specs.FinMap.{get, get-empty}
-use Rattle.std.proofs.lemmas.List.{take_all}
-use Rattle.aig_topo.proofs.Ordering.Gates.{gate_of_more}
+use Rattle.aig_topo.proofs.Ordering.Trees.{gate_of_more}
 use Rattle.aig_tables.proofs.Tables.Maps.{get-with_new}
 use Rattle.aig_topo.proofs.operands.gate_index.Goals as goal
 

@@ -1,7 +1,7 @@
 use Rattle.std.proofs.Common.{◌≡◌, ◌∙◌, ◌+◌, ◌&&◌, Bool, get_or, is_some, sym, take, ap, ap₂}
 use Rattle.std.proofs.lemmas.List.{take_more}
 use Rattle.aig_step.specs.Stimulus.{value_of, values_of}
-use Rattle.aig_trace.proofs.Characters.{values_more}
+use Rattle.aig_trace.proofs.RunTexts.{values_more}
 use Rattle.aig_trace.proofs.entry.are_values.Goals as goal
 
 pub loop-character-preserved : goal.loop-character-preserved

@@ -1,9 +1,9 @@
 use Rattle.std.proofs.Common.{◌∙◌, ◌<◌, ◌∷◌, [], ap, codes, get_or, refl, subst}
 use Rattle.aig_lanes.specs.Parts.Vectors.{vectors_in}
-use Rattle.aig_lanes.proofs.Side.Vectors.{vector_at, vector_text}
+use Rattle.aig_lanes.proofs.Side.Sheets.{vector_at, vector_text}
 use Rattle.aig_step.specs.Stimulus.{Entry, Step, Stop}
 use Rattle.aig_trace.specs.Parts.Tracing.{Did, point_of}
-use Rattle.aig_trace.proofs.Going.{goes_one}
+use Rattle.aig_trace.proofs.RunTexts.{goes_one}
 use Rattle.aig_trace.proofs.side_by_side.put_line.Goals as goal
 
 pub returns-in-Some-clause-did : goal.returns-in-Some-clause-did

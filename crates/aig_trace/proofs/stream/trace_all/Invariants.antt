@@ -1,5 +1,5 @@
 use Rattle.std.proofs.Common.{◌≡◌, ◌+◌, ◌^◌, ◌≤◌, [], false, length}
-use Rattle.aig_lines.proofs.Sources.{Reached}
+use Rattle.aig_lines.proofs.Tells.{Reached}
 use Rattle.aig_trace.specs.Parts.Saying.{longest_entry, nothing_said, say_line}
 use Rattle.aig_trace.specs.Parts.Tracing.{HasTraced, task_of}
 use Rattle.aig_trace.proofs.stream.trace_all.Given as goal

@@ -1,5 +1,4 @@
-use Rattle.std.proofs.Common.{rules, ◌≡◌, ◌∙◌, ap, arith, length, take}
-use Rattle.std.proofs.lemmas.List.{drop_at, length-take-le, take_at}
+use Rattle.std.proofs.Common.{◌≡◌, ◌∙◌, rules, ap, arith, length, take, drop_at, length-take-le, take_at}
 use Rattle.aig_trace.proofs.waiting.put_text.Goals as goal
 
 pub returns-clause-before : goal.returns-clause-before

@@ -1,4 +1,4 @@
-use Rattle.aig_trace_laws.proofs.SameTexts.{same_meaning_same_text}
+use Rattle.aig_trace_laws.proofs.Texts.{same_meaning_same_text}
 use Rattle.aig_trace_laws.proofs.laws.same_meaning_same_text.Goals as goal
 
 pub returns : goal.returns

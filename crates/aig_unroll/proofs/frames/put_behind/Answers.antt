@@ -1,6 +1,5 @@
-use Rattle.std.proofs.Common.{length-append, rules}
-use Rattle.std.proofs.lemmas.List.{length-drop, length-take}
-use Rattle.aig_unroll.proofs.Placed.{two_put}
+use Rattle.std.proofs.Common.{length-append, rules, length-drop, length-take}
+use Rattle.aig_unroll.proofs.Ordering.Frames.{two_put}
 use Rattle.aig_unroll.proofs.frames.put_behind.Goals as goal
 
 pub returns : goal.returns

@@ -1,4 +1,4 @@
-use Rattle.aig_unroll.proofs.Ordering.Counts.{one_unrolled}
+use Rattle.aig_unroll.proofs.Ordering.Ordered.{one_unrolled}
 use Rattle.aig_unroll.proofs.laws.one_unrolled_circuit.Goals as goal
 
 pub returns : goal.returns

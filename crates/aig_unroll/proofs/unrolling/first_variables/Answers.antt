@@ -1,5 +1,5 @@
-use Rattle.std.proofs.Common.{◌+◌, ◌++◌, ◌∷◌, [], ◌∙◌, ap, sym}
-use Rattle.aig_checked.proofs.Numbered.Ranges.{range_more}
+use Rattle.std.proofs.Common.{◌+◌, ◌++◌, ◌∷◌, ◌∙◌, [], ap, sym}
+use Rattle.aig_checked.proofs.Numbered.{range_more}
 use Rattle.aig_unroll.proofs.unrolling.first_variables.Goals as goal
 
 pub loop-before-preserved : goal.loop-before-preserved

@@ -6,9 +6,7 @@ use Rattle.aig_circuit.specs.declared.circuit.Circuit.{Circuit}
 use Rattle.aig_circuit.specs.Literal.{literal_of}
 use Rattle.aig_unroll.specs.Unrolled.{at, bad_at, first_bad, frame_size, gates_at, outputs_at}
 use Rattle.aig_unroll.specs.Parts.Frames.{Frame, IsPutAt}
-use Rattle.aig_unroll.proofs.Ordering.Frames.{frame_length}
-use Rattle.aig_unroll.proofs.Ordering.Frames.{row_end}
-use Rattle.aig_unroll.proofs.Placed.{frame_put}
+use Rattle.aig_unroll.proofs.Ordering.Frames.{frame_length, row_end, frame_put}
 use Rattle.aig_unroll.proofs.unrolling.put_frames.Goals as goal
 
 -- how many there are in a frame

@@ -1,7 +1,7 @@
 use Rattle.std.proofs.Common.{subst}
 use Rattle.aig_circuit.specs.declared.circuit.Circuit.{Circuit}
 use Rattle.aig_unroll.specs.Unrolled.{IsTooLarge}
-use Rattle.aig_unroll.proofs.Ordering.Counts.{as_large, image_counts, unrolled_is_ordered}
+use Rattle.aig_unroll.proofs.Ordering.Ordered.{as_large, image_counts, unrolled_is_ordered}
 use Rattle.aig_unroll.proofs.unrolling.unroll.Goals as goal
 
 pub unroll_image-requires-clause-fits : goal.unroll_image-requires-clause-fits

@@ -1,5 +1,4 @@
-use Rattle.std.proofs.Common.{arith, drop, length-append, sym}
-use Rattle.std.proofs.lemmas.List.{length-drop, length-take-le}
+use Rattle.std.proofs.Common.{arith, drop, length-append, sym, length-drop, length-take-le}
 use Rattle.aig_unroll.specs.Unrolled.{gates_at}
 use Rattle.aig_unroll.specs.declared.writing.TheConstants.{PIECE}
 use Rattle.aig_unroll.proofs.Written.{rest_more}

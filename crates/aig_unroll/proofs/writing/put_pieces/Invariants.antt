@@ -1,5 +1,4 @@
-use Rattle.std.proofs.Common.{◌≡◌, ◌≤◌, ◌-◌, length, take}
-use Rattle.std.specs.List.{flat_map}
+use Rattle.std.proofs.Common.{◌≡◌, ◌≤◌, ◌-◌, length, take, flat_map}
 use Rattle.aig_io.specs.Output.{Put}
 use Rattle.aig_unroll.specs.Unrolled.{gates_at}
 use Rattle.aig_unroll.proofs.writing.put_pieces.Given as goal

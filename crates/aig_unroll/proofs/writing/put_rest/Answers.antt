@@ -1,6 +1,5 @@
-use Rattle.std.proofs.Common.{◌≡◌, ◌-◌, ◌++◌, List, drop, rules, subst, take}
-use Rattle.std.specs.List.{flat_map}
-use Rattle.std.proofs.lemmas.List.{length-take-le, take-append-le, take_all}
+use Rattle.std.proofs.Common.{◌≡◌, ◌-◌, ◌++◌, List, drop, rules, subst, take, flat_map, length-take-le, take_all}
+use Rattle.std.proofs.lemmas.List.{take-append-le}
 use Rattle.aig_circuit.specs.declared.circuit.Gate.{Gate}
 use Rattle.aig_io.specs.Output.{Put}
 use Rattle.aig_unroll.specs.Unrolled.{gates_at}

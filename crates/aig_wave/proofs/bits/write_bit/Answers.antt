@@ -1,8 +1,6 @@
-use Rattle.std.proofs.Common.{rules, ◌≡◌, ◌∙◌, ◌+◌, ◌*◌, ◌==◌, ◌≤◌, ◌++◌, ◌∷◌, ℕ, suc, List, []}
-use Rattle.std.proofs.Common.{Bool, true, false, if◌then◌else◌}
-use Rattle.std.proofs.Common.{ap, append_assoc, arith, length, sym, take}
+use Rattle.std.proofs.Common.{◌≡◌, ◌∙◌, ◌+◌, ◌*◌, ◌==◌, ◌≤◌, ◌++◌, ◌∷◌, if◌then◌else◌, rules, ℕ, suc, List, [], Bool}
+use Rattle.std.proofs.Common.{true, false, ap, append_assoc, arith, length, sym, take, length-take-le, take-take}
 use Rattle.std.proofs.Math.Seq.{take-append-add}
-use Rattle.std.proofs.lemmas.List.{length-take-le, take-take}
 use Rattle.aig_wave.proofs.bits.write_bit.Goals as goal
 
 -- the first k bytes of what was written from a place on

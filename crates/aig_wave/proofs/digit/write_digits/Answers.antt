@@ -1,5 +1,4 @@
-use lib.ListN.{drop_of_length-le}
-use Rattle.std.proofs.Common.{arith, ap, false}
+use Rattle.std.proofs.Common.{drop_of_length-le, arith, ap, false}
 use Rattle.std.specs.Fmt.{digits, digits_onto}
 use Rattle.aig_wave.proofs.digit.write_digits.Goals as goal
 

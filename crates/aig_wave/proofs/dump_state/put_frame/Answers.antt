@@ -1,5 +1,4 @@
-use Rattle.std.proofs.Common.{◌∙◌, ap}
-use Rattle.std.specs.List.{flat_map}
+use Rattle.std.proofs.Common.{◌∙◌, ap, flat_map}
 use Rattle.aig_io.proofs.Puts.{put_twice}
 use Rattle.aig_wave.specs.Frames.{frame}
 use Rattle.aig_wave.specs.Wave.{change_text}

@@ -1,5 +1,4 @@
-use Rattle.std.proofs.Common.{◌≢◌, arith, length, refl}
-use Rattle.std.proofs.lemmas.Bool.{ne_eqb}
+use Rattle.std.proofs.Common.{◌≢◌, arith, length, refl, ne_eqb}
 use Rattle.aig_wave.proofs.Grouped.{bits_change, in_line}
 use Rattle.aig_wave.proofs.dump_state.put_group.Goals as goal
 

@@ -1,6 +1,6 @@
 use Rattle.std.proofs.Common.{◌∙◌, ap, sym, drop}
 use Rattle.aig_wave.specs.Names.{index_in}
-use Rattle.aig_wave.proofs.Parting.{index_good, index_large, index_more, index_no_front, indexed_is, not_indexed}
+use Rattle.aig_wave.proofs.Grouped.{index_good, index_large, index_more, index_no_front, indexed_is, not_indexed}
 use Rattle.aig_wave.proofs.name.split_index.Goals as goal
 
 pub returns-in_err-at : goal.returns-in_err-at

@@ -1,6 +1,6 @@
 use Rattle.std.proofs.Common.{◌∙◌, ap, fold, length, sym}
 use Rattle.aig_wave.specs.Signals.{named}
-use Rattle.aig_wave.proofs.Naming.{names_count}
+use Rattle.aig_wave.proofs.Distinct.{names_count}
 use Rattle.aig_wave.proofs.signal.names_of.Goals as goal
 
 pub returns-clause-count : goal.returns-clause-count

@@ -6,14 +6,14 @@ use Rattle.aig_witness.proofs.witness.judge_all.Goals.{then-not-good-via-else-no
 use Rattle.aig_witness.proofs.witness.judge_all.Goals.{then-not-good-via-then-not-good}
 use Rattle.aig_witness.proofs.witness.judge_all.Goals as goal
 
-pub returns-in_default-clause-err : goal.returns-in_default-clause-err
-returns-in_default-clause-err g c =
+pub returns-in_default : goal.returns-in_default
+returns-in_default g c =
     let came = c.in_default.ensures (hearing c.args.checker.now.circuit Nothing) (refl, c.requires.begun) in
     cut_off _ c.requires.few _ _ c.feed_source.new.feeder c.feed_source.new.taker c.in_default.field-0
     (rw c.requires.limit at came)
 
-pub returns-then-not-good-clause-err : goal.returns-then-not-good-clause-err
-returns-then-not-good-clause-err g c =
+pub returns-then-not-good : goal.returns-then-not-good
+returns-then-not-good g c =
     let came = c.in-Ok.ensures (hearing c.args.checker.now.circuit Nothing) (refl, c.requires.begun) in
     let f = c.feed_source.new.feeder in
     let w = c.feed_source.new.taker in
@@ -25,8 +25,8 @@ returns-then-not-good-clause-err g c =
           (b.is_whole.ensures.due b.if-not-is_whole.true)
     ])
 
-pub returns-clause-ok : goal.returns-clause-ok
-returns-clause-ok g c =
+pub returns : goal.returns
+returns g c =
     let came = c.in-Ok.ensures (hearing c.args.checker.now.circuit Nothing) (refl, c.requires.begun) in
     let f = c.feed_source.new.feeder in
     let w = c.feed_source.new.taker in

@@ -1,7 +1,6 @@
 use Rattle.std.proofs.lemmas.Grind.{common_steps}
-use Rattle.std.proofs.Common.{rules}
-use Rattle.std.proofs.Common.{◌≡◌, ◌<◌, ◌+◌, ◌&&◌, ℕ, List, Bool, length, map, get_or, drop, refl}
-use Rattle.std.proofs.Common.{add-one, arith, drop-cons}
+use Rattle.std.proofs.Common.{◌≡◌, ◌<◌, ◌+◌, ◌&&◌, rules, ℕ, List, Bool, length, map, get_or, drop, refl, add-one}
+use Rattle.std.proofs.Common.{arith, drop-cons}
 use Rattle.std.proofs.lemmas.List.{drop_all}
 use Rattle.aig_circuit.specs.declared.circuit.Latch.{Latch}
 use Rattle.aig_circuit.specs.declared.value.Val.{Val}

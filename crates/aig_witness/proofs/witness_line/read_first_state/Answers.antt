@@ -1,5 +1,5 @@
 use Rattle.std.proofs.Common.{None}
-use Rattle.aig_witness.proofs.WitnessValues.{first_by_values}
+use Rattle.aig_witness.proofs.Witnessing.{first_by_values}
 use Rattle.aig_witness.proofs.witness_line.read_first_state.Goals as goal
 
 pub returns-then-not-read_state-clause-bad : goal.returns-then-not-read_state-clause-bad

@@ -1,5 +1,4 @@
-use Rattle.std.proofs.Common.{◌≡◌, []}
-use Rattle.std.proofs.Math.ListN.{replicate}
+use Rattle.std.proofs.Common.{◌≡◌, [], replicate}
 use Rattle.aig_core.proofs.checks.distinct.empty_parts.Given as goal
 
 abbrev pub invariant-loop : goal.invariant-loop

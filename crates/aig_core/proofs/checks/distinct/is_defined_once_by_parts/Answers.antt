@@ -1,8 +1,8 @@
 use Rattle.std.proofs.Common.{◌≡◌, ◌++◌, ◌∙◌, [], arith, sym}
 use Rattle.std.proofs.lemmas.Result.{IfOk-weaker}
 use Rattle.aig_core.specs.Parts.Parted.{AreParts}
-use Rattle.aig_core.proofs.Checking.Parted.{of_circuit, whole}
-use Rattle.aig_circuit.proofs.Checking.Joined.{defined_gates, defined_inputs, defined_latches}
+use Rattle.aig_core.proofs.Checking.Faultless.{of_circuit, whole}
+use Rattle.aig_circuit.proofs.Checking.{defined_gates, defined_inputs, defined_latches}
 use Rattle.aig_core.proofs.checks.distinct.is_defined_once_by_parts.Goals as goal
 
 pub returns : goal.returns

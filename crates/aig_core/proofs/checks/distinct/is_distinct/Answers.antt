@@ -1,4 +1,4 @@
-use Rattle.aig_core.proofs.Checking.Parted.{part_once, part_twice}
+use Rattle.aig_core.proofs.Checking.Faultless.{part_once, part_twice}
 use Rattle.aig_core.proofs.checks.distinct.is_distinct.Goals as goal
 
 pub returns-in-Ok : goal.returns-in-Ok

@@ -1,5 +1,4 @@
-use Rattle.std.proofs.Common.{◌≡◌, ◌++◌, ℕ, List, length, take}
-use Rattle.std.specs.List.{flat_map}
+use Rattle.std.proofs.Common.{◌≡◌, ◌++◌, ℕ, List, length, take, flat_map}
 use Rattle.aig_core.specs.declared.checks.distinct.TheConstants.{PARTS}
 use Rattle.aig_core.specs.Parts.Parted.{AreParts}
 use Rattle.aig_core.proofs.checks.distinct.put_all.Given as goal

@@ -1,5 +1,4 @@
-use Rattle.std.proofs.Common.{◌≡◌, drop}
-use Rattle.std.specs.List.{flat_map}
+use Rattle.std.proofs.Common.{◌≡◌, drop, flat_map}
 use Rattle.aig_core.specs.Fault.{first_repeat, with_all}
 use Rattle.aig_core.proofs.checks.faults.define_all.Given as goal
 

@@ -1,5 +1,4 @@
-use Rattle.std.proofs.Common.{rules}
-use Rattle.std.proofs.Common.{◌∙◌}
+use Rattle.std.proofs.Common.{◌∙◌, rules}
 use Rattle.std.proofs.lemmas.Result.{err_from_is_err_and}
 use Rattle.aig_core.proofs.Checking.Sections.{told_of_gates, gates_repeat, all_seen}
 use Rattle.aig_core.proofs.checks.faults.definitions.Goals as goal

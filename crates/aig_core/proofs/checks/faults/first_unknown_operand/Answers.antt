@@ -1,6 +1,6 @@
 use Rattle.std.proofs.Common.{◌≡◌, ◌<◌, arith, get_or, length, sym}
 use Rattle.std.proofs.lemmas.Grind.{common_steps}
-use Rattle.aig_core.proofs.Checking.Operands.{unknown_from}
+use Rattle.aig_core.proofs.Checking.Sections.{unknown_from}
 use Rattle.aig_core.proofs.checks.faults.first_unknown_operand.Goals as goal
 
 pub loop-at-preserved : goal.loop-at-preserved

@@ -1,6 +1,5 @@
-use Rattle.std.proofs.Common.{◌≡◌, drop}
+use Rattle.std.proofs.Common.{◌≡◌, drop, flat_map}
 use Rattle.std.specs.FinSet as set
-use Rattle.std.specs.List.{flat_map}
 use Rattle.aig_circuit.specs.Wellformed.{defined_variables, operands}
 use Rattle.aig_core.specs.Fault.{first_unknown, with_all}
 use Rattle.aig_core.proofs.checks.faults.first_unknown_operand.Given as goal

@@ -1,7 +1,6 @@
-use Rattle.std.proofs.Common.{rules}
-use Rattle.std.proofs.Common.{◌<◌, length, sym, subst}
+use Rattle.std.proofs.Common.{◌<◌, rules, length, sym, subst}
 use Rattle.std.specs.List.{AllByRecursion}
-use Rattle.aig_image.proofs.Imaging.Members.{order_there}
+use Rattle.aig_image.proofs.Imaging.InTurn.{order_there}
 use Rattle.aig_image.proofs.Imaging.Renewed.{fits}
 use Rattle.aig_image.proofs.image.Renumbering.by_order.Goals as goal
 

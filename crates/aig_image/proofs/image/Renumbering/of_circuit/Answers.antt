@@ -1,5 +1,5 @@
 use Rattle.std.proofs.Common.{rules}
-use Rattle.aig_image.proofs.Imaging.OneByOne.{few, first, in_place}
+use Rattle.aig_image.proofs.Imaging.OwnImage.{few, first, in_place}
 use Rattle.aig_image.proofs.image.Renumbering.of_circuit.Goals as goal
 
 pub of_ordered-requires : goal.of_ordered-requires

@@ -3,8 +3,8 @@ use Rattle.std.proofs.lemmas.Option.{IfSome_then}
 use Rattle.std.proofs.lemmas.Result.{IfOk-weaker}
 use Rattle.aig_image.specs.Parts.InTurn.{AreMadeOf, DefineApart}
 use Rattle.aig_image.specs.Parts.Numbers.{first_variables}
-use Rattle.aig_image.proofs.Imaging.Members.{standing_apart}
-use Rattle.aig_image.proofs.Imaging.OneByOne.{made_as_they_stand}
+use Rattle.aig_image.proofs.Imaging.InTurn.{standing_apart}
+use Rattle.aig_image.proofs.Imaging.OwnImage.{made_as_they_stand}
 use Rattle.aig_image.proofs.in_turn.InTurn.as_they_stand.Goals as goal
 
 pub of_gates-requires : goal.of_gates-requires

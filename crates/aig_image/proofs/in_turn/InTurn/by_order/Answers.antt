@@ -1,12 +1,11 @@
-use Rattle.std.proofs.Common.{rules}
-use Rattle.std.proofs.Common.{◌≡◌, ◌<◌, length, sym, subst}
+use Rattle.std.proofs.Common.{◌≡◌, ◌<◌, rules, length, sym, subst}
 use Rattle.std.specs.List.{AllByRecursion}
 use Rattle.std.proofs.lemmas.Option.{IfSome_then}
 use Rattle.std.proofs.lemmas.Result.{IfOk-weaker}
 use Rattle.aig_image.specs.Parts.InTurn.{AreMadeOf, DefineApart}
 use Rattle.aig_image.specs.Parts.Numbers.{first_variables}
 use Rattle.aig_image.specs.Reordered.{taken}
-use Rattle.aig_image.proofs.Imaging.Members.{order_there, taken_apart}
+use Rattle.aig_image.proofs.Imaging.InTurn.{order_there, taken_apart}
 use Rattle.aig_image.proofs.in_turn.InTurn.by_order.Goals as goal
 
 pub take_gates-requires : goal.take_gates-requires

@@ -1,7 +1,6 @@
-use Rattle.std.proofs.Common.{rules}
-use Rattle.std.proofs.Common.{◌++◌, [], ◌∷◌, ap, ◌∙◌, arith, subst, take, map}
+use Rattle.std.proofs.Common.{◌++◌, ◌∷◌, ◌∙◌, rules, [], ap, arith, subst, take, map}
 use Rattle.aig_image.specs.Parts.Numbers.{AreNumbered}
-use Rattle.aig_image.proofs.Numbering.Noted.{one_more, variables_more}
+use Rattle.aig_image.proofs.Numbering.Kept.{one_more, variables_more}
 use Rattle.aig_image.proofs.numbers.Numbers.note_all.Goals as goal
 
 pub loop-item-preserved : goal.loop-item-preserved

@@ -1,9 +1,8 @@
-use Rattle.std.proofs.Common.{[], ◌∷◌, ◌++◌, subst, take, take_all, ap, arith}
+use Rattle.std.proofs.Common.{◌∷◌, ◌++◌, [], subst, take, take_all, ap, arith}
 use Rattle.aig_circuit.specs.declared.circuit.Gate.{Gate}
 use Rattle.aig_topo.proofs.Ordering.Ranked.{variables}
 use Rattle.aig_image.specs.Parts.Numbers.{AreNumbered}
-use Rattle.aig_image.proofs.Numbering.Noted.{next_over_known}
-use Rattle.aig_image.proofs.Numbering.Noted.{one_more, variables_more}
+use Rattle.aig_image.proofs.Numbering.Kept.{next_over_known, one_more, variables_more}
 use Rattle.aig_image.proofs.numbers.Numbers.note_in_order.Goals as goal
 
 pub loop-gate-preserved : goal.loop-gate-preserved

@@ -1,6 +1,6 @@
 use Rattle.std.proofs.Common.{[], refl}
 use Rattle.aig_circuit.specs.declared.circuit.Latch.{Latch}
-use Rattle.aig_image.proofs.Numbering.Noted.{two_sections, none_noted}
+use Rattle.aig_image.proofs.Numbering.Kept.{two_sections, none_noted}
 use Rattle.aig_image.proofs.numbers.Numbers.of_first.Goals as goal
 
 pub returns-clause-numbers : goal.returns-clause-numbers

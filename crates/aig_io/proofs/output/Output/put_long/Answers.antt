@@ -1,8 +1,6 @@
-use Rattle.std.proofs.Common.{◌∙◌, ap, arith}
-use Rattle.std.proofs.lemmas.List.{length-drop}
+use Rattle.std.proofs.Common.{◌∙◌, ap, arith, length-drop}
 use Rattle.aig_io.specs.Output.{Out}
-use Rattle.aig_io.proofs.Filled.{all_filled}
-use Rattle.aig_io.proofs.Puts.{put_filled, put_nothing, put_rest}
+use Rattle.aig_io.proofs.Puts.{all_filled, put_filled, put_nothing, put_rest}
 use Rattle.aig_io.proofs.output.Output.put_long.Goals as goal
 
 pub returns-clause-put : goal.returns-clause-put

@@ -1,8 +1,6 @@
-use Rattle.std.proofs.Common.{◌<◌, [], ap, arith, length}
-use Rattle.std.proofs.lemmas.List.{length-drop}
+use Rattle.std.proofs.Common.{◌<◌, [], ap, arith, length, length-drop}
 use Rattle.aig_io.specs.Output.{Out}
-use Rattle.aig_io.proofs.Filled.{left_behind}
-use Rattle.aig_io.proofs.Puts.{put_filled, put_nothing, put_rest, put_twice}
+use Rattle.aig_io.proofs.Puts.{left_behind, put_filled, put_nothing, put_rest, put_twice}
 use Rattle.aig_io.proofs.output.Output.put_past.Goals as goal
 
 pub returns-clause-put : goal.returns-clause-put

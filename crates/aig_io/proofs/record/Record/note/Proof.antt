@@ -1,5 +1,5 @@
 -- An empty body. The borrow is opened and closed at another ghost value.
-use Rattle.std.proofs.Common.{ℕ, List, [], ◌∷◌, refl, MutBor}
+use Rattle.std.proofs.Common.{◌∷◌, ◌<◌, ◌^◌, ℕ, List, [], refl, MutBor, Bor, length}
 use seplogic.Ra.Ura.{Ura}
 use mir.Syntax.{named}
 use mir.Val.{Val, vunit, vptr}
@@ -11,7 +11,7 @@ use prog.Wp.{Calls, Loops, WpFn, Tables}
 use types.Logic.{Logic}
 use contract.Monad.{Fun}
 use contract.Running.{tables, tables_of}
-use types.Kit.{‵, ◌⊛◌, ◌$◌, ◌∵◌, !, qed, by, move, keep, drop, use1, split, join, fsplit, fsplit3, fjoin, fjoin3, feq_i}
+use types.Kit.{◌⊛◌, ◌$◌, ◌∵◌, ‵, !, qed, by, move, keep, drop, use1, split, join, fsplit, fsplit3, fjoin, fjoin3, feq_i}
 use types.Kit.{suffices, frame, done}
 use types.Run.{unit_lit, of_opd, returns, enter}
 use types.SemTy.{Body}
@@ -26,6 +26,7 @@ use denote.Triple.Entry.{on_entry}
 use denote.Triple.Spec.{Meets, triple_of}
 use denote.Triple.Table.{entered}
 use denote.Triple.Walked.{says, Stays, stay_ref, walk_of, AllGo, Goes-ref, Walks, ends_at, walked, walk_Meets}
+use denote.Triple.Walked.{stay_none_slice, Goes-none_slice}
 use Rattle.aig_io.specs.declared.record.Record.{Record}
 use Rattle.aig_io.specs.Notes.{note_of}
 use Rattle.aig_io.specs.contracts.record.Record as T
@@ -33,12 +34,9 @@ use Rattle.aig_io.specs.contracts.record.Record.note.Key.{name as #it}
 use Rattle.aig_io.specs.contracts.record.Record.note as it
 use Rattle.aig_io.proofs.record.Record.note.Statement as stated
 use Rattle.aig_io.proofs.record.Record.note.Code as code
-use denote.Ref.{Bor}
 use denote.Builtin.{u8, u64}
 use denote.Exit.{yes}
 use denote.Slice.{ShrSlice, slice_val, shr_slice_vals, shr_slice_Tells}
-use denote.Triple.Walked.{stay_none_slice, Goes-none_slice}
-use Rattle.std.proofs.Common.{◌<◌, ◌^◌, length}
 
 abbrev Arg : Type 0
 Arg = MutBor Record × (Bor (List ℕ) × (Bor (List ℕ) × Unit {0}))

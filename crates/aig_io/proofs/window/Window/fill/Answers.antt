@@ -1,7 +1,6 @@
 use Rattle.std.proofs.Common.{◌+◌, ◌∙◌, ℕ, ap, take, rules, arith, List}
 use Rattle.std.proofs.lemmas.List.{with_items_is}
-use Rattle.aig_io.proofs.Took.{gave_none, memory_refused}
-use Rattle.aig_io.proofs.Windows.{fetched_behind, gave_fetched}
+use Rattle.aig_io.proofs.Took.{gave_none, memory_refused, fetched_behind, gave_fetched}
 use Rattle.aig_io.proofs.window.Window.fill.Goals as goal
 
 pub returns-in_err-make_room-clause-err : goal.returns-in_err-make_room-clause-err

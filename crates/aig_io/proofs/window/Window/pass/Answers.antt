@@ -1,6 +1,6 @@
 use Rattle.std.proofs.Common.{◌-◌, ◌∙◌, List, ℕ, ap, arith, take}
 use Rattle.std.proofs.lemmas.List.{with_items_is}
-use Rattle.aig_io.proofs.Windows.{front_moved}
+use Rattle.aig_io.proofs.Took.{front_moved}
 use Rattle.aig_io.proofs.window.Window.pass.Goals as goal
 
 pub returns : goal.returns

@@ -1,10 +1,9 @@
-use Rattle.std.proofs.Common.{◌≡◌, ◌∷◌, List, [], IfOk, Ok, Err, Result, length, arith}
-use Rattle.std.specs.List.{All}
+use Rattle.std.proofs.Common.{◌≡◌, ◌∷◌, List, [], IfOk, Ok, Err, Result, length, arith, All}
 use Rattle.aig_circuit.specs.declared.circuit.Circuit.{Circuit}
 use Rattle.aig_lanes.specs.declared.run.Run.{Run}
 use Rattle.aig_lanes.specs.declared.bench.Bench.{Bench}
 use Rattle.aig_lanes.specs.Parts.Benches.{Fits, HasRoomFor, HasRoomForSteps, IsBench}
-use Rattle.aig_lanes.proofs.Benches.Rooms.{room_for_steps}
+use Rattle.aig_lanes.proofs.Benches.Steps.{room_for_steps}
 use Rattle.aig_lanes.proofs.bench.Bench.for_steps.Goals as goal
 
 made_room : {E : Type 0} (c : Circuit) (r : Result Bench E) (runs : List Run) → length runs ≡ 256

@@ -2,7 +2,7 @@ use Rattle.std.proofs.Common.{◌∙◌, ◌<◌, arith, get_or, length, subst, 
 use Rattle.std.proofs.lemmas.List.{with_items_is}
 use Rattle.aig_lanes.specs.Parts.InputBits.{HoldsBlocks}
 use Rattle.aig_lanes.specs.Parts.LaneTexts.{shown_size}
-use Rattle.aig_lanes.proofs.Benches.Rooms.{fits_shown}
+use Rattle.aig_lanes.proofs.Benches.Steps.{fits_shown}
 use Rattle.aig_lanes.proofs.bench.Bench.step.Goals as goal
 
 pub step_lanes-requires-clause-fits : goal.step_lanes-requires-clause-fits

@@ -1,4 +1,4 @@
-use Rattle.std.proofs.Common.{arith, ◌∙◌}
+use Rattle.std.proofs.Common.{◌∙◌, arith}
 use Rattle.aig_lanes.proofs.Side.Sheets.{rows_with, text_long}
 use Rattle.aig_lanes.proofs.byte_rows.ByteRows.new.Goals as goal
 

@@ -1,5 +1,4 @@
-use Rattle.std.proofs.Common.{rules}
-use Rattle.std.proofs.Common.{◌-◌, arith, sym}
+use Rattle.std.proofs.Common.{◌-◌, rules, arith, sym}
 use Rattle.std.proofs.lemmas.List.{length-take-le, with_items_is}
 use Rattle.aig_lanes.proofs.Side.Eights.{overwritten_part, overwritten_past, overwritten_size, text_size}
 use Rattle.aig_lanes.proofs.Side.Eights.{texts_overwritten}

@@ -1,5 +1,4 @@
-use Rattle.std.specs.Prelude.{◌≡◌, List, length, take}
-use Rattle.std.specs.List.{All}
+use Rattle.std.proofs.Common.{◌≡◌, List, length, take, All}
 use Rattle.aig_circuit.specs.declared.value.Val.{Val}
 use Rattle.aig_lanes.proofs.run.Run.fits.Given as goal
 

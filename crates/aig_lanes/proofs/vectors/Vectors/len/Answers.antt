@@ -1,6 +1,6 @@
 use Rattle.std.proofs.Common.{◌∙◌, ap, length, sym}
 use Rattle.aig_lanes.specs.declared.run.Run.{Run}
-use Rattle.aig_lanes.proofs.Side.Vectors.{vectors_count}
+use Rattle.aig_lanes.proofs.Side.Sheets.{vectors_count}
 use Rattle.aig_lanes.proofs.vectors.Vectors.len.Goals as goal
 
 pub returns : goal.returns

@@ -1,8 +1,7 @@
-use Rattle.std.proofs.Common.{◌∙◌, ◌*◌, ◌<◌, [], ap, arith, get_or, length, take}
-use Rattle.std.proofs.lemmas.List.{length-drop}
+use Rattle.std.proofs.Common.{◌∙◌, ◌*◌, ◌<◌, [], ap, arith, get_or, length, take, length-drop}
 use Rattle.aig_lanes.specs.declared.run.Run.{Run}
 use Rattle.aig_step.specs.TraceText.{values_text}
-use Rattle.aig_lanes.proofs.Side.Vectors.{vector_text, vectors_count}
+use Rattle.aig_lanes.proofs.Side.Sheets.{vector_text, vectors_count}
 use Rattle.aig_lanes.proofs.vectors.Vectors.text.Goals as goal
 
 pub overflow_mul-step : goal.overflow_mul-step

@@ -1,9 +1,8 @@
 use Rattle.std.proofs.Common.{◌≡◌, ◌∙◌, ◌++◌, ◌∷◌, List, ℕ, drop, ap, sym, subst, arith, false, true}
 use Rattle.aig_lines.specs.Fed.{Feeder}
 use Rattle.aig_lines.specs.Keeping.{Keeping, keeping_more}
-use Rattle.aig_lines.specs.Texts.{HasNoLineFeed}
-use Rattle.aig_lines.proofs.Feeds.{flipped, way_begins, way_ends, way_line, way_refused}
-use Rattle.aig_lines.proofs.LineBytes.{first_line, no_line}
+use Rattle.aig_lines.specs.Lines.{HasNoLineFeed}
+use Rattle.aig_lines.proofs.Feeds.{flipped, way_begins, way_ends, way_line, way_refused, first_line, no_line}
 use Rattle.aig_lines.proofs.feeder.LineFeeder.feed.Goals as goal
 
 pub returns-then-self-clause-fed : goal.returns-then-self-clause-fed

@@ -1,8 +1,8 @@
-use Rattle.std.proofs.Common.{◌≡◌, ◌+◌, ◌-◌, ◌++◌, List, ℕ, length, min, take, ap, ap₂, ◌∙◌, arith, sym}
+use Rattle.std.proofs.Common.{◌≡◌, ◌+◌, ◌-◌, ◌++◌, ◌∙◌, List, ℕ, length, min, take, ap, ap₂, arith, sym}
 use Rattle.std.proofs.lemmas.List.{with_items_is}
 use borrow.Rule.Slice.PartMut.{post_of, same_len_mid}
 use Rattle.aig_lines.specs.Keeping.{Keeping, keeping_more}
-use Rattle.aig_lines.proofs.LineBytes.{kept_more}
+use Rattle.aig_lines.proofs.Feeds.{kept_more}
 use Rattle.aig_lines.proofs.partial_line.PartialLine.keep.Goals as goal
 
 abbrev keeping : List ℕ → ℕ → Keeping

@@ -1,6 +1,6 @@
-use Rattle.std.proofs.Common.{[], ◌∷◌, refl}
+use Rattle.std.proofs.Common.{◌∷◌, [], refl}
 use Rattle.aig_rows.specs.Rows.{latch_form}
-use Rattle.aig_rows.proofs.Kept.Plain.{one_ends, two_end, plain_row_is}
+use Rattle.aig_rows.proofs.Canonical.{one_ends, two_end, plain_row_is}
 use Rattle.aig_rows.proofs.row.LatchFromRow.read_short.Goals as goal
 
 pub returns-in-Some-clause-row : goal.returns-in-Some-clause-row

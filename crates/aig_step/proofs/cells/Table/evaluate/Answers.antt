@@ -1,6 +1,5 @@
 use Rattle.std.proofs.lemmas.Grind.{common_steps}
-use Rattle.std.proofs.Common.{rules}
-use Rattle.std.proofs.Common.{length, ap, arith}
+use Rattle.std.proofs.Common.{rules, length, ap, arith}
 use Rattle.std.proofs.lemmas.List.{length-set, with_items_is}
 use Rattle.aig_step.proofs.Running.Cells.{are_codes, codes_length, no_more, one_more, values_are}
 use Rattle.aig_step.proofs.cells.Table.evaluate.Goals as goal

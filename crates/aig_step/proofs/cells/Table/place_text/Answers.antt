@@ -1,14 +1,12 @@
-use Rattle.std.proofs.Common.{◌≡◌, ◌+◌, ◌++◌, List, None, [], ◌∷◌, length, ap, ap₂, ◌∙◌, set, take, drop, get_or}
-use Rattle.std.proofs.Common.{sym, arith}
+use Rattle.std.proofs.Common.{◌≡◌, ◌+◌, ◌++◌, ◌∷◌, ◌∙◌, List, None, [], length, ap, ap₂, set, take, drop, get_or, sym}
+use Rattle.std.proofs.Common.{arith}
 use Rattle.std.proofs.lemmas.List.{length-append, length-set, take_more}
 use Rattle.aig_circuit.specs.declared.value.Val.{Val}
 use Rattle.aig_step.specs.Stimulus.{value_of, values_of}
 use Rattle.aig_step.specs.Parts.Cells.{values_of_bytes}
-use Rattle.aig_step.proofs.EntryTexts.{no_values, values_on}
-use Rattle.aig_step.proofs.LineBytes.{parted}
-use Rattle.aig_step.proofs.Running.Cells.{are_codes, codes_length, values_are}
-use Rattle.aig_step.proofs.Running.Characters.{found_value, no_value}
-use Rattle.aig_step.proofs.Running.Tables.{placed_behind}
+use Rattle.aig_step.proofs.LineValues.{no_values, values_on, parted}
+use Rattle.aig_step.proofs.Running.Cells.{are_codes, codes_length, values_are, found_value, no_value}
+use Rattle.aig_step.proofs.Running.Machines.{placed_behind}
 use Rattle.aig_step.proofs.cells.Table.place_text.Goals as goal
 
 pub overflow_add-at : goal.overflow_add-at

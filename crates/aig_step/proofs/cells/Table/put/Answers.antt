@@ -1,5 +1,4 @@
-use Rattle.std.proofs.Common.{rules}
-use Rattle.std.proofs.Common.{arith}
+use Rattle.std.proofs.Common.{rules, arith}
 use Rattle.std.proofs.lemmas.List.{with_items_is}
 use Rattle.aig_step.proofs.Running.Cells.{are_codes, codes_length, values_are}
 use Rattle.aig_step.proofs.cells.Table.put.Goals as goal

@@ -1,8 +1,7 @@
-use Rattle.std.proofs.Common.{rules}
-use Rattle.std.proofs.Common.{arith}
+use Rattle.std.proofs.Common.{rules, arith}
 use Rattle.std.proofs.lemmas.List.{drop_all, length-set, with_items_is}
 use Rattle.aig_step.proofs.Running.Cells.{are_codes, codes_length, values_are}
-use Rattle.aig_step.proofs.Running.Tables.{placed_on}
+use Rattle.aig_step.proofs.Running.Machines.{placed_on}
 use Rattle.aig_step.proofs.cells.Table.put_codes.Goals as goal
 
 pub overflow_add-at : goal.overflow_add-at

@@ -2,8 +2,8 @@ use Rattle.std.proofs.Common.{◌≡◌, ◌∙◌}
 use Rattle.std.proofs.lemmas.Result.{IfOk-weaker}
 use Rattle.aig_circuit.specs.declared.circuit.Circuit.{Circuit}
 use Rattle.aig_meaning.specs.Meaning.{MeansTheSame}
-use Rattle.aig_meaning.proofs.Same.{same_through}
-use Rattle.aig_image.proofs.Meaning.Images.{image_means_the_same}
+use Rattle.aig_meaning.proofs.Traces.{same_through}
+use Rattle.aig_image.proofs.Meaning.{image_means_the_same}
 use Rattle.aig_step.proofs.machine.Machine.new.Goals as goal
 
 -- what runs means the same as the image, and that the same as the circuit

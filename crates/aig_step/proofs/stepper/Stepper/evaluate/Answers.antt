@@ -1,6 +1,5 @@
-use Rattle.std.proofs.Common.{rules}
-use Rattle.std.proofs.lemmas.List.{length-set}
-use Rattle.aig_step.proofs.Running.Tables.{placed_length}
+use Rattle.std.proofs.Common.{rules, length-set}
+use Rattle.aig_step.proofs.Running.Machines.{placed_length}
 use Rattle.aig_step.proofs.stepper.Stepper.evaluate.Goals as goal
 
 pub put_values-requires : goal.put_values-requires

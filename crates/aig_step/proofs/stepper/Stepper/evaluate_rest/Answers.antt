@@ -1,12 +1,9 @@
-use Rattle.std.proofs.Common.{rules}
-use Rattle.std.proofs.Common.{◌≡◌, ◌+◌, ◌-◌, ◌≤◌, length, ap, sym, subst, ◌∙◌, arith}
-use Rattle.std.proofs.lemmas.List.{length-set}
+use Rattle.std.proofs.Common.{◌≡◌, ◌+◌, ◌-◌, ◌≤◌, ◌∙◌, rules, length, ap, sym, subst, arith, length-set}
 use Rattle.aig_circuit.specs.declared.circuit.Circuit.{Circuit}
 use Rattle.aig_meaning.specs.Meaning.{IsStepAssignment}
 use Rattle.aig_step.specs.Parts.Machines.{first_gate}
 use Rattle.aig_step.specs.Parts.Tables.{read_from}
-use Rattle.aig_step.proofs.Running.Machines.{is_filled, pairs_below}
-use Rattle.aig_step.proofs.Running.Tables.{evaluated_length, placed_length}
+use Rattle.aig_step.proofs.Running.Machines.{is_filled, pairs_below, evaluated_length, placed_length}
 use Rattle.aig_step.proofs.stepper.Stepper.evaluate_rest.Goals as goal
 
 pub evaluate-requires-clause-room : goal.evaluate-requires-clause-room

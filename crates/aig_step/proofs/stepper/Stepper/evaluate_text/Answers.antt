@@ -1,6 +1,5 @@
-use Rattle.std.proofs.Common.{rules}
-use Rattle.std.proofs.Common.{eq-eqb}
-use Rattle.aig_step.proofs.EntryTexts.{values_length}
+use Rattle.std.proofs.Common.{rules, eq-eqb}
+use Rattle.aig_step.proofs.LineValues.{values_length}
 use Rattle.aig_step.proofs.stepper.Stepper.evaluate_text.Goals as goal
 
 pub returns-clause-good : goal.returns-clause-good

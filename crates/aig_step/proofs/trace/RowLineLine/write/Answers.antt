@@ -1,9 +1,9 @@
-use Rattle.std.proofs.Common.{ap, arith, ◌∙◌}
+use Rattle.std.proofs.Common.{◌∙◌, ap, arith}
 use Rattle.std.proofs.lemmas.Grind.{common_steps}
 use Rattle.std.proofs.lemmas.List.{take_more_set}
 use Rattle.aig_circuit.specs.declared.circuit.Circuit.{Circuit}
 use Rattle.aig_step.specs.Parts.Stepping.{row_of}
-use Rattle.aig_step.proofs.LineBytes.{columns_joined}
+use Rattle.aig_step.proofs.LineValues.{columns_joined}
 use Rattle.aig_step.proofs.trace.RowLineLine.write.Goals as goal
 
 pub returns-clause-text : goal.returns-clause-text

@@ -1,4 +1,4 @@
-use Rattle.std.proofs.Common.{sym, ◌∙◌, rules}
+use Rattle.std.proofs.Common.{◌∙◌, sym, rules}
 use Rattle.std.proofs.lemmas.Result.{on_ok_weaker}
 use Rattle.aig_tables.specs.Parts.Places.{kept_at}
 use Rattle.aig_tables.proofs.Tables.Maps.{grown, more_in_place, more_elsewhere}

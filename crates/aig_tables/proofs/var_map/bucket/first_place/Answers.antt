@@ -1,6 +1,6 @@
-use Rattle.std.proofs.Common.{arith, ◌-◌, ◌+◌, ◌<◌, ◌≡◌, length}
+use Rattle.std.proofs.Common.{◌-◌, ◌+◌, ◌<◌, ◌≡◌, arith, length}
 use Rattle.std.proofs.lemmas.Grind.{common_steps}
-use Rattle.aig_tables.proofs.Tables.Buckets.{first_here, first_later}
+use Rattle.aig_tables.proofs.Tables.Maps.{first_here, first_later}
 use Rattle.aig_tables.proofs.var_map.bucket.first_place.Goals as goal
 use Rattle.aig_tables.proofs.var_map.bucket.first_place.Goals.{then-entries-place, else-entries-place}
 

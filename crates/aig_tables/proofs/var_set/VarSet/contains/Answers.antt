@@ -1,6 +1,5 @@
-use Rattle.std.proofs.Common.{ap, sym, ◌∙◌}
-use Rattle.std.specs.Option.{is_some}
-use Rattle.aig_tables.proofs.Tables.Sets.{has_key}
+use Rattle.std.proofs.Common.{◌∙◌, ap, sym, is_some}
+use Rattle.aig_tables.proofs.Tables.Maps.{has_key}
 use Rattle.aig_tables.proofs.var_set.VarSet.contains.Goals as goal
 
 pub returns : goal.returns

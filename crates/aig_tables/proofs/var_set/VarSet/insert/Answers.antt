@@ -1,7 +1,7 @@
-use Rattle.std.proofs.Common.{◌≡◌, IfOk, not, ap, sym, subst, ◌∙◌}
+use Rattle.std.proofs.Common.{◌≡◌, ◌∙◌, IfOk, not, ap, sym, subst}
 use Rattle.std.proofs.lemmas.Result.{on_ok_weaker}
 use Rattle.aig_tables.specs.VarMap.{keys_of}
-use Rattle.aig_tables.proofs.Tables.Sets.{has_key, one_more_key}
+use Rattle.aig_tables.proofs.Tables.Maps.{has_key, one_more_key}
 use Rattle.aig_tables.proofs.var_set.VarSet.insert.Goals as goal
 
 pub returns-clause-added : goal.returns-clause-added

@@ -1,4 +1,4 @@
-use Rattle.aig_tables.proofs.Tables.Sets.{no_keys}
+use Rattle.aig_tables.proofs.Tables.Maps.{no_keys}
 use Rattle.aig_tables.proofs.var_set.VarSet.new.Goals as goal
 
 pub returns : goal.returns

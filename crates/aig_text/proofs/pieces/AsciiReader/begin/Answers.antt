@@ -1,7 +1,7 @@
 use Rattle.std.proofs.Common.{◌∙◌, sym}
-use Rattle.aig_rows.specs.Lines.{lines_of}
-use Rattle.aig_rows.proofs.Taken.{left_fits}
-use Rattle.aig_text.proofs.Loops.Pieces.{begins}
+use Rattle.aig_lines.specs.Lines.{lines_of}
+use Rattle.aig_lines.proofs.Taken.{left_fits}
+use Rattle.aig_text.proofs.Loops.Text.{begins}
 use Rattle.aig_text.proofs.pieces.AsciiReader.begin.Goals as goal
 
 pub overflow_sub-used : goal.overflow_sub-used

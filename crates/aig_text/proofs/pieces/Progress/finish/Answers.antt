@@ -1,6 +1,6 @@
 use Rattle.std.proofs.Common.{◌∙◌, Err, ap, inr, sym, rules}
 use Rattle.aig_rows.specs.declared.fault.ReadFault.{ReadFault}
-use Rattle.aig_text.proofs.Loops.Begun.{alone_done, alone_short, alone_wrong}
+use Rattle.aig_text.proofs.Loops.Sections.{alone_done, alone_short, alone_wrong}
 use Rattle.aig_text.proofs.pieces.Progress.finish.Goals as goal
 
 pub returns-in-Err : goal.returns-in-Err

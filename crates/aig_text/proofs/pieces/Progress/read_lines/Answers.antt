@@ -1,8 +1,8 @@
 use Rattle.std.proofs.Common.{◌+◌, ◌-◌, ◌∙◌, arith}
-use Rattle.aig_rows.specs.Lines.{with_lines}
+use Rattle.aig_lines.specs.Lines.{with_lines}
 use Rattle.aig_rows.proofs.Loops.FirstRows.{behind_more, rows_behind}
 use Rattle.aig_text.specs.Sections.{in_ascii}
-use Rattle.aig_text.proofs.Loops.Begun.{section_of, begin_summed, next_begins, part_summed, sections_go_on}
+use Rattle.aig_text.proofs.Loops.Sections.{section_of, begin_summed, next_begins, part_summed, sections_go_on}
 use Rattle.aig_text.proofs.pieces.Progress.read_lines.Goals as goal
 
 pub returns-then-self-gt0-clause-within : goal.returns-then-self-gt0-clause-within

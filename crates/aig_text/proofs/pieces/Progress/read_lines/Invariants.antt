@@ -1,5 +1,5 @@
 use Rattle.std.proofs.Common.{◌≡◌, ◌-◌, List, length}
-use Rattle.aig_rows.specs.Lines.{IsBehind, Line, with_lines}
+use Rattle.aig_lines.specs.Lines.{IsBehind, Line, with_lines}
 use Rattle.aig_text.specs.Sections.{sections}
 use Rattle.aig_text.specs.Begun.{IsWithin, sections_from}
 use Rattle.aig_text.proofs.pieces.Progress.read_lines.Given as goal

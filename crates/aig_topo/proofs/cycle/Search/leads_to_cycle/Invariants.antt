@@ -1,5 +1,4 @@
-use Rattle.std.proofs.Common.{◌≡◌, ◌*◌, ◌-◌, ◌<◌, length}
-use Rattle.std.specs.List.{slice_index, sum}
+use Rattle.std.proofs.Common.{◌≡◌, ◌*◌, ◌-◌, ◌<◌, length, slice_index, sum}
 use Rattle.aig_topo.specs.Cycle.{IsSearch, IsRisen}
 use Rattle.aig_topo.proofs.cycle.Search.leads_to_cycle.Given as goal
 

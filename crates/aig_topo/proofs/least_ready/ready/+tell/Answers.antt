@@ -1,7 +1,5 @@
-use Rattle.aig_topo.proofs.Ordering.Trees.{tells_elsewhere}
-use Rattle.std.proofs.Common.{rules}
-use Rattle.std.proofs.lemmas.List.{length-set}
-use Rattle.aig_topo.proofs.Ordering.Trees.{what_to_tell, lowest_put}
+use Rattle.aig_topo.proofs.Ordering.Trees.{tells_elsewhere, what_to_tell, lowest_put}
+use Rattle.std.proofs.Common.{rules, length-set}
 use Rattle.aig_topo.proofs.least_ready.ready.+tell.Goals as goal
 
 pub tell-requires : goal.tell-requires

@@ -1,6 +1,5 @@
-use Rattle.std.proofs.Common.{rules}
+use Rattle.std.proofs.Common.{◌<◌, ◌≡◌, ◌+◌, ◌*◌, rules, arith, refl, get_or, subst}
 use Rattle.std.proofs.lemmas.Grind.{common_steps}
-use Rattle.std.proofs.Common.{arith, refl, ◌<◌, ◌≡◌, ◌+◌, ◌*◌, get_or, subst}
 use Rattle.std.proofs.Math.Facts.{Fits-lt-pow}
 use Rattle.std.specs.Int.{w64, trailing_zeros}
 use Rattle.aig_topo.specs.Ready.{first_bit}

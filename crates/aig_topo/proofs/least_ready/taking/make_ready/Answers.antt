@@ -2,7 +2,7 @@ use Rattle.std.proofs.Common.{◌≡◌, ◌<◌, ◌≤◌, ℕ, subst, arith}
 use Rattle.std.specs.List.{AllByRecursion}
 use Rattle.aig_circuit.specs.declared.circuit.TheConstants.{LARGEST}
 use Rattle.aig_topo.specs.Needs.{linked}
-use Rattle.aig_topo.proofs.Ordering.LeftOver.{link_is}
+use Rattle.aig_topo.proofs.Ordering.LeastReady.{link_is}
 use Rattle.aig_topo.proofs.least_ready.taking.make_ready.Goals as goal
 
 -- no gate is at so high a position

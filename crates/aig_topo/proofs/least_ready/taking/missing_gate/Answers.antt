@@ -1,7 +1,5 @@
-use Rattle.std.proofs.lemmas.Bool.{ltb-true}
-use Rattle.aig_topo.proofs.Ordering.LeftOver.{some_left}
-use Rattle.std.proofs.Common.{rules}
-use Rattle.aig_topo.proofs.Ordering.Asked.{second_enough}
+use Rattle.std.proofs.Common.{ltb-true, rules}
+use Rattle.aig_topo.proofs.Ordering.LeastReady.{some_left, second_enough}
 use Rattle.aig_topo.proofs.least_ready.taking.missing_gate.Goals as goal
 
 pub returns-then-count_if_taken-clause-missing : goal.returns-then-count_if_taken-clause-missing

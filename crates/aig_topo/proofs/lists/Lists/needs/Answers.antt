@@ -1,7 +1,6 @@
-use Rattle.std.proofs.Common.{rules}
-use Rattle.std.proofs.Common.{List, sym}
+use Rattle.std.proofs.Common.{rules, List, sym}
 use Rattle.aig_topo.specs.declared.lists.GateNode.{GateNode}
-use Rattle.aig_topo.proofs.Ordering.Needs.{here_needs}
+use Rattle.aig_topo.proofs.Ordering.Ranked.{here_needs}
 use Rattle.aig_topo.proofs.Ordering.Rows.{as_many_needs, read_needs}
 use Rattle.aig_topo.proofs.lists.Lists.needs.Goals as goal
 

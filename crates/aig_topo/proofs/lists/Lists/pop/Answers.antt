@@ -1,5 +1,4 @@
-use Rattle.std.proofs.Common.{rules}
-use Rattle.std.proofs.Common.{◌≡◌, ◌-◌, ◌<◌, ℕ, suc, List, length, refl, sym, arith}
+use Rattle.std.proofs.Common.{◌≡◌, ◌-◌, ◌<◌, rules, ℕ, suc, List, length, refl, sym, arith}
 use Rattle.aig_topo.specs.declared.lists.GateNode.{GateNode}
 use Rattle.aig_topo.specs.Lists.{Link, links_in, links_in_row, first_of}
 use Rattle.aig_topo.proofs.Ordering.Lists.{nothing_there, read_next, have_less}

@@ -1,7 +1,5 @@
-use Rattle.std.proofs.Common.{rules}
-use Rattle.std.proofs.Common.{◌≡◌, ◌<◌, ◌∙◌, ◌+◌, List, ap, sym, subst, arith, length, get_or, refl}
+use Rattle.std.proofs.Common.{◌≡◌, ◌<◌, ◌∙◌, ◌+◌, rules, List, ap, sym, subst, arith, length, get_or, refl, length-set}
 use Rattle.std.proofs.Math.ListN.{set as put}
-use Rattle.std.proofs.lemmas.List.{length-set}
 use Rattle.aig_topo.specs.declared.lists.GateNode.{GateNode}
 use Rattle.aig_topo.specs.Lists.{Link, needs_in, links_in, links_in_row}
 use Rattle.aig_topo.proofs.Ordering.Lists.{read_first, read_next, have_more, HaveMore}

@@ -1,5 +1,4 @@
-use Rattle.std.proofs.Common.{rules}
-use Rattle.std.proofs.Common.{◌≡◌, ◌<◌, ap, length, get_or}
+use Rattle.std.proofs.Common.{◌≡◌, ◌<◌, rules, ap, length, get_or}
 use Rattle.aig_topo.specs.Progress.{Progress}
 use Rattle.aig_topo.proofs.Ordering.Counted.{counts_down}
 use Rattle.aig_topo.proofs.order.Order.count_down.Goals as goal

@@ -1,8 +1,7 @@
-use Rattle.std.proofs.Common.{rules}
-use Rattle.std.proofs.Common.{◌<◌, ⊎_elim}
+use Rattle.std.proofs.Common.{◌<◌, rules, ⊎_elim}
 use Rattle.std.proofs.lemmas.Bool.{cases_lt}
 use Rattle.std.proofs.lemmas.List.{length-map}
-use Rattle.aig_circuit.proofs.Checking.InForm.{among_decides}
+use Rattle.aig_circuit.proofs.Checking.{among_decides}
 use Rattle.aig_topo.proofs.order.Order.first_left.Goals as goal
 
 pub returns-then-not-has-clause-left : goal.returns-then-not-has-clause-left

@@ -1,7 +1,6 @@
-use Rattle.std.proofs.Common.{rules}
-use Rattle.std.proofs.Common.{[], ap, ◌∙◌}
+use Rattle.std.proofs.Common.{◌∙◌, rules, [], ap}
 use Rattle.aig_topo.specs.Progress.{Progress}
-use Rattle.aig_topo.proofs.Ordering.Needs.{counts_are, at_most_two}
+use Rattle.aig_topo.proofs.Ordering.Ranked.{counts_are, at_most_two}
 use Rattle.aig_topo.proofs.order.Order.new.Goals as goal
 
 pub waiting_for-requires-clause-at_most_two : goal.waiting_for-requires-clause-at_most_two

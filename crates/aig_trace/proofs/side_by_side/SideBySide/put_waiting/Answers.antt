@@ -1,13 +1,12 @@
-use Rattle.std.proofs.Common.{◌≡◌, ◌∙◌, ◌<◌, List, ap, arith, get_or, length, refl, subst, sym, []}
-use Rattle.std.specs.List.{All}
-use Rattle.aig_lanes.proofs.Benches.Rooms.{steps_room_stays}
+use Rattle.std.proofs.Common.{◌≡◌, ◌∙◌, ◌<◌, List, ap, arith, get_or, length, refl, subst, sym, [], All}
+use Rattle.aig_lanes.proofs.Benches.Steps.{steps_room_stays}
 use Rattle.aig_lanes.specs.Parts.Benches.{IsBench}
 use Rattle.aig_circuit.specs.declared.circuit.Circuit.{Circuit}
 use Rattle.aig_circuit.specs.declared.value.Val.{Val}
 use Rattle.aig_lanes.specs.declared.lane_columns.LaneColumns.{LaneColumns}
 use Rattle.aig_lanes.specs.Parts.InputBits.{one_step}
 use Rattle.aig_lanes.specs.Parts.LaneTexts.{KeepsRun}
-use Rattle.aig_lanes.proofs.Side.Vectors.{vectors_count, vectors_fit}
+use Rattle.aig_lanes.proofs.Side.Sheets.{vectors_count, vectors_fit}
 use Rattle.aig_trace.proofs.Shows.{serves_still}
 use Rattle.aig_trace.proofs.side_by_side.SideBySide.put_waiting.Goals as goal
 

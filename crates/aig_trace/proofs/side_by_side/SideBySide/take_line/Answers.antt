@@ -1,8 +1,7 @@
-use Rattle.std.proofs.Common.{◌≡◌, ◌∙◌, ℕ, Some, ap, codes, is_some, length, refl, sym, true}
-use Rattle.std.specs.Str.{bytes_eq}
+use Rattle.std.proofs.Common.{◌≡◌, ◌∙◌, ℕ, Some, ap, codes, is_some, length, refl, sym, true, bytes_eq}
 use Rattle.aig_circuit.specs.declared.circuit.Circuit.{Circuit}
 use Rattle.aig_lanes.specs.Parts.Vectors.{said}
-use Rattle.aig_lanes.proofs.Side.Vectors.{said_is}
+use Rattle.aig_lanes.proofs.Side.Sheets.{said_is}
 use Rattle.aig_step.specs.Parts.Lines.{vector_in}
 use Rattle.aig_step.specs.Stimulus.{Step, Stop, entry_in}
 use Rattle.aig_step.proofs.LineValues.{vector_says}

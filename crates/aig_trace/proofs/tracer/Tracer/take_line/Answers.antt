@@ -1,4 +1,4 @@
-use Rattle.std.proofs.Common.{◌∙◌, Some, None, Bool, if◌then◌else◌, codes, length, refl, ap, sym}
+use Rattle.std.proofs.Common.{◌∙◌, if◌then◌else◌, Some, None, Bool, codes, length, refl, ap, sym}
 use Rattle.aig_step.specs.Stimulus.{Step, Stop}
 use Rattle.aig_trace.specs.Parts.Progress.{begin_of}
 use Rattle.aig_step.proofs.LineValues.{vector_none, vector_says}

@@ -1,5 +1,4 @@
-use Rattle.std.proofs.Common.{rules}
-use Rattle.std.proofs.Common.{refl}
+use Rattle.std.proofs.Common.{rules, refl}
 use Rattle.aig_step.specs.TraceText.{row_text}
 use Rattle.aig_step.specs.Parts.Stepping.{row_of}
 use Rattle.aig_step.proofs.LineValues.{row_is_read, vector_back}

@@ -1,5 +1,4 @@
-use Rattle.std.proofs.Common.{◌≡◌, ◌∙◌, ◌*◌, ◌<◌, Some, ap, arith, drop, length, take}
-use Rattle.std.proofs.lemmas.List.{length-drop, length-take-le}
+use Rattle.std.proofs.Common.{◌≡◌, ◌∙◌, ◌*◌, ◌<◌, Some, ap, arith, drop, length, take, length-drop, length-take-le}
 use Rattle.aig_step.specs.Stimulus.{Entry, entry_in}
 use Rattle.aig_trace.proofs.Waits.{step_says}
 use Rattle.aig_trace.proofs.waiting.Waiting.line_text.Goals as goal

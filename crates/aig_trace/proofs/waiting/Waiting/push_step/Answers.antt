@@ -1,9 +1,8 @@
 use Rattle.std.proofs.Common.{◌≡◌, ◌∙◌, ◌+◌, ◌*◌, ◌++◌, ◌∷◌, ℕ, List, [], Some, ap, drop, is_some, length, map, set}
-use Rattle.std.proofs.Common.{subst, sym}
-use Rattle.std.proofs.Common.{take, true}
+use Rattle.std.proofs.Common.{subst, sym, take, true}
 use Rattle.std.proofs.lemmas.List.{with_items_is}
 use Rattle.aig_lanes.specs.Parts.Vectors.{said}
-use Rattle.aig_lanes.proofs.Side.Vectors.{said_is}
+use Rattle.aig_lanes.proofs.Side.Sheets.{said_is}
 use Rattle.aig_step.specs.Parts.Lines.{vector_in}
 use Rattle.aig_step.specs.Stimulus.{Step, values_of}
 use Rattle.aig_step.proofs.LineValues.{vector_long}

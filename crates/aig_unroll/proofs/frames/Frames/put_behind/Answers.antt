@@ -2,7 +2,7 @@ use Rattle.std.proofs.Common.{◌∙◌, ℕ, ap, ap₂, drop, length, sym, rule
 use Rattle.aig_unroll.specs.Unrolled.{at, chain_at, first_gate, gates_at}
 use Rattle.aig_unroll.specs.Parts.Frames.{Frame, behind_by}
 use Rattle.aig_unroll.proofs.InFrame.{bad_has_room, constraints_have_room, stands_at}
-use Rattle.aig_unroll.proofs.Pieces.{behind_stands}
+use Rattle.aig_unroll.proofs.Ordering.Frames.{behind_stands}
 use Rattle.aig_unroll.proofs.frames.Frames.put_behind.Goals as goal
 
 pub put_behind-requires-clause-constraints : goal.put_behind-requires-clause-constraints

@@ -1,6 +1,5 @@
-use Rattle.std.proofs.Common.{◌≡◌, ◌+◌, ◌-◌, ◌≤◌, ◌∙◌, ℕ, List, ap, ap₂, arith, drop, length, subst, sym, take}
-use Rattle.std.specs.List.{All}
-use Rattle.std.proofs.lemmas.List.{length-drop, length-take-le}
+use Rattle.std.proofs.Common.{◌≡◌, ◌+◌, ◌-◌, ◌≤◌, ◌∙◌, ℕ, List, ap, ap₂, arith, drop, length, subst, sym, take, All}
+use Rattle.std.proofs.Common.{length-drop, length-take-le}
 use Rattle.std.proofs.lemmas.List.Elements.{All-drop, All-take}
 use Rattle.aig_circuit.specs.declared.circuit.Gate.{Gate}
 use Rattle.aig_binary.specs.BinaryText.{HasDeltas}
@@ -8,7 +7,7 @@ use Rattle.aig_unroll.specs.Unrolled.{at, copied, first_gate, gates_at}
 use Rattle.aig_unroll.specs.Parts.Frames.{Frame, table_at}
 use Rattle.aig_unroll.specs.Parts.Standing.{GateHasRoom}
 use Rattle.aig_unroll.proofs.InFrame.{gates_fit, gates_have_room, stands_at}
-use Rattle.aig_unroll.proofs.Pieces.{piece_stands}
+use Rattle.aig_unroll.proofs.Ordering.Frames.{piece_stands}
 use Rattle.aig_unroll.proofs.Written.{frame_has_deltas}
 use Rattle.aig_unroll.proofs.frames.Frames.put_copies.Goals as goal
 

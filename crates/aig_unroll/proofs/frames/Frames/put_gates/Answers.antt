@@ -1,12 +1,10 @@
-use Rattle.std.proofs.Common.{◌∙◌, List, ap, drop, length-append, rules, subst, sym}
-use Rattle.std.specs.List.{All}
-use Rattle.std.proofs.lemmas.List.{length-drop, length-take}
+use Rattle.std.proofs.Common.{◌∙◌, List, ap, drop, length-append, rules, subst, sym, All, length-drop, length-take}
 use Rattle.std.proofs.lemmas.List.Elements.{All-drop}
 use Rattle.aig_circuit.specs.declared.circuit.Gate.{Gate}
 use Rattle.aig_binary.specs.BinaryText.{HasDeltas}
 use Rattle.aig_unroll.specs.Unrolled.{gates_at}
 use Rattle.aig_unroll.specs.Parts.Frames.{Frame}
-use Rattle.aig_unroll.proofs.Placed.{joined_there, two_put}
+use Rattle.aig_unroll.proofs.Ordering.Frames.{joined_there, two_put}
 use Rattle.aig_unroll.proofs.Written.{frame_has_deltas}
 use Rattle.aig_unroll.proofs.frames.Frames.put_gates.Goals as goal
 

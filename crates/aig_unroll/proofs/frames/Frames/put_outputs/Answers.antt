@@ -1,4 +1,4 @@
-use Rattle.std.proofs.Common.{ap, ap₂, map, ◌∙◌, rules}
+use Rattle.std.proofs.Common.{◌∙◌, ap, ap₂, map, rules}
 use Rattle.aig_unroll.specs.Unrolled.{outputs_at}
 use Rattle.aig_unroll.specs.Parts.Frames.{Frame}
 use Rattle.aig_unroll.specs.Parts.Standing.{stood}

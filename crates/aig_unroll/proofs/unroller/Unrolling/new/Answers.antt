@@ -1,7 +1,7 @@
 use Rattle.std.proofs.Common.{subst}
 use Rattle.aig_circuit.specs.declared.circuit.Circuit.{Circuit}
 use Rattle.aig_unroll.specs.Unrolled.{IsTooLarge}
-use Rattle.aig_unroll.proofs.Ordering.Counts.{as_large, image_counts}
+use Rattle.aig_unroll.proofs.Ordering.Ordered.{as_large, image_counts}
 use Rattle.aig_unroll.proofs.unroller.Unrolling.new.Goals as goal
 
 pub of_image-requires-clause-fits : goal.of_image-requires-clause-fits

@@ -1,4 +1,4 @@
-use Rattle.std.proofs.Common.{List, ap, subst, ◌∙◌, ◌≡◌, ℕ}
+use Rattle.std.proofs.Common.{◌∙◌, ◌≡◌, List, ap, subst, ℕ}
 use Rattle.aig_circuit.specs.declared.circuit.Circuit.{Circuit}
 use Rattle.aig_io.specs.Output.{Put}
 use Rattle.aig_io.proofs.Puts.{put_twice}

@@ -1,5 +1,4 @@
-use Rattle.std.proofs.Common.{List, ap, subst, ◌∙◌, ◌≡◌, ℕ}
-use Rattle.std.specs.List.{flat_map}
+use Rattle.std.proofs.Common.{◌∙◌, ◌≡◌, List, ap, subst, ℕ, flat_map}
 use Rattle.aig_circuit.specs.declared.circuit.Circuit.{Circuit}
 use Rattle.aig_io.specs.Output.{Put}
 use Rattle.aig_io.proofs.Puts.{put_twice}

@@ -1,10 +1,9 @@
-use Rattle.std.proofs.Common.{◌≡◌, ◌∙◌, ◌+◌, ◌++◌, ◌∷◌, List, ℕ, drop, ap, ap₂, arith, length, take, sym, subst}
-use Rattle.std.proofs.Common.{length-append}
+use Rattle.std.proofs.Common.{◌≡◌, ◌∙◌, ◌++◌, ◌∷◌, List, ℕ, drop, ap, ap₂, take, sym, subst}
 use Rattle.aig_lines.specs.Keeping.{Keeping, keeping_more}
-use Rattle.aig_lines.specs.Texts.{HasNoLineFeed}
-use Rattle.aig_lines.proofs.LineBytes.{first_line, no_line}
+use Rattle.aig_lines.specs.Lines.{HasNoLineFeed}
+use Rattle.aig_lines.proofs.Feeds.{first_line, no_line}
 use Rattle.aig_wave.specs.Dumping.{Waving}
-use Rattle.aig_wave.proofs.Waved.{took_time, way_begins, way_ends, way_line}
+use Rattle.aig_wave.proofs.Waved.{way_begins, way_ends, way_line}
 use Rattle.aig_wave.proofs.dump_writer.DumpWriter.take_bytes.Goals as goal
 
 parted : (rest piece behind following : List ℕ) (at : ℕ) → rest ≡ take at rest ++ 10 ∷ drop 1 (drop at rest)
@@ -13,10 +12,7 @@ parted rest piece behind following at is front back next =
     is ∙ ap₂ (λ (a b : List ℕ). a ++ 10 ∷ b) (sym front) (sym (next ∙ ap (drop 1) back))
 
 pub loop-at-init : goal.loop-at-init
-loop-at-init g c = record {
-  time = omega arith;
-  way = λ w o text d. way_begins w o _ text c.args.bytes.now d;
-}
+loop-at-init g c = λ w o text d. way_begins w o _ text c.args.bytes.now d
 
 pub loop-at-preserved : goal.loop-at-preserved
 loop-at-preserved g c =
@@ -29,21 +25,14 @@ loop-at-preserved g c =
     let is : rest ≡ piece ++ 10 ∷ following =
     parted rest piece c.split_at.result.1.now following at found.1 c.split_at.ensures.front c.split_at.ensures.back
     c.split_at-in-Some.ensures.back in
-    let size : length rest ≡ length piece + length (10 ∷ following) =
-    ap length is ∙ length-append piece (10 ∷ following) in
-    let later = took_time c.loop-at.self c.take_ended.new.self piece c.take_ended.ensures in
-    let bound = c.loop-at.invariant.time in
-    record {
-      time = omega (arith, size, later, bound);
-      way = λ w o text d.
-          way_line w o c.loop-at.self c.take_ended.new.self rest piece following _ (c.loop-at.invariant.way w o text d)
-          is none c.take_ended.ensures;
-    }
+    λ w o text d.
+    way_line w o c.loop-at.self c.take_ended.new.self rest piece following _ (c.loop-at.invariant w o text d)
+    is none c.take_ended.ensures
 
 pub returns : goal.returns
 returns g c = λ w o text d.
     let rest = c.loop-at.rest.now in
-    way_ends w o c.loop-at.self _ rest _ (c.loop-at.invariant.way w o text d) (no_line rest c.in_default.ensures)
+    way_ends w o c.loop-at.self _ rest _ (c.loop-at.invariant w o text d) (no_line rest c.in_default.ensures)
     (ap (λ (k : Keeping). record {
       dump_state = c.self.inside.dump_state;
       kept = k;

@@ -1,24 +1,36 @@
-use Rattle.std.proofs.Common.{◌≡◌, ◌∙◌, ap, is_err, [], subst}
+use Rattle.std.proofs.Common.{◌≡◌, ◌∙◌, [], OnOk, ap, is_err, refl, subst}
 use Rattle.aig_io.specs.Notes.{bytes_of}
-use Rattle.aig_io.specs.Output.{Put, output_to}
+use Rattle.aig_io.specs.Output.{output_to}
 use Rattle.aig_wave.specs.Frames.{frames_of}
-use Rattle.aig_wave.specs.Standing.{Wave, fresh, fresh_at, wave_origin}
+use Rattle.aig_wave.specs.Standing.{WasSent, Wave, output_at, wave_origin}
 use Rattle.aig_wave.specs.Wave.{dump}
-use Rattle.aig_wave.proofs.Standing.{finished}
+use Rattle.aig_wave.proofs.Standing.{finished, no_failures}
 use Rattle.aig_wave.proofs.wave.WaveSink.finish.Goals as goal
 
 pub returns-clause-lender : goal.returns-clause-lender
 returns-clause-lender g c =
-    let v = c.self.inside.dump_writer in
-    let put = c.finish.ensures v.dump_state.layout (fresh v.output) (bytes_of c.self.inside.log.notes) c.self.invariant in
+    let s = c.self.inside in
+    let v = s.dump_writer in
+    let o = output_at v.output.name s.before.value (g.W.Sink.past s.before.value) in
+    let put = c.finish.ensures.put v.dump_state.layout o (bytes_of s.log.notes) c.self.invariant.0 in
     put.same ∙ ap (λ (s : Wave _). s.past.origin.lender) c.self.view_is
 
-pub returns-clause-put : goal.returns-clause-put
-returns-clause-put g c = λ w name origin.
-    let v = c.self.inside.dump_writer in
-    subst (λ (s : Wave _). s.past.origin ≡ wave_origin w name origin
-    → Put (fresh_at name c.finish.result.1.now origin)
-    (output_to g.W.Sink.past c.finish.result.1 [] (is_err c.finish.result.0))
-    (dump w (frames_of w s.past.bytes) c.args.done)) c.self.view_is
-    (λ e. finished v _ (bytes_of c.self.inside.log.notes) c.args.done w name origin _ e
-    (c.finish.ensures v.dump_state.layout (fresh v.output) (bytes_of c.self.inside.log.notes) c.self.invariant))
+pub returns-clause-sent : goal.returns-clause-sent
+returns-clause-sent g c = λ w name before.
+    let s = c.self.inside in
+    let v = s.dump_writer in
+    let past = g.W.Sink.past s.before.value in
+    let o = output_at v.output.name s.before.value past in
+    let r = c.finish.result.0 in
+    let put = c.finish.ensures.put v.dump_state.layout o (bytes_of s.log.notes) c.self.invariant.0 in
+    subst (λ (s : Wave _). s.past.origin ≡ wave_origin w name before
+    → WasSent r (dump w (frames_of w s.past.bytes) c.args.done) before (g.W.Sink.past c.finish.result.1.now))
+    c.self.view_is
+    (λ e. finished s.before.value past v (output_to g.W.Sink.past c.finish.result.1 [] (is_err r))
+    (bytes_of s.log.notes) c.args.done r w name before e refl refl put)
+
+pub returns-clause-reported : goal.returns-clause-reported
+returns-clause-reported g c =
+    let s = c.self.inside in
+    subst (λ (s : Wave _). OnOk c.finish.result.0 (s.past.failures ≡ 0)) c.self.view_is
+    (no_failures s.failures s.dump_writer.output.failed c.finish.result.0 c.self.invariant.1 c.finish.ensures.reported)

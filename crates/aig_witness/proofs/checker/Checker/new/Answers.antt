@@ -1,5 +1,4 @@
-use Rattle.std.proofs.Common.{rules}
-use Rattle.std.proofs.Common.{arith}
+use Rattle.std.proofs.Common.{rules, arith}
 use Rattle.aig_witness.proofs.Witnessing.{same_bad}
 use Rattle.aig_witness.proofs.checker.Checker.new.Goals as goal
 

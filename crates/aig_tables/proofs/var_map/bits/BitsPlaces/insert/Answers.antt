@@ -1,6 +1,5 @@
-use Rattle.std.proofs.Common.{◌/◌, ◌<◌, length, arith}
-use Rattle.std.proofs.lemmas.Bool.{ltb-true}
-use Rattle.aig_tables.proofs.Tables.Bits.{more_marks}
+use Rattle.std.proofs.Common.{◌/◌, ◌<◌, length, arith, ltb-true}
+use Rattle.aig_tables.proofs.Tables.Maps.{more_marks}
 use Rattle.aig_tables.proofs.var_map.bits.BitsPlaces.insert.Goals as goal
 
 pub returns-clause-held : goal.returns-clause-held

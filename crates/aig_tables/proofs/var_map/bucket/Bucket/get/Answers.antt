@@ -1,7 +1,6 @@
-use Rattle.std.proofs.Common.{ap, ◌∙◌, sym, arith, ◌≤◌, length, Some, get_or}
-use Rattle.std.specs.Ordering.{nat_cmp}
+use Rattle.std.proofs.Common.{◌∙◌, ◌≤◌, ap, sym, arith, length, Some, get_or, nat_cmp}
 use Rattle.std.specs.FinMap.{find}
-use Rattle.aig_tables.proofs.Tables.Buckets.{found_first, found_nowhere}
+use Rattle.aig_tables.proofs.Tables.Maps.{found_first, found_nowhere}
 use Rattle.aig_tables.proofs.var_map.bucket.Bucket.get.Goals as goal
 
 pub returns-then-place-self : goal.returns-then-place-self

@@ -1,5 +1,4 @@
-use Rattle.std.proofs.Common.{◌-◌, ◌+◌, ◌%◌, ◌/◌, ◌^◌, ap, ◌∙◌, arith}
-use Rattle.std.specs.Prelude.{count_ones}
+use Rattle.std.proofs.Common.{◌-◌, ◌+◌, ◌%◌, ◌/◌, ◌^◌, ◌∙◌, ap, arith, count_ones}
 use Rattle.std.specs.Int.Bits.{bit_and}
 use Rattle.std.proofs.lemmas.List.{get_or_read}
 use Rattle.std.proofs.lemmas.Nat.{one_shl, and_mask}

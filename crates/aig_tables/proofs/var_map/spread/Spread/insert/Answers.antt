@@ -1,7 +1,7 @@
-use Rattle.std.proofs.Common.{◌≡◌, None, sym, ◌∙◌, rules}
+use Rattle.std.proofs.Common.{◌≡◌, ◌∙◌, None, sym, rules}
 use Rattle.aig_tables.specs.Parts.Places.{spread_at}
-use Rattle.aig_tables.proofs.Tables.Maps.{map_has, grown}
-use Rattle.aig_tables.proofs.Tables.Buckets.{none_of, more_in_bucket, still_spread, more_in_tree, spread_in_tree}
+use Rattle.aig_tables.proofs.Tables.Maps.{map_has, grown, none_of, more_in_bucket, still_spread, more_in_tree}
+use Rattle.aig_tables.proofs.Tables.Maps.{spread_in_tree}
 use Rattle.aig_tables.proofs.var_map.spread.Spread.insert.Goals as goal
 
 pub invariant_of-self : goal.invariant_of-self

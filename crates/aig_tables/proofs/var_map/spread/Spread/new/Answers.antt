@@ -1,5 +1,4 @@
-use Rattle.aig_tables.proofs.Tables.Maps.{nothing}
-use Rattle.aig_tables.proofs.Tables.Buckets.{none_spread}
+use Rattle.aig_tables.proofs.Tables.Maps.{nothing, none_spread}
 use Rattle.aig_tables.proofs.var_map.spread.Spread.new.Goals as goal
 
 pub returns : goal.returns

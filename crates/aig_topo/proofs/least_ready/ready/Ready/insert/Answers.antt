@@ -1,10 +1,8 @@
-use Rattle.std.proofs.Common.{rules}
-use Rattle.std.proofs.Common.{◌+◌, ◌-◌, ◌*◌, ap, sym, subst, arith, length, ◌<◌}
-use Rattle.std.proofs.Common.{true, List, ℕ, Some}
+use Rattle.std.proofs.Common.{◌+◌, ◌-◌, ◌*◌, ◌<◌, rules, ap, sym, subst, arith, length, true, List, ℕ, Some}
 use Rattle.aig_topo.specs.Ready.{Tree, IsReady, has, room}
 use Rattle.aig_topo.proofs.Ordering.Trees.{still_tree}
-use Rattle.aig_topo.proofs.Ordering.LeastApart.{written_back, same_ready, same_gates, gate_put, there_already, is_added}
-use Rattle.aig_topo.proofs.Ordering.LeastApart.{stays_ready}
+use Rattle.aig_topo.proofs.Ordering.Counted.{written_back, same_ready, same_gates, gate_put, there_already, is_added}
+use Rattle.aig_topo.proofs.Ordering.Counted.{stays_ready}
 use Rattle.aig_topo.proofs.least_ready.ready.Ready.insert.Goals as goal
 
 pub returns-in_default-clause-ready : goal.returns-in_default-clause-ready

@@ -1,9 +1,7 @@
 use Rattle.std.proofs.lemmas.Nat.Bits.{bit_at-zero}
-use Rattle.aig_topo.proofs.Ordering.Gates.{zeros}
-use Rattle.std.proofs.Common.{rules}
-use Rattle.std.proofs.Common.{arith}
+use Rattle.aig_topo.proofs.Ordering.Trees.{zeros, empty_tree}
+use Rattle.std.proofs.Common.{rules, arith}
 use Rattle.aig_topo.specs.Ready.{first_bit, has}
-use Rattle.aig_topo.proofs.Ordering.Trees.{empty_tree}
 use Rattle.aig_topo.proofs.least_ready.ready.Ready.new.Goals as goal
 
 pub loop-first-init : goal.loop-first-init

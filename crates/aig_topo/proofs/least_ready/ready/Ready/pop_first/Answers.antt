@@ -1,11 +1,7 @@
-use Rattle.std.proofs.lemmas.Bool.{eqb-true}
-use Rattle.std.proofs.lemmas.Bool.{or_cases}
-use Rattle.std.proofs.Common.{rules}
-use Rattle.std.proofs.Common.{arith, ℕ, List}
-use Rattle.std.proofs.lemmas.Bool.{eq-eqb}
+use Rattle.std.proofs.lemmas.Bool.{eqb-true, or_cases, eq-eqb}
+use Rattle.std.proofs.Common.{rules, arith, ℕ, List}
 use Rattle.aig_topo.specs.Ready.{has}
-use Rattle.aig_topo.proofs.Ordering.LeastApart.{written_back, same_ready, same_gates, others_stay}
-use Rattle.aig_topo.proofs.Ordering.LeastApart.{next_ready}
+use Rattle.aig_topo.proofs.Ordering.Counted.{written_back, same_ready, same_gates, others_stay, next_ready}
 use Rattle.aig_topo.proofs.least_ready.ready.Ready.pop_first.Goals as goal
 
 pub returns-in_err-least-clause-none : goal.returns-in_err-least-clause-none

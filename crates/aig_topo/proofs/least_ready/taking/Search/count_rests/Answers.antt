@@ -4,7 +4,7 @@ use Rattle.aig_topo.specs.declared.least_ready.taking.Search.{Search}
 use Rattle.aig_topo.specs.Order.{left_over}
 use Rattle.aig_topo.specs.Needs.{needs_at}
 use Rattle.aig_topo.specs.Waiting.{rest_by}
-use Rattle.aig_topo.proofs.Ordering.TakenLeast.{has_each}
+use Rattle.aig_topo.proofs.Ordering.LeastReady.{has_each}
 use Rattle.aig_topo.proofs.Ordering.Waiting.{left_is_counted}
 use Rattle.aig_topo.proofs.least_ready.taking.Search.count_rests.Goals as goal
 

@@ -1,5 +1,4 @@
-use Rattle.std.proofs.Common.{◌∙◌, ◌+◌, [], List, ℕ, sym, ap, subst, length, map, arith}
-use Rattle.std.specs.List.{sum}
+use Rattle.std.proofs.Common.{◌∙◌, ◌+◌, [], List, ℕ, sym, ap, subst, length, map, arith, sum}
 use Rattle.aig_topo.specs.declared.least_ready.taking.Search.{Search}
 use Rattle.aig_topo.specs.Order.{left_over, IsFull, TakesLeast}
 use Rattle.aig_topo.specs.Needs.{how_many, needs_at}

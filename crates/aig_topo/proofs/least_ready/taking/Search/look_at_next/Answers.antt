@@ -10,7 +10,7 @@ use Rattle.aig_topo.specs.Progress.{Progress}
 use Rattle.aig_topo.specs.Waiting.{needs_by, Stands}
 use Rattle.aig_topo.proofs.Ordering.Cyclic.{among_last}
 use Rattle.aig_topo.proofs.Ordering.Rows.{as_many_needs}
-use Rattle.aig_topo.proofs.Ordering.TakenLeast.{no_longer}
+use Rattle.aig_topo.proofs.Ordering.LeastReady.{no_longer}
 use Rattle.aig_topo.proofs.Ordering.Waiting.{search_of, rows_looked_at, rows_taken, still_lacks}
 use Rattle.aig_topo.proofs.least_ready.taking.Search.look_at_next.Goals as goal
 

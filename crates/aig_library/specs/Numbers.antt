@@ -1,0 +1,53 @@
+-- The numbers of include/aigtools.h (this project's interface for C), but those of the kinds, which `kind_of` has.
+use Rattle.std.specs.Prelude.{ℕ}
+
+-- how a call ended
+abbrev pub done : ℕ
+done = 0
+
+abbrev pub too_short : ℕ
+too_short = 1
+
+abbrev pub refused : ℕ
+refused = 2
+
+abbrev pub out_of_memory : ℕ
+out_of_memory = 3
+
+abbrev pub bad_options : ℕ
+bad_options = 4
+
+abbrev pub not_confirmed : ℕ
+not_confirmed = 5
+
+-- where an input is wrong
+abbrev pub whole : ℕ
+whole = 0
+
+abbrev pub line : ℕ
+line = 1
+
+abbrev pub gate : ℕ
+gate = 2
+
+abbrev pub map_line : ℕ
+map_line = 3
+
+-- the options, a bit each
+abbrev pub ascii : ℕ
+ascii = 1
+
+abbrev pub strip : ℕ
+strip = 2
+
+abbrev pub keep_map : ℕ
+keep_map = 4
+
+abbrev pub undo_map : ℕ
+undo_map = 8
+
+abbrev pub properties : ℕ
+properties = 16
+
+abbrev pub vcd : ℕ
+vcd = 32

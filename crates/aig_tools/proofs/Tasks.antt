@@ -1,0 +1,90 @@
+-- What is written where a simulation is done.
+use Rattle.std.proofs.Common.{◌≡◌, ℕ, List, Bool, true, false, Option, None, Some, Ok, MatchBool, ap, if◌then◌else◌, refl, ◌∙◌, ◌++◌}
+use Rattle.aig_io.specs.Devices.{Past, took}
+use Rattle.aig_io.specs.Runs.{All, AtEnd, Ending, Ran, Read, Taking}
+use Rattle.aig_io.proofs.Runs.{read_weaker}
+use Rattle.aig_circuit.specs.declared.circuit.Circuit.{Circuit}
+use Rattle.aig_command.specs.declared.request.Sim.{Sim}
+use Rattle.aig_step.specs.Outcome.{IsTraceUpTo}
+use Rattle.aig_step.specs.declared.trace.Columns.{Columns}
+use Rattle.aig_witness.specs.declared.verdict.Verdict.{Verdict}
+use Rattle.aig_claims.specs.RunDump.{JudgedWith, comment_line}
+use Rattle.aig_dump.specs.Dumped.{TraceSaysAs, meant}
+use Rattle.aig_dump.specs.InMemory.{JudgedRun}
+use Rattle.aig_wave.specs.Wave.{wave_text}
+use Rattle.aig_engines.specs.File.{IsFileOf}
+use Rattle.aig_engines.specs.Simulation.{IsDumpText, IsSimulationText, columns_of}
+use Rattle.aig_tools.specs.SimulationOutcome.{SimulationsWriteTheirTexts, TaskSays, task_of}
+use Rattle.aig_tools.specs.declared.task.Task.TheVariants as tasks
+
+-- whether as a batch or not, what is done is said alike
+traced : (batch : Bool) (c : Circuit) (columns : Columns) (bytes text : List ℕ) (ending : Ending) (taking : Taking)
+    → TraceSaysAs batch c columns (Ok tt) bytes ending text taking
+    → (ending ≡ AtEnd) × (taking ≡ All) × IsTraceUpTo c columns bytes true None text
+traced true c columns bytes text ending taking says = says
+traced false c columns bytes text ending taking says = says
+
+-- what is written, by whether a verdict or a dump is asked for
+by_task : (witness vcd : Bool) (request : Sim) (c : Circuit) (model bytes text : List ℕ) (ending : Ending)
+    (taking : Taking) → IsFileOf model request.max_var c
+    → TaskSays (if witness then (if vcd then tasks.RunDump else tasks.Verdict)
+    else (if vcd then tasks.Dump request.batch else tasks.Trace request.batch (columns_of request))) c (Ok None) bytes
+    ending text taking
+    → (ending ≡ AtEnd) × (taking ≡ All)
+    × MatchBool vcd (IsDumpText request model bytes text) (IsSimulationText request model bytes text)
+by_task true true request c model bytes text ending taking read says = absurd says
+by_task true false request c model bytes text ending taking read says = absurd says
+by_task false true request c model bytes text ending taking read (all, dump) =
+    let trace = traced request.batch c _ bytes dump.trace ending dump.taking dump.says in (
+      trace.0,
+      all,
+      record {
+        trace = dump.trace;
+        simulation = record {
+          found = c;
+          read = read;
+          none_bad = trace.2.first;
+          is_trace = trace.2.is_text;
+        };
+        is_dump = dump.is_dump ∙ ap (λ taking. wave_text c (meant dump.trace taking) true) trace.1;
+      },
+    )
+by_task false false request c model bytes text ending taking read says =
+    let trace = traced request.batch c _ bytes text ending taking says in
+    (trace.0, trace.1, record { found = c; read = read; none_bad = trace.2.first; is_trace = trace.2.is_text })
+
+pub simulations_write_their_texts : SimulationsWriteTheirTexts
+simulations_write_their_texts request = by_task request.witness request.vcd request
+
+-- where no witness file is judged, there is no verdict
+none_judged : (witness vcd : Bool) (request : Sim) (c : Circuit) (verdict : Verdict) (bytes text : List ℕ)
+    (ending : Ending) (taking : Taking) → witness ≡ false
+    → TaskSays (if witness then (if vcd then tasks.RunDump else tasks.Verdict)
+    else (if vcd then tasks.Dump request.batch else tasks.Trace request.batch (columns_of request))) c
+    (Ok (Some verdict)) bytes ending text taking → ⊥
+none_judged true vcd request c verdict bytes text ending taking none says = absurd cc
+none_judged false true request c verdict bytes text ending taking none says = says
+none_judged false false request c verdict bytes text ending taking none says = says
+
+pub unjudged : (request : Sim) (c : Circuit) (verdict : Option Verdict) (bytes : List ℕ) (ending : Ending)
+    (text : List ℕ) (taking : Taking) → request.witness ≡ false
+    → TaskSays (task_of request) c (Ok verdict) bytes ending text taking
+    → TaskSays (task_of request) c (Ok None) bytes ending text taking
+unjudged request c None bytes ending text taking none says = says
+unjudged request c (Some verdict) bytes ending text taking none says =
+    absurd (none_judged request.witness request.vcd request c verdict bytes text ending taking none says)
+
+-- the dump of a run behind the verdict
+pub judged_with : (c : Circuit) (verdict : Verdict) (bytes run : List ℕ) → JudgedRun c verdict bytes run
+    → JudgedWith c verdict bytes (comment_line verdict ++ run)
+judged_with c verdict bytes run (judged, is_run) =
+    record { judged = judged; is_dump = record { run = run; is_run = is_run; is_text = refl } }
+
+-- a source was read, and the sink took the text for it
+pub ran_whole : (P : List ℕ → Ending → List ℕ → Taking → Type 0) (Q : List ℕ → Ending → Type 0)
+    (source source_now sink sink_now : Past) (text : List ℕ)
+    → ((bytes : List ℕ) (ending : Ending) → Q bytes ending → P bytes ending text All)
+    → Read Q source source_now → sink_now ≡ took text sink → Ran P source source_now sink sink_now
+ran_whole P Q source source_now sink sink_now text say read all =
+    read_weaker Q _ source source_now
+    (λ bytes ending says. record { text = text; taking = All; says = say bytes ending says; sent = all }) read
