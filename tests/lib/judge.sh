@@ -52,7 +52,7 @@ finish() {
     local skips=
     [ "$skipped" = 0 ] || skips=", $skipped skipped"
     printf '%s passed, %s failed%s\n' "$passed" "$failed" "$skips"
-    [ "$failed" = 0 ] && [ "$passed" != 0 ]
+    [ "$failed" = 0 ] && [ "$((passed + skipped))" != 0 ]
     exit
 }
 
