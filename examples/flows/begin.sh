@@ -4,7 +4,7 @@
 # line on standard error tells, or the words of the tool that failed.
 set -Eeuo pipefail
 trap 'exit 2' ERR
-aiger=${AIGER:-aiger} abc=${ABC:-berkeley-abc}
+aiger=${AIGER:-aiger}
 
 fail() {
     echo "${0##*/}: $*" >&2
@@ -16,15 +16,6 @@ need() {
     local program missing=
     for program; do command -v "$program" > /dev/null || missing+=" $program"; done
     [ -z "$missing" ] || fail "not found:$missing"
-}
-
-# bad_states MODEL.aag: how many there are
-bad_states() {
-    local header
-    read -ra header < "$1"
-    [ $((${header[8]:-0} + ${header[9]:-0})) = 0 ] || fail 'justice and fairness are not checked'
-    [ "${header[6]:-0}" != 0 ] || fail 'there is no bad state, so no assertion, to check'
-    echo "${header[6]}"
 }
 
 # judge MODEL WITNESS: aiger's answer; status 1 is that of `not confirmed`, and of an error

@@ -8,7 +8,16 @@ here=$(dirname "$(readlink -f "${BASH_SOURCE[0]}")")
 . "$here/begin.sh"
 [ $# = 3 ] || fail 'usage: check.sh DESIGN.v TOP CLOCK'
 design=$1 top=$2 clock=$3 bound=50
+abc=${ABC:-berkeley-abc}
 need "$aiger" yosys "$abc"
+
+# bad_states MODEL.aag: whether there are any
+bad_states() {
+    local header
+    read -ra header < "$1"
+    [ $((${header[8]:-0} + ${header[9]:-0})) = 0 ] || fail 'justice and fairness are not checked'
+    [ "${header[6]:-0}" != 0 ] || fail 'there is no bad state, so no assertion, to check'
+}
 
 # What is x may be any value, and so may the first value of a register, which opt without -keepdc would choose. dffunmap
 # stands behind the last opt, which would bring enables back. AIGER has one clock: no register may have another one, or an
@@ -20,7 +29,7 @@ env -u ABC yosys -q -f 'verilog -formal' "$design" -p "$prepare; memory_map; opt
     select -assert-none @registers_by_another_clock; abc -g AND -fast; opt_clean;
     write_aiger -symbols -map design.map design.aig"
 "$aiger" aigtoaig --strip --ascii design.aig design.aag
-bad_states design.aag > /dev/null
+bad_states design.aag
 
 # bmc3 takes a latch without initial value for 0; &r has made such a latch start at the value of a new input
 awk -f "$here/folded.awk" design.aag | "$aiger" aigtoaig - folded.aig

@@ -24,10 +24,17 @@ no map
 map line N: bad line
 map counts differ
 map does not belong to this circuit""".split("\n")
-OF_USE = """justice or fairness cannot be unrolled
+OF_USE = """bad states are there already
+justice or fairness cannot be unrolled
 too large to unroll
+no bad states
+no bad state N
 line N: bad stimulus line
-line N: bad witness line""".split("\n")
+line N: bad witness line
+line N: bad answer line
+unsatisfiable
+unknown
+no bad state is reached""".split("\n")
 OF_DEVICES = ["cannot read", "cannot write"]
 NAMED = [*OF_FILES, *OF_MAPS, *OF_USE, *OF_DEVICES]
 # of memory and of arguments, without a name; and what clap refuses, in words of its own
@@ -35,10 +42,16 @@ OF_MEMORY = "out of memory"
 OF_ARGUMENTS = """--keep-map needs binary output
 --keep-map excludes --strip
 --keep-map excludes --undo-map
+--outputs-as-bad excludes --keep-map
+--outputs-as-bad excludes --undo-map
 model and stimulus are both standard input
 compressed output is not supported
 --witness stands alone
 --vcd excludes --properties
+--cnf excludes --ascii
+--answer excludes --cnf and --ascii
+--bad needs --cnf or --answer
+model and answer are both standard input
 an argument is not UTF-8 text""".split("\n")
 BY_CLAP = "error: .."
 ALL = [*NAMED, OF_MEMORY, *OF_ARGUMENTS, BY_CLAP]

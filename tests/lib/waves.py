@@ -85,16 +85,16 @@ def signals(made, names):
 
 def head(found):
     """The head of a dump of these signals."""
-    text = b"$version aiger $end\n$timescale 1 ns $end\n$scope module aiger $end\n$var integer 64 r run $end\n"
+    lines = [b"$version aiger $end\n$timescale 1 ns $end\n$scope module aiger $end\n$var integer 64 r run $end\n"]
     for kind in KINDS:
         of_kind = [it for it in found if it.kind == kind]
         if of_kind:
-            text += b"$scope module %s $end\n" % kind.scope.encode()
+            lines.append(b"$scope module %s $end\n" % kind.scope.encode())
             for it in of_kind:
                 code = f"{kind.letter}{it.first}".encode()
-                text += b"$var %s %d %s %s $end\n" % (kind.sort.encode(), it.size, code, it.words)
-            text += b"$upscope $end\n"
-    return text + b"$upscope $end\n$enddefinitions $end\n"
+                lines.append(b"$var %s %d %s %s $end\n" % (kind.sort.encode(), it.size, code, it.words))
+            lines.append(b"$upscope $end\n")
+    return b"".join([*lines, b"$upscope $end\n$enddefinitions $end\n"])
 
 
 def frames(made, lines):

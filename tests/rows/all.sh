@@ -4,7 +4,7 @@
 # \t is TAB, \0ooo is the byte ooo in octal). What is wanted was worked out by hand from docs/FORMAT.md. A row may have
 # files in the folder $work.
 
-for table in conversions traces waves witnesses unrolled; do . "${BASH_SOURCE[0]%/*}/$table.sh"; done
+for table in conversions traces waves witnesses unrolled answers; do . "${BASH_SOURCE[0]%/*}/$table.sh"; done
 
 rows() {
     rows_accepted
@@ -37,9 +37,11 @@ rows() {
     rows_undone
     rows_blocks
     rows_forged
+    rows_outputs_as_bad
     rows_traces
     rows_waves
     rows_witnesses
     rows_unrolled
+    rows_answers
     rows_words
 }

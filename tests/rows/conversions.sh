@@ -921,6 +921,33 @@ rows_forged() {
         'aig 5 2 0 0 3\n\x02\x02\x02\x04\x06\x02c\naigmap 1 5 2 0 3 0\n1\n2\n3 2 0\n4 0 0\n5 1 0\naigmap end\n' "$forged"
 }
 
+rows_outputs_as_bad() {
+    turns() { row "$1" "$2" "$3" '' 0 aigtoaig --outputs-as-bad --ascii; }
+    has_bad() { row "$1" "$2" '' 'aiger: -: bad states are there already\n' 1 aigtoaig --outputs-as-bad "${@:3}"; }
+    turns 'the output of a toggle as a bad state' 'aag 1 0 1 1 0\n2 3\n2\n' 'aag 1 0 1 0 0 1\n2 3\n2\n'
+    turns 'outputs as bad states, in their order' 'aag 3 2 0 4 1\n2\n4\n6\n1\n3\n6\n6 4 2\n' 'aag 3 2 0 0 1 4\n2\n4\n6\n1\n3\n6\n6 4 2\n'
+    turns 'no outputs to be bad states' 'aag 1 1 0 0 0\n2\ni0 o0\n' 'aag 1 1 0 0 0\n2\ni0 o0\n'
+    turns 'outputs as bad states, all else as it was' \
+        'aag 3 1 1 2 1 0 1 1 1\n2\n4 6 4\n6\n7\n4\n2\n3\n5\n5\n6 4 2\n' 'aag 3 1 1 0 1 2 1 1 1\n2\n4 6 4\n6\n7\n4\n2\n3\n5\n5\n6 4 2\n'
+    turns 'names of outputs as names of bad states, in any order' \
+        'aag 2 1 1 2 0 0 1\n2\n4 2\n2\n4\n3\no1 o0\nc0 o0 x\ni0 o\no0 b0 y\nl0 z\nc\no0 stays\n' \
+        'aag 2 1 1 0 0 2 1\n2\n4 2\n2\n4\n3\nb1 o0\nc0 o0 x\ni0 o\nb0 b0 y\nl0 z\nc\no0 stays\n'
+    turns 'an output without bytes for a name' 'aag 0 0 0 1 0\n1\no0 \nc\n' 'aag 0 0 0 0 0 1\n1\nb0 \nc\n'
+    turns 'outputs as bad states, from binary' 'aig 1 0 1 2 0\n3\n2\n3\no1 x\n' 'aag 1 0 1 0 0 2\n2 3\n2\n3\nb1 x\n'
+    row 'outputs as bad states, to binary' 'aag 9 1 0 1 0\n18\n19\no0 p\n' 'aig 1 1 0 0 0 1\n3\nb0 p\n' '' 0 aigtoaig --outputs-as-bad
+    row 'outputs as bad states of gates in any order' 'aag 5 2 0 1 3\n2\n4\n6\n6 10 2\n8 2 4\n10 4 2\nc\n' \
+        'aig 5 2 0 0 3 1\n10\n\x02\x02\x04\x02\x02\x06c\n' '' 0 aigtoaig --outputs-as-bad
+    row 'outputs as bad states, without names' 'aag 1 1 0 1 0\n2\n3\no0 p\nc\n' 'aag 1 1 0 0 0 1\n2\n3\n' '' 0 \
+        aigtoaig --strip --ascii --outputs-as-bad
+    row 'a block of a map as a comment where outputs are bad states' 'aig 1 1 0 1 0\n3\nc\naigmap 1 9 1 0 0 0\n9\naigmap end\n' \
+        'aig 1 1 0 0 0 1\n3\nc\naigmap 1 9 1 0 0 0\n9\naigmap end\n' '' 0 aigtoaig --outputs-as-bad
+    has_bad 'bad states beside outputs' 'aag 1 1 0 1 0 1\n2\n2\n3\n'
+    has_bad 'bad states and no outputs' 'aag 1 1 0 0 0 1\n2\n2\nb0 x\n' --ascii
+    has_bad 'bad states in binary, stripped' 'aig 1 1 0 1 0 2\n2\n2\n3\n' --strip
+    row 'a fault comes before bad states' 'aag 1 1 0 1 0 1\n2\n2\n4\n' '' 'aiger: -: line 4: literal out of range\n' 1 \
+        aigtoaig --outputs-as-bad
+}
+
 # what `aiger --help` prints
 help='Tools for circuits in the AIGER format
 
@@ -986,6 +1013,10 @@ rows_words() {
     unwanted 'a map kept in ASCII' '--keep-map needs binary output' aigtoaig --keep-map --ascii
     unwanted 'a map kept in a stripped file' '--keep-map excludes --strip' aigtoaig --strip --keep-map
     unwanted 'a map kept and undone' '--keep-map excludes --undo-map' aigtoaig --keep-map --undo-map
+    unwanted 'a map kept of outputs as bad states' '--outputs-as-bad excludes --keep-map' aigtoaig --outputs-as-bad --keep-map
+    unwanted 'a map undone to outputs as bad states' '--outputs-as-bad excludes --undo-map' aigtoaig --undo-map --outputs-as-bad
+    misused 'outputs as bad states twice' "the argument '--outputs-as-bad' cannot be used multiple times$every" \
+        aigtoaig --outputs-as-bad --outputs-as-bad
     unwanted 'a compressed destination' 'compressed output is not supported' aigtoaig - none/x.aig.gz
     row 'undone to ASCII, the words the other way round' "$image" "$undone" '' 0 aigtoaig --ascii --undo-map
     misused 'a map undone twice' "the argument '--undo-map' cannot be used multiple times$every" aigtoaig --undo-map --undo-map

@@ -31,6 +31,14 @@ EVERY_NAMES = b"b1 a\nc0 b\nj0 c\nf0 d\no0 e\nl1 f\ni0 g\nc\n"
 EVERY_IMAGE = b"aig 4 1 2 1 1 2 1 2 1\n3 1\n4 6\n8\n6\n7\n9\n2\n1\n3\n4\n8\n5\n\x02\x03"
 EVERY_MAPPED = EVERY_IMAGE + EVERY_NAMES + b"aigmap 1 9 1 2 1 1\n9\n2\n7\n3 0 1\naigmap end\nx"
 
+COMB = b"aag 3 2 0 0 1 2\n2\n4\n6\n7\n6 4 2\n"
+COMB_CLAUSES = b"p cnf 5 8\n-1 0\n-4 3 0\n-4 2 0\n4 -3 -2 0\n-5 -4 0\n-5 -1 0\n5 4 1 0\n5 0\n"
+KEPT = b"aag 3 2 1 0 0 1 1\n2\n4\n6 2 1\n6\n4\n"
+KEPT_CLAUSES = (
+    b"p cnf 9 14\n-1 0\n-6 3 0\n-6 -1 0\n6 -3 1 0\n-7 6 0\n-7 -1 0\n7 -6 1 0\n"
+    b"-8 6 0\n-8 5 0\n8 -6 -5 0\n-9 8 0\n-9 2 0\n9 -8 -2 0\n7 9 0\n"
+)
+
 DUMP = b"$version aiger $end\n$timescale 1 ns $end\n$scope module aiger $end\n$var integer 64 r run $end\n"
 TOGGLE_DUMP = (
     DUMP + b"$scope module latches $end\n$var reg 1 l0 l0 $end\n$upscope $end\n"
@@ -72,6 +80,13 @@ def simulated(name, words, model, steps, output):
     yield Row(f"{name}, the model by standard input", f"aigsim {words} - steps", model, output, {"steps": steps})
 
 
+def answered(name, words, model, answer, output):
+    """A solver's answer, once it and once the model by standard input. The model is read first."""
+    yield Row(name, f"aigunroll {words} model --answer -", answer, output, {"model": model})
+    words = f"aigunroll {words} - --answer answer"
+    yield Row(f"{name}, the model by standard input", words, model, output, {"answer": answer})
+
+
 ROWS = [
     Row("a half adder to binary", "aigtoaig", HALF, HALF_IMAGE),
     Row("a half adder to binary, stripped", "aigtoaig --strip", HALF, HALF_GATES),
@@ -99,6 +114,10 @@ ROWS = [
     *simulated("every section simulated", "--properties", EVERY, b"0\n1\n", b"1x 0 x 11 xx x\n11 1 0 01 10 1\n.\n"),
     *simulated("every section in a batch", "--batch --properties", EVERY_MAPPED, b".\n0\n", b".\n1x 0 x 11 xx x\n.\n"),
     *simulated("the dump of every section, in a batch", "--batch --vcd", EVERY_MAPPED, b".\n0\n", EVERY_DUMP),
+    Row("clauses", "aigunroll --frames 2 --cnf", KEPT, KEPT_CLAUSES),
+    Row("clauses of one bad state", "aigunroll --frames 1 --cnf --bad 1", COMB, COMB_CLAUSES),
+    *answered("an answer", "--frames 2", KEPT, b"c\ns SATISFIABLE\r\nv 2 -3\nv 3 0\n", b"1\nb0\n1\n11\n.\n"),
+    *answered("an answer for a bad state", "--frames 3 --bad 1", COMB, b"s SATISFIABLE\nv 2 0", b"1\nb1\n\n10\n.\n"),
     *simulated("every section and a witness", "--witness", EVERY, b"1\nb1\n1x\n1\n0\n.\n", b"not confirmed\n"),
 ]
 

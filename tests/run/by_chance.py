@@ -16,9 +16,9 @@ from pathlib import Path
 
 sys.dont_write_bytecode = True
 sys.path[0] = str(Path(__file__).resolve().parent.parent)
-from lib import batches, counts, images, traces, unrolled, waves, witnesses
+from lib import answers, batches, counts, images, traces, unrolled, waves, witnesses
 
-KINDS = {it.__name__.rpartition(".")[2]: it for it in (images, traces, batches, unrolled, witnesses, waves)}
+KINDS = {it.__name__.rpartition(".")[2]: it for it in (images, traces, batches, unrolled, witnesses, waves, answers)}
 
 
 def cases(program, folder, kinds, number):

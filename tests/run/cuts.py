@@ -3,12 +3,13 @@
 
     tests/run/cuts.py PROGRAM [NAME]     all files, or those that have NAME in their names
 
-The files are those of rows/small.py: circuits in ASCII and binary, with and without a map, stimuli and witnesses.
-What is refused as a circuit must be refused by all tools in the same words. What is accepted must have the image, the
-traces, the unrolled circuit and the answer to a witness that are worked out here from its ASCII text. A cut or
-changed stimulus must have the trace that is worked out here up to its first bad line, and nothing with --batch if
-there is one; a witness must have its answer, and its dump. Whatever comes, the status is 0, 1 or 2, a refusal is one
-line of a kind that is known, and with it nothing is sent but the trace before a bad line.
+The files are those of rows/small.py: circuits in ASCII and binary, with and without a map, stimuli, witnesses and
+solvers' answers. What is refused as a circuit must be refused by all tools in the same words. What is accepted must
+have the image, the traces, the unrolled circuit, its clauses, and the answer to a witness that are worked out here
+from its ASCII text. A cut or changed stimulus must have the trace that is worked out here up to its first bad line,
+and nothing with --batch if there is one; a witness must have its answer, and its dump; a solver's answer its witness.
+Whatever comes, the status is 0, 1 or 2, a refusal is one line of a kind that is known, and with it nothing is sent but
+the trace before a bad line.
 
 The last line is 'N passed, M failed', and counts files that were cut or changed.
 """
@@ -21,7 +22,7 @@ from pathlib import Path
 
 sys.dont_write_bytecode = True
 sys.path[0] = str(Path(__file__).resolve().parent.parent)
-from lib import counts, images, refusals, runs, unrolled, waves, witnesses
+from lib import answers, counts, images, refusals, runs, unrolled, waves, witnesses
 from lib.soak import calls, generators, oracles
 from rows import small
 
@@ -53,6 +54,11 @@ STIMULI = {
 WITNESSES = {
     "a witness of a toggle": (small.BAD, b"1\nb0\n0\n\n\n.\n"),
     "a witness of every section": (small.EVERY, b"1\nb1\n1x\n1\n0\n.\n"),
+}
+ANSWERS = {
+    "a solver's answer": (small.KEPT, b"c\ns SATISFIABLE\r\nv 2 -3\n\nv  13 3 0 \ncv"),
+    "an answer without a run": (small.BAD, b"s UNSATISFIABLE\nc"),
+    "an answer of nothing": (small.BAD, b"c\r\ns UNKNOWN"),
 }
 
 
@@ -91,7 +97,7 @@ class Judge:
         undoing, unrolling = "aigtoaig --undo-map --ascii", f"aigunroll --frames {FRAMES}"
         if status:
             simulations = ["aigsim - steps", "aigsim --batch --properties - steps", "aigsim --witness - witness"]
-            for words in ("aigtoaig --keep-map", undoing, unrolling, *simulations):
+            for words in ("aigtoaig --keep-map", undoing, unrolling, f"{unrolling} --cnf", *simulations):
                 self.expect(words, text, b"", errors, 1)
             return
         made, end = generators.parsed(canonical)
@@ -105,6 +111,7 @@ class Judge:
         for words in ("", "--batch --properties ", "--vcd "):
             self.expect(f"aigsim {words}- steps", text, *oracles.wanted_trace(made, names, "steps", STEPS, words))
         self.expect("aigsim --witness - witness", text, *witnesses.wanted(made, "witness", WITNESS.decode()))
+        self.expect(f"{unrolling} --cnf", text, *answers.wanted_clauses(made, FRAMES, None))
         if made.justice or made.fairness:
             self.expect(unrolling, text, b"", b"aiger: -: justice or fairness cannot be unrolled\n", 1)
         else:
@@ -124,6 +131,14 @@ class Judge:
         self.expect("aigsim --witness model", text, *witnesses.wanted(made, "-", text.decode("latin-1")))
         wanted = waves.wanted_of_run(made, {}, "-", text.decode("latin-1"))
         self.expect("aigsim --witness --vcd model", text, *wanted)
+
+
+    def answer(self, text, model):
+        """The witness that a solver's answer gives."""
+        self.runner.put("model", model)
+        made, _ = generators.parsed(self.ask("aigtoaig --ascii", model)[0])
+        wanted = answers.wanted(made, FRAMES, None, "-", text)
+        self.expect(f"aigunroll --frames {FRAMES} model --answer -", text, *wanted)
 
 
 def edits(text, place):
@@ -150,7 +165,7 @@ def tasks():
     """The name of each file, how it is judged, its text and what stands beside it."""
     for name, text in CIRCUITS.items():
         yield name, "circuit", text, b""
-    for how, files in (("stimulus", STIMULI), ("witness", WITNESSES)):
+    for how, files in (("stimulus", STIMULI), ("witness", WITNESSES), ("answer", ANSWERS)):
         for name, (model, text) in files.items():
             yield name, how, text, model
 

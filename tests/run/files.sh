@@ -119,6 +119,7 @@ refused_by 'no map' 'aig 0 0 0 0 0\n' --undo-map
 refused_by 'map line 1: bad line' 'aig 0 0 0 0 0\nc\naigmap 2\n' --undo-map
 refused_by 'map counts differ' 'aig 0 0 0 0 0\nc\naigmap 1 1 1 0 0 0\n1\naigmap end\n' --undo-map
 refused_by 'map does not belong to this circuit' 'aig 0 0 0 0 0\nc\naigmap 1 0 0 0 0 0\naigmap end\nx' --undo-map
+refused_by 'bad states are there already' 'aag 0 0 0 1 0 1\n0\n0\n' --outputs-as-bad
 cd "$top" || exit
 
 # --- files that cannot be read or written ---
@@ -362,6 +363,70 @@ made 'all streams closed, and two files to unroll' "$files/u.aig" streams_closed
 wants 'rest\n' '' 0
 check 'standard input is left alone where a file to unroll is named' eval 'unroll 2 "$held" "$files/u.aig" && cat' <<< 'rest'
 
+# --- clauses, and the witness in a solver's answer ---
+answered=$files/answered.aag
+clauses() { unroll 2 --cnf "$@"; }
+witness() { unroll 2 --answer "$@"; }
+printf 'aag 1 0 1 0 0 1\n2 3\n2\nc\nx' > "$answered"
+printf 'p cnf 3 8\n-1 0\n-2 -1 0\n-2 1 0\n2 1 -1 0\n-3 -1 0\n-3 -1 0\n3 1 1 0\n2 3 0\n' > "$work/clauses"
+printf '1\nb0\n0\n\n\n.\n' > "$work/run"
+printf 's SATISFIABLE\nv 0\n' > "$files/answer"
+printf 's UNSATISFIABLE\n' > "$files/unsatisfiable"
+printf 's UNKNOWN\n' > "$files/unknown"
+cp "$work/clauses" "$work/want_file"
+made 'clauses to a file' "$files/c.cnf" clauses "$answered" "$files/c.cnf"
+made 'clauses from standard input to a file in .aag' "$files/c.aag" clauses - "$files/c.aag" < "$answered"
+cp "$answered" "$files/same.aag"
+made 'a file as source and destination, of clauses' "$files/same.aag" clauses "$files/same.aag" "$files/same.aag"
+cp "$work/run" "$work/want_file"
+made 'a witness to a file' "$files/w" witness "$files/answer" "$answered" "$files/w"
+made 'a witness to a file in .aag' "$files/w.aag" witness - "$answered" "$files/w.aag" < "$files/answer"
+made 'a witness to a file, the model by standard input' "$files/w" witness "$files/answer" - "$files/w" < "$answered"
+cp "$files/answer" "$files/same"
+made 'a file as answer and destination' "$files/same" witness "$files/same" "$answered" "$files/same"
+cp "$answered" "$files/same"
+made 'a file as model and destination' "$files/same" witness "$files/answer" "$files/same" "$files/same"
+made 'all streams closed, and a witness to a file' "$files/w" streams_closed witness "$files/answer" "$answered" "$files/w"
+wants 'rest\n' '' 0
+check 'standard input is left alone where model and answer are named' \
+    eval 'witness "$files/answer" "$answered" "$files/w" && cat' <<< 'rest'
+
+# no_witness NAME MESSAGE WORD..: a destination that is there is left alone, and no new one is made
+no_witness() {
+    local name=$1
+    wants '' "aiger: $2\n" 1
+    shift 2
+    untouched "$name" "$files/w" "$@" "$files/w"
+    rm -f "$files/none.aig"
+    check "$name, and a new file" "$@" "$files/none.aig"
+    check "$name, and a folder that is not there" "$@" "$files/none/w"
+    if [ ! -e "$files/none.aig" ]; then pass; else fail "$name: no file is made"; fi
+}
+no_witness 'clauses without bad states' "$held: no bad states" clauses "$held"
+no_witness 'clauses of a bad state that there is not' "$answered: no bad state 7" clauses --bad 7 "$answered"
+no_witness 'clauses of justice or fairness' "$files/live.aag: justice or fairness cannot be unrolled" clauses "$files/live.aag"
+no_witness 'an unsatisfiable answer' "$files/unsatisfiable: unsatisfiable" witness "$files/unsatisfiable" "$answered"
+no_witness 'an unknown answer' "$files/unknown: unknown" witness "$files/unknown" "$answered"
+no_witness 'a bad answer' "$answered: line 1: bad answer line" witness "$answered" "$answered"
+no_witness 'an answer that reaches nothing' "$files/answer: no bad state is reached" \
+    unroll 1 --answer "$files/answer" "$answered"
+no_witness 'an answer that is not there' "$files/none.ans: cannot read" witness "$files/none.ans" "$answered"
+no_witness 'a refused model of an answer that is not there' "$held: no bad states" witness "$files/none.ans" "$held"
+# cannot_write_both NAME FILE: neither clauses nor a witness
+cannot_write_both() {
+    wants '' "aiger: $2: cannot write\n" 1
+    check "$1 for clauses" clauses "$answered" "$2"
+    check "$1 for a witness" witness "$files/answer" "$answered" "$2"
+}
+cannot_write_both 'a folder' "$files"
+cannot_write_both 'an empty name' ''
+cannot_write_both 'a full device' /dev/full
+if [ -e "$work/fail_sync.so" ]; then
+    wants '' "aiger: $files/w: cannot write\n" 1
+    check 'clauses that are not kept' eval 'LD_PRELOAD=$work/fail_sync.so clauses "$answered" "$files/w"'
+    check 'a witness that is not kept' eval 'LD_PRELOAD=$work/fail_sync.so witness "$files/answer" "$answered" "$files/w"'
+fi
+
 # --- pipes with names ---
 mkfifo "$files/pipe"
 cat "$source" > "$files/pipe" &
@@ -397,6 +462,13 @@ wants '' '' 0
 check 'pipes as source and destination, to unroll' unroll 2 "$files/model_pipe" "$files/pipe"
 wait
 if cmp -s "$work/through" "$work/binary_frames"; then pass; else fail 'what came unrolled through the pipe'; fi
+cat "$answered" > "$files/model_pipe" &
+cat "$files/answer" > "$files/pipe" &
+wants '1\nb0\n0\n\n\n.\n' '' 0
+check 'pipes as model and as answer' witness "$files/pipe" "$files/model_pipe"
+wait
+wants '' "aiger: $held: no bad states\n" 1
+check 'no answer is waited for where a model is refused' timeout 10 "$program" aigunroll --frames 2 --answer "$files/pipe" "$held"
 
 # --- names that look like options, and many or long arguments ---
 cd "$files" || exit
@@ -429,6 +501,12 @@ refused 'no frames at all' '0 is not in 1..=1000000' aigunroll --frames 0
 refused 'too many frames' '1000001 is not in 1..=1000000' aigunroll --frames 1000001
 refused 'three names to unroll' 'c' aigunroll --frames 1 a b c
 refused 'an option that unrolling does not have' '--properties' aigunroll --frames 1 --properties
+refused 'clauses in ASCII' 'aiger: --cnf excludes --ascii' aigunroll --frames 2 --cnf --ascii
+refused 'clauses of an answer' 'aiger: --answer excludes --cnf and --ascii' aigunroll --frames 2 --answer a --cnf
+refused 'a bad state alone' 'aiger: --bad needs --cnf or --answer' aigunroll --frames 2 --bad 0
+refused 'one stream for model and answer' 'aiger: model and answer are both standard input' aigunroll --frames 2 --answer -
+refused 'a bad state above the largest' '2147483648 is not in 0..=2147483647' aigunroll --frames 2 --cnf --bad 2147483648
+refused 'a compressed witness' 'aiger: compressed output is not supported' aigunroll --frames 1 --answer a b x.gz
 refused 'no subcommand' 'aigtoaig'
 refused 'an unknown subcommand' 'aigsom' aigsom
 refused 'no help as a subcommand' 'help' help
@@ -437,6 +515,8 @@ refused 'a map in ASCII' 'aiger: --keep-map needs binary output' aigtoaig --keep
 refused 'a map to a name that ends in .aag' 'aiger: --keep-map needs binary output' aigtoaig --keep-map - "$files/b.aag"
 refused 'a map of a stripped circuit' 'aiger: --keep-map excludes --strip' aigtoaig --keep-map --strip --undo-map
 refused 'a map kept and undone' 'aiger: --keep-map excludes --undo-map' aigtoaig --keep-map --undo-map
+refused 'a map of outputs as bad states' 'aiger: --outputs-as-bad excludes --keep-map' aigtoaig --outputs-as-bad --keep-map
+refused 'a map undone to outputs as bad states' 'aiger: --outputs-as-bad excludes --undo-map' aigtoaig --undo-map --outputs-as-bad
 refused 'one stream for model and stimulus' 'aiger: model and stimulus are both standard input' aigsim -
 refused 'a compressed destination' 'aiger: compressed output is not supported' aigtoaig - x.aig.gz
 refused 'a compressed destination to unroll to' 'aiger: compressed output is not supported' aigunroll --frames 1 - x.aag.gz
@@ -458,8 +538,8 @@ helps 'help of aigtoaig' aigtoaig --help
 grep '^  aiger aigtoaig ' "$work/out" | sed 's/^  aiger/"$program"/; s/   .*//' > "$work/examples"
 cp "$source" "$files/model.aag"
 ran=$(cd "$files" && set -e && . "$work/examples" 2>&1 && echo all)
-if [ "$ran" = all ] && [ "$(wc -l < "$work/examples")" = 4 ] && grep -aq '^aigmap 1 ' "$files/image.aig" &&
-    cmp -s "$files/model.aig" "$work/binary" && cmp -s "$files/again.aag" "$files/model.aag"; then pass; else
+if [ "$ran" = all ] && [ "$(wc -l < "$work/examples")" = 5 ] && grep -aq '^aigmap 1 ' "$files/image.aig" &&
+    grep -q '^aag 5 2 0 0 3 2$' "$files/bad.aag" && cmp -s "$files/model.aig" "$work/binary" && cmp -s "$files/again.aag" "$files/model.aag"; then pass; else
     fail 'the examples of help run' "came   $ran, of" "$(cat "$work/examples")"
 fi
 helps 'help of aigsim' aigsim --help
@@ -476,13 +556,17 @@ if grep -q '^$comment confirmed 0 $end$' "$files/w.vcd"; then pass; else
     fail 'the example of help of aigsim writes the waveform of a witness'
 fi
 helps 'help of aigunroll' aigunroll --help
-# its examples too; the half adder has no latches, so each frame is a copy of it
+# its examples too; the half adder has no latches, so each frame is a copy of it. In the place of the solver is one that knows
+# how its carry is 1 in the first frame.
 grep '^  aiger aigunroll ' "$work/out" | sed 's/^  aiger/"$program"/; s/   .*//' > "$work/examples"
+aig "$files/model.aag" "$files/model.aig"
 unroll 20 "$files/model.aig" > "$work/want_file"
 unroll 2 "$files/model.aag" --ascii > "$work/frames"
+cadical() { cmp - model.cnf && printf 's SATISFIABLE\nv 2 3 0\n'; }
 ran=$(cd "$files" && set -e && . "$work/examples" 2>&1 && echo all)
-if [ "$ran" = all ] && [ "$(wc -l < "$work/examples")" = 3 ] && cmp -s "$files/long.aig" "$work/want_file" &&
-    cmp -s "$files/out" "$work/want_file" && cmp -s "$files/two.aag" "$work/frames"; then pass; else
+if [ "$ran" = all ] && [ "$(wc -l < "$work/examples")" = 6 ] && cmp -s "$files/long.aig" "$work/want_file" &&
+    cmp -s "$files/out" "$work/want_file" && cmp -s "$files/two.aag" "$work/frames" &&
+    [ "$(sim --witness "$files/model.aig" "$files/witness.txt")" = 'confirmed 0' ]; then pass; else
     fail 'the examples of help of aigunroll run' "came   $ran, of" "$(cat "$work/examples")"
 fi
 # the manual page has the same options

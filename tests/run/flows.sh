@@ -1,6 +1,7 @@
 #!/usr/bin/env bash
-# The scripts of examples/flows: from Verilog by Yosys and ABC to a witness that is confirmed, and each way in which that ends
-# otherwise. Where Yosys or ABC is not installed, what needs them counts as skipped.
+# The scripts of examples/flows: from Verilog by Yosys and ABC, or from a model by a SAT solver, to a witness that is confirmed,
+# and each way in which that ends otherwise. Both must find the same least step, for designs and for models made by chance.
+# Where Yosys, ABC or each solver is not installed, what needs them counts as skipped.
 #
 #     tests/run/flows.sh
 . "$(dirname "${BASH_SOURCE[0]}")/../lib/judge.sh"
@@ -21,25 +22,36 @@ flow() {
 
 # --- what needs neither Yosys nor ABC ---
 flow 'no words for check.sh' '2 check.sh: usage: check.sh DESIGN.v TOP CLOCK ' "$flows/check.sh"
-flow 'no words for check_unrolled.sh' '2 check_unrolled.sh: usage: check_unrolled.sh MODEL.aig STEPS ' "$flows/check_unrolled.sh"
+flow 'no words for check_unrolled.sh' '2 check_unrolled.sh: usage: check_unrolled.sh MODEL.aig STEPS [[]RUN.vcd] ' \
+    "$flows/check_unrolled.sh"
 for tool in bash dirname readlink; do ln -s "$(command -v $tool)" "$work/few"; done
 flow 'no program is there' '2 check.sh: not found: aiger yosys berkeley-abc ' \
     AIGER= PATH="$work/few" "$flows/check.sh" "$flows/queue.v" queue clk
-flow 'no program is there to unroll' '2 check_unrolled.sh: not found: aiger berkeley-abc ' \
+flow 'no program is there to unroll' '2 check_unrolled.sh: not found: aiger cadical ' \
     AIGER= PATH="$work/few" "$flows/check_unrolled.sh" model.aig 3
+flow 'the solver is not there' '2 check_unrolled.sh: not found: kissat ' \
+    SOLVER=kissat PATH="$work/few" "$flows/check_unrolled.sh" model.aig 3
 flow 'one program is not there' '2 check.sh: not found: yosys ' \
     ABC="$work/few/bash" PATH="$work/few" "$flows/check.sh" "$flows/queue.v" queue clk
 
-# in the place of ABC: it says what it is told to, and gives a counterexample if it is told one
+# in the place of ABC or a solver: it says what it is told to, and gives ABC's counterexample if it is told one
 cat > "$work/solver" << 'SOLVER'
 #!/usr/bin/env bash
 echo "$SAYS"
 [ -z "${GIVES+x}" ] || echo "$GIVES" > counterexample
+exit "${ENDS:-0}"
 SOLVER
-# in the place of aiger: it fails at one command
+# in the place of MiniSat: it says so, and gives a result if it is told one
+cat > "$work/minisat" << 'MINISAT'
+#!/usr/bin/env bash
+echo SATISFIABLE
+[ -z "${GIVES+x}" ] || echo "$GIVES" > "$2"
+exit "${ENDS:-0}"
+MINISAT
+# in the place of aiger: it fails where it has this word, and says this
 cat > "$work/failing" << 'FAILING'
 #!/usr/bin/env bash
-[ "$1" != "$FAILS" ] || exit 1
+case " $* " in *" $FAILS "*) [ -z "${WITH-}" ] || echo "$WITH"; exit 1 ;; esac
 exec "$PROGRAM" "$@"
 FAILING
 # in the place of Yosys: it does not replay
@@ -48,34 +60,62 @@ cat > "$work/replay/yosys" << 'REPLAY'
 #!/usr/bin/env bash
 case "$*" in *'sim -q'*) exec "$SIM" ;; *) exec "$YOSYS" "$@" ;; esac
 REPLAY
-chmod +x "$work/solver" "$work/failing" "$work/replay/yosys"
+chmod +x "$work/solver" "$work/minisat" "$work/failing" "$work/replay/yosys"
 printf 'aag 1 1 0 0 0 1\n2\n2\n' > "$place/input.aag"
 printf 'aag 1 1 0 1 0\n2\n2\n' > "$place/output.aag"
 printf 'aag 1 1 0 0 0 1 0 1\n2\n2\n1\n2\n' > "$place/justice.aag"
 
-# unrolls NAME WANTED WORD..: the input as bad state for 3 steps, by the solver, with these words of env
-unrolls() { flow "$1" "$2" ABC="$work/solver" "${@:3}" "$flows/check_unrolled.sh" input.aag 3; }
-unrolls 'the solver finds none' '0 no counterexample of at most 3 steps ' SAYS=UNSATISFIABLE
-unrolls 'the solver finds one' '1 b0: confirmed 2 ' SAYS='SATISFIABLE  Time = 0' GIVES=' 0 0 1'
-# the last row's file is there
-unrolls 'the solver gives no counterexample' '2 *counterexample*' SAYS=SATISFIABLE
-unrolls 'the solver gives a wrong one' "2 b0: not confirmed check_unrolled.sh: ABC's counterexample is wrong: see abc.log " \
-    SAYS=SATISFIABLE GIVES='0 0 0'
-unrolls 'the solver gives one that is too short' '2 aiger: b0.aiw: line 5: bad witness line ' SAYS=SATISFIABLE GIVES=0
-for said in '' UNDECIDED 'Error: SATISFIABLE'; do
-    unrolls "the solver says '$said'" "2 check_unrolled.sh: ABC's answer is not understood: see abc.log " SAYS="$said"
+# unrolls NAME WANTED WORD..: the input as bad state for 3 steps, by the solver, with these words of env; unrolls_by_minisat
+unrolls() { flow "$1" "$2" SOLVER="$work/solver" "${@:3}" "$flows/check_unrolled.sh" input.aag 3; }
+unrolls_by_minisat() { flow "$1" "$2" SOLVER="$work/minisat" "${@:3}" "$flows/check_unrolled.sh" input.aag 3; }
+none='0 no counterexample of at most 3 steps ' said="2 check_unrolled.sh: the answer of $work/solver:"
+unrolls 'the solver finds none' "$none" SAYS='s UNSATISFIABLE' ENDS=20
+unrolls 'the solver finds one' '1 b0: confirmed 2 ' SAYS=$'c a solver\ns SATISFIABLE\nv -1 -2 -3 4\nv 0' ENDS=10
+unrolls 'the solver ends with status 0' '1 b0: confirmed 2 ' SAYS=$'s SATISFIABLE\nv 4 0'
+# the files of the last row are there
+unrolls 'the solver gives a wrong one' "$said no bad state is reached " SAYS=$'s SATISFIABLE\nv -4 0' ENDS=10
+unrolls 'the solver gives no values' "$said line 2: bad answer line " SAYS='s SATISFIABLE' ENDS=10
+unrolls 'the solver does not know' "$said unknown " SAYS='s UNKNOWN'
+for words in UNSATISFIABLE 's UNSATISFIABLE.' 'Error: s UNSATISFIABLE' UNSAT $'SAT\n4 0'; do
+    unrolls "the solver says '$words'" "$said line 1: bad answer line " SAYS="$words" ENDS=20
 done
-unrolls 'the solver fails' '2 check_unrolled.sh: ABC failed: see abc.log ' ABC=false
-for command in aigtoaig aigunroll aigsim; do
-    unrolls "aiger fails at $command" '2  ' SAYS=SATISFIABLE GIVES='0 0 1' \
-        AIGER="$work/failing" PROGRAM="$program" FAILS=$command
-done
+unrolls 'the solver says nothing' "$said line 2: bad answer line " SAYS= ENDS=20
+broken="check_unrolled.sh: $work/solver failed: see solver.log"
+unrolls 'the solver fails' '2 check_unrolled.sh: false failed: see solver.log ' SOLVER=false
+unrolls 'the solver fails behind its answer' "2 $broken " SAYS='s UNSATISFIABLE' ENDS=1
+unrolls 'the solver is ended behind its answer' "2 $broken " SAYS=$'s SATISFIABLE\nv 4 0' ENDS=137
+unrolls_by_minisat 'MiniSat finds none' "$none" GIVES=UNSAT ENDS=20
+unrolls_by_minisat 'MiniSat finds one' '1 b0: confirmed 2 ' GIVES=$'SAT\n-1 -2 -3 4 0' ENDS=10
+said="2 check_unrolled.sh: the answer of $work/minisat:"
+# no result, beside that of the last row
+unrolls_by_minisat 'MiniSat gives nothing' "$said cannot read " ENDS=20
+unrolls_by_minisat 'MiniSat gives a wrong one' "$said no bad state is reached " GIVES=$'SAT\n-1 -2 -3 -4 0' ENDS=10
+unrolls_by_minisat 'MiniSat does not know' "$said unknown " GIVES=INDET
+unrolls_by_minisat 'MiniSat gives no values' "$said line 2: bad answer line " GIVES=SAT ENDS=10
+unrolls_by_minisat 'MiniSat gives something else' "$said line 1: bad answer line " GIVES='UNSAT or SAT' ENDS=10
+unrolls_by_minisat 'MiniSat fails' "2 check_unrolled.sh: $work/minisat failed: see solver.log " GIVES=UNSAT ENDS=3
+# aiger_fails NAME WANTED WORD WORD..: where it has this word, with these words of env
+aiger_fails() {
+    unrolls "$1" "$2" SAYS=$'s SATISFIABLE\nv 4 0' AIGER="$work/failing" PROGRAM="$program" FAILS="$3" "${@:4}"
+}
+aiger_fails 'aiger fails at the clauses' '2  ' --cnf
+aiger_fails 'aiger fails at the answer' '2 check_unrolled.sh: aiger failed:  ' --answer
+aiger_fails 'aiger fails at the witness' '2  ' aigsim
+aiger_fails 'aiger does not confirm it' '2 b0: not confirmed check_unrolled.sh: the witness is wrong: see run.aiw ' \
+    aigsim WITH='not confirmed'
+aiger_fails 'aiger says another thing' '2  ' aigsim WITH='confirmed'
 # refused NAME WANTED MODEL STEPS
-refused() { flow "$1" "2 $2" ABC="$work/solver" SAYS=UNSATISFIABLE "$flows/check_unrolled.sh" "$3" "$4"; }
+refused() { flow "$1" "2 $2" SOLVER="$work/solver" SAYS='s UNSATISFIABLE' "$flows/check_unrolled.sh" "$3" "$4"; }
 refused 'a model that is not there' 'aiger: none.aig: cannot read ' none.aig 3
 refused 'no step' "error: invalid value '0' *" input.aag 0
-refused 'a model with an output alone' 'check_unrolled.sh: there is no bad state, so no assertion, to check ' output.aag 3
-refused 'a model with justice' 'check_unrolled.sh: justice and fairness are not checked ' justice.aag 3
+refused 'a model with an output alone' 'aiger: output.aag: no bad states ' output.aag 3
+refused 'a model with justice' 'aiger: justice.aag: justice or fairness cannot be unrolled ' justice.aag 3
+refused 'a file in the place of a model' 'aiger: clauses.cnf: line 1: not an AIGER file ' clauses.cnf 3
+flow 'the run as a waveform' '1 b0: confirmed 2 ' SOLVER="$work/solver" SAYS=$'s SATISFIABLE\nv 4 0' \
+    "$flows/check_unrolled.sh" input.aag 3 'the run.vcd'
+if [ "$(head -n 1 "$place/the run.vcd")" = '$comment confirmed 2 $end' ]; then pass; else
+    fail 'the waveform is that of the run' "came   $(head -n 1 "$place/the run.vcd")"
+fi
 
 # Old and new literals of a mapped file: gates in another order, so that the image has its three variables after 12 exchanged.
 "$program" aigtoaig --keep-map "$top/examples/lock.aag" "$work/mapped.aig"
@@ -86,24 +126,38 @@ else
     fail 'old and new literals of lock.aag' "came '$came'"
 fi
 
-# --- what needs both ---
+# --- what needs them ---
+# the solvers that are there, which take turns
+solvers=()
+for tool in cadical kissat minisat picosat; do ! command -v "$tool" > /dev/null || solvers+=("$tool"); done
+turns=0
+# by_solver NAME WANTED WORD..: a flow by the next solver
+by_solver() {
+    local solver=${solvers[turns++ % ${#solvers[@]}]}
+    flow "$1, by $solver" "$2" SOLVER="$solver" "${@:3}"
+}
 design() { flow "$1" "$2" "$flows/check.sh" "$top/tests/flows/$1.v" "$1" clk; }
 # unrolled NAME STEPS WANTED [MODEL]: by default the model that check.sh has just written
-unrolled() { flow "$1, unrolled for $2 steps" "$3" "$flows/check_unrolled.sh" "${4:-design.aig}" "$2"; }
-# fails DESIGN STEP UNROLLED: by check.sh in this step, and what is said of it over 7 steps
+unrolled() { by_solver "$1, unrolled for $2 steps" "$3" "$flows/check_unrolled.sh" "${4:-design.aig}" "$2"; }
+# least NAME STEP [BAD [MODEL]]: a bad state, or this one, is reached in this step, and none before
+least() {
+    unrolled "$1" $(($2 + 1)) "1 b${3:-[0-9]}: confirmed $2 " "${4-}"
+    [ "$2" = 0 ] || unrolled "$1" "$2" "0 no counterexample of at most $2 steps " "${4-}"
+}
+# fails DESIGN STEP [BAD]: by check.sh in this step, which is the least
 fails() {
     design "$1" "1 *confirmed $2 Warning: Assert $1. "
-    unrolled "$1" 7 "1 $3"
+    least "$@"
 }
 # holds DESIGN: within both bounds
 holds() {
     design "$1" '0 no counterexample of at most 50 steps '
     unrolled "$1" 7 '0 no counterexample of at most 7 steps '
 }
-# says_nothing DESIGN WORDS
+# says_nothing DESIGN WORDS WORDS: of check.sh, and of aiger
 says_nothing() {
     design "$1" "2 check.sh: $2 "
-    unrolled "$1" 7 "2 check_unrolled.sh: $2 "
+    unrolled "$1" 7 "2 aiger: design.aig: $3 "
 }
 
 # bad_from BAD TIME: the waveform that check.sh has just written, in which this bad state is 1 from this time on
@@ -116,50 +170,83 @@ bad_from() {
 flows_of_examples() {
     flow 'a bug of the queue is found' '1 confirmed 5 Warning: Assert queue. ' "$flows/check.sh" "$flows/queue.v" queue clk
     bad_from 0 5
-    unrolled 'the queue' 6 '1 b0: confirmed 5 b1: not confirmed '
-    unrolled 'the queue' 5 '0 no counterexample of at most 5 steps '
+    least 'the queue' 5 0
     flow 'a bug of the arbiter is found' '1 confirmed 6 Warning: Assert arbiter. ' \
         "$flows/check.sh" "$flows/arbiter.v" arbiter clk
     bad_from 1 6
-    unrolled 'the arbiter' 7 '1 b0: not confirmed b1: confirmed 6 '
+    least 'the arbiter' 6 1
     flow 'the commands of examples/flows/README.md print what stands there' '0 [1-9]* passed, 0 failed ' \
         "$top/tests/run/readme.py" "$program" "$flows/README.md"
 }
 
 designs_that_fail() {
-    fails combinational 0 'b0: confirmed [0-6] '
-    fails no_ports 0 'b0: confirmed 0 '
-    fails uninitialised 0 'b0: confirmed 0 '
-    fails kept 2 'b0: confirmed 2 '
-    fails undefined 2 'b0: confirmed [26] '
-    fails asynchronous 4 'b0: confirmed [456] '
-    fails no_input 5 'b0: confirmed 5 '
-    fails outputs 3 'b0: confirmed [3-6] '
-    fails constrained 4 'b0: confirmed [4-6] '
-    fails starts_at_1 4 'b0: confirmed [4-6] '
-    fails parts 4 'b0: confirmed [4-6] '
-    fails second 4 'b0: not confirmed b1: confirmed [4-6] b2: not confirmed '
+    fails combinational 0
+    fails no_ports 0
+    fails uninitialised 0
+    fails kept 2
+    fails undefined 2
+    fails asynchronous 4
+    fails no_input 5
+    fails outputs 3
+    fails constrained 4
+    fails starts_at_1 4
+    fails parts 4
+    fails second 4 1
 }
 
 other_designs() {
     holds safe
     holds safe_assumed
     holds contradictory
-    says_nothing no_assertion 'there is no bad state, so no assertion, to check'
-    says_nothing in_time 'justice and fairness are not checked'
+    says_nothing no_assertion 'there is no bad state, so no assertion, to check' 'no bad states'
+    says_nothing in_time 'justice and fairness are not checked' 'justice or fairness cannot be unrolled'
     design two_clocks "2 $clocked"
     design falling "2 $clocked"
-    design wide '1 confirmed 45 Warning: Assert wide. '
-    unrolled wide 46 '1 b0: confirmed 45 '
-    unrolled wide 45 '0 no counterexample of at most 45 steps '
+    fails wide 45
 }
 
 flows_of_models() {
     printf 'aag 1 0 1 0 0 1\n2 3\n2\n' > "$place/no input.aag"
-    unrolled 'a model without inputs' 3 '1 b0: confirmed 1 ' 'no input.aag'
+    least 'a model without inputs' 1 0 'no input.aag'
     printf 'aag 3 1 2 2 0 1\n2\n4 2\n6 4\n2\n3\n6\no0 a name\n' > "$place/outputs.aag"
-    unrolled 'a model with outputs' 3 '1 b0: confirmed 2 ' outputs.aag
-    unrolled 'a model with outputs' 2 '0 no counterexample of at most 2 steps ' outputs.aag
+    least 'a model with outputs' 2 0 outputs.aag
+}
+
+# models_by_chance COUNT: so many models in files of their numbers, each with a bad state that is reached late or never
+models_by_chance() {
+    mkdir "$place/models"
+    PYTHONPATH=$top/tests python3 -B - "$place/models" "$1" << 'MODELS'
+import random
+import sys
+from pathlib import Path
+
+from lib import answers, images
+
+for number in range(int(sys.argv[2])):
+    Path(sys.argv[1], f"{number}.aig").write_bytes(images.image(answers.small(random.Random(number))))
+MODELS
+}
+
+# least_of_abc MODEL: the least step by ABC, within 10 steps, or none
+least_of_abc() {
+    "$program" aigtoaig --ascii "$1" | awk -f "$flows/folded.awk" | "$program" aigtoaig - "$work/folded.aig"
+    (cd "$work" && timeout 60 berkeley-abc -q '&r folded.aig; &put; bmc3 -F 10') > "$work/abc.log" 2>&1
+    if grep -qE '^(No output asserted in 10 frames|Explored all reachable states)' "$work/abc.log"; then echo none; else
+        sed -nE 's/^Output 0 of miter .* was asserted in frame ([0-9]+)\..*/\1/p' "$work/abc.log"
+    fi
+}
+
+flows_of_models_by_chance() {
+    local number step
+    models_by_chance 100
+    for ((number = 0; number < 100; number++)); do
+        step=$(least_of_abc "$place/models/$number.aig")
+        if [ "$step" = none ]; then
+            unrolled "model $number" 10 '0 no counterexample of at most 10 steps ' "models/$number.aig"
+        else
+            least "model $number" "${step:-99}" 0 "models/$number.aig"
+        fi
+    done
 }
 
 queue=("$flows/check.sh" "$flows/queue.v" queue clk)
@@ -194,26 +281,28 @@ flows_that_abc_or_aiger_ends() {
 }
 
 flows_with_spaces() {
-    local scripts="$place/the scripts" tools=(AIGER="$place/the aiger" ABC="$place/the solver")
+    local scripts="$place/the scripts" tools=(AIGER="$place/the aiger" ABC="$place/the ABC" SOLVER="$place/the solvers/${solvers[0]}")
     cp -r "$flows" "$scripts"
     cp "$flows/queue.v" "$place/a queue.v"
     ln -s "$(readlink -f "$program")" "$place/the aiger"
-    ln -s "$(command -v berkeley-abc)" "$place/the solver"
+    ln -s "$(command -v berkeley-abc)" "$place/the ABC"
+    mkdir "$place/the solvers"
+    ln -s "$(command -v "${solvers[0]}")" "$place/the solvers"
     flow 'names with spaces' '1 confirmed 5 Warning: Assert queue. ' "${tools[@]}" "$scripts/check.sh" "a queue.v" queue clk
     mv "$place/design.aig" "$place/a model.aig"
-    flow 'names with spaces, unrolled' '1 b0: confirmed 5 b1: not confirmed ' \
-        "${tools[@]}" "$scripts/check_unrolled.sh" 'a model.aig' 6
+    flow 'names with spaces, unrolled' '1 b0: confirmed 5 ' "${tools[@]}" "$scripts/check_unrolled.sh" 'a model.aig' 6
 }
 
-if command -v yosys > /dev/null && command -v berkeley-abc > /dev/null; then
+if command -v yosys > /dev/null && command -v berkeley-abc > /dev/null && [ ${#solvers[@]} != 0 ]; then
     flows_of_examples
     designs_that_fail
     other_designs
     flows_of_models
+    flows_of_models_by_chance
     flows_that_yosys_ends
     flows_that_abc_or_aiger_ends
     flows_with_spaces
 else
-    skip 67 'yosys or berkeley-abc is not installed, to check designs'
+    skip 247 'yosys, berkeley-abc or a SAT solver is not installed, to check designs'
 fi
 finish

@@ -538,6 +538,13 @@ wants 'glibc.malloc.hugetlb=1\n' "$proves" 0
 check 'large pages are asked for' unasked launch
 wants 'glibc.malloc.check=0\n' '' 0
 check 'unless something else is' asked launch
+
+# --- a limit on the size of files: the signal for a write above it ---
+signalled() { look_again && RT=$work/rt env --default-signal=XFSZ "$tree/aiger" "$@"; }
+printf '#!/bin/bash\nread -r _ ignored < <(grep ^SigIgn /proc/self/status)\necho $((0x$ignored >> 24 & 1))\n' > "$work/program"
+edit
+wants '1\n' "$proves" 0
+check 'it is ignored' signalled
 cp "$program" "$work/program"
 
 # --- a folder that cannot be written ---

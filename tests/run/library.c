@@ -49,6 +49,7 @@ static const char gate[] = "aag 7 2 0 2 3\n2\n4\n6\n12\n6 13 15\n12 2 4\n14 3 5\
 static const char toggle[] = "aag 1 0 1 1 0 1\n2 3\n2\n2\n";
 static const char steps[] = "\n\n\n";
 static const char claim[] = "1\nb0\n0\n\n\n.\n";
+static const char said[] = "c\ns SATISFIABLE\nv -1 2\nv 0\n";
 static const char wrong_claim[] = "1\nb0\n0\n\n.\n";
 
 typedef uint32_t call(uint8_t *output, size_t room, aigtools_outcome *outcome);
@@ -67,6 +68,12 @@ static uint32_t trace(uint8_t *output, size_t room, aigtools_outcome *outcome) {
 }
 static uint32_t dump(uint8_t *output, size_t room, aigtools_outcome *outcome) {
     return aigtools_simulate(AIGTOOLS_VCD, AIGTOOLS_LARGEST, TEXT(toggle), TEXT(steps), output, room, outcome);
+}
+static uint32_t clauses(uint8_t *output, size_t room, aigtools_outcome *outcome) {
+    return aigtools_clauses(AIGTOOLS_ALL_BAD, 5, AIGTOOLS_LARGEST, TEXT(toggle), output, room, outcome);
+}
+static uint32_t reached(uint8_t *output, size_t room, aigtools_outcome *outcome) {
+    return aigtools_answer(0, 5, AIGTOOLS_LARGEST, TEXT(toggle), TEXT(said), output, room, outcome);
 }
 /* the witness has no text: its words stand for it */
 static uint32_t judged(uint8_t *output, size_t room, aigtools_outcome *outcome) {
@@ -88,7 +95,8 @@ static uint32_t run(uint8_t *output, size_t room, aigtools_outcome *outcome) {
 
 static const struct { const char *name; call *of; } calls[] = {
     {"to binary", to_binary}, {"to ascii", to_ascii}, {"frames", frames}, {"trace", trace},
-    {"dump", dump},           {"judged", judged},     {"run", run},
+    {"dump", dump},           {"judged", judged},     {"run", run},       {"clauses", clauses},
+    {"reached", reached},
 };
 #define CALLS (sizeof calls / sizeof *calls)
 
@@ -170,9 +178,11 @@ static void check_threads(void) {
 
 static void check_refused_options(void) {
     static const uint32_t bad[] = {AIGTOOLS_KEEP_MAP | AIGTOOLS_ASCII, AIGTOOLS_KEEP_MAP | AIGTOOLS_STRIP,
-                                   AIGTOOLS_KEEP_MAP | AIGTOOLS_UNDO_MAP, AIGTOOLS_PROPERTIES, AIGTOOLS_VCD, 1u << 31};
+                                   AIGTOOLS_KEEP_MAP | AIGTOOLS_UNDO_MAP, AIGTOOLS_OUTPUTS_AS_BAD | AIGTOOLS_KEEP_MAP,
+                                   AIGTOOLS_OUTPUTS_AS_BAD | AIGTOOLS_UNDO_MAP, AIGTOOLS_PROPERTIES, AIGTOOLS_VCD,
+                                   1u << 31};
     static const uint32_t no_trace[] = {AIGTOOLS_ASCII, AIGTOOLS_PROPERTIES | AIGTOOLS_VCD,
-                                        AIGTOOLS_VCD | AIGTOOLS_ASCII, 64};
+                                        AIGTOOLS_VCD | AIGTOOLS_ASCII, AIGTOOLS_OUTPUTS_AS_BAD, 128};
     static const uint32_t above = AIGTOOLS_LARGEST + 1;
     const uint8_t *text = (const uint8_t *)gate;
     uint8_t output[1] = {UNTOUCHED};
@@ -186,6 +196,10 @@ static void check_refused_options(void) {
     IS_BAD(aigtools_unroll(AIGTOOLS_STRIP, 1, 1, text, 0, output, 1, &x));
     IS_BAD(aigtools_unroll(0, 0, 1, text, 0, output, 1, &x));
     IS_BAD(aigtools_unroll(0, 1000001, 1, text, 0, output, 1, &x));
+    IS_BAD(aigtools_clauses(0, 0, 1, text, 0, output, 1, &x));
+    IS_BAD(aigtools_clauses(0, 1, above, text, 0, output, 1, &x));
+    IS_BAD(aigtools_answer(AIGTOOLS_ALL_BAD, 1000001, 1, text, 0, text, 0, output, 1, &x));
+    IS_BAD(aigtools_answer(0, 1, above, text, 0, text, 0, output, 1, &x));
     IS_BAD(aigtools_witness(above, text, 0, text, 0, &x));
     IS_BAD(aigtools_dump(above, text, 0, text, 0, output, 1, &x));
     check(aigtools_message(&x, output, 1) == 0 && output[0] == UNTOUCHED, "message", "no fault", 0);
@@ -213,6 +227,30 @@ static void check_verdicts_with_runs(void) {
           "too short", (long)too_short.length);
     run_of(claim, 4, output, ROOM, &x);
     check(x.status == AIGTOOLS_REFUSED && x.kind == AIGTOOLS_BAD_WITNESS, "run", "refused", x.status);
+}
+
+static void check_answers(void) {
+    static const struct { const char *said; uint32_t bad, frames, kind, place, subject; uint64_t number; } refused[] = {
+        {"s UNSATISFIABLE\n", 0, 1, AIGTOOLS_UNSATISFIABLE, AIGTOOLS_WHOLE, 0, 0},
+        {"s UNKNOWN\n", AIGTOOLS_ALL_BAD, 1, AIGTOOLS_UNKNOWN, AIGTOOLS_WHOLE, 0, 0},
+        {"s SATISFIABLE\nv 0\n", 0, 1, AIGTOOLS_NOT_REACHED, AIGTOOLS_WHOLE, 0, 0},
+        {"s SATISFIABLE\nv\nx\n", 0, 2, AIGTOOLS_BAD_ANSWER, AIGTOOLS_LINE, 0, 3},
+        {"x\n", 1, 2, AIGTOOLS_NO_SUCH_BAD_STATE, AIGTOOLS_WHOLE, 1, 0},
+    };
+    uint8_t output[ROOM];
+    aigtools_outcome x;
+    size_t i;
+    memset(output, UNTOUCHED, sizeof output);
+    for (i = 0; i < sizeof refused / sizeof *refused; i++) {
+        aigtools_answer(refused[i].bad, refused[i].frames, AIGTOOLS_LARGEST, TEXT(toggle),
+                        (const uint8_t *)refused[i].said, strlen(refused[i].said), output, ROOM, &x);
+        check(x.status == AIGTOOLS_REFUSED && x.kind == refused[i].kind && x.place == refused[i].place &&
+                  x.subject == refused[i].subject && x.number == refused[i].number && x.length == 0,
+              "reached", "refused", (long)i);
+    }
+    check(is_untouched(output, ROOM), "reached", "output untouched, refused", 0);
+    aigtools_clauses(AIGTOOLS_ALL_BAD, 1, AIGTOOLS_LARGEST, TEXT(gate), output, ROOM, &x);
+    check(x.status == AIGTOOLS_REFUSED && x.kind == AIGTOOLS_NO_BAD_STATES, "clauses", "no bad states", x.kind);
 }
 
 static int time_conversion(const char *path, long times) {
@@ -245,6 +283,7 @@ int main(int count, char **words) {
         check_refusals(calls[i].name, calls[i].of);
     }
     check_verdicts_with_runs();
+    check_answers();
     check_refused_options();
     check_threads();
     return failed;

@@ -1,17 +1,19 @@
 #!/usr/bin/env python3
 """The library libaigtools beside the linked program: what it answers to the rows of tests/rows/all.sh, to inputs that are
-changed by chance, to memory that is refused, to outputs that are too short, and from threads at once; its symbols; that
-its header, its Python module and its sources have the same numbers, and their outcome the same form; and that each
-option of a command is one of a call.
+changed by chance, to those of megabytes, to memory that is refused, to outputs that are too short, and from threads at
+once; its symbols; that its header, its Python module and its sources have the same numbers, and their outcome the same
+form; and that each option of a command is one of a call.
 
     tests/run/library.py FOLDER PROGRAM     FOLDER holds libaigtools.a and libaigtools.so.1, as release/library makes them
 """
 import ctypes
 import doctest
 import inspect
+import itertools
 import os
 import random
 import re
+import resource
 import shutil
 import subprocess
 import sys
@@ -19,9 +21,17 @@ import tempfile
 from concurrent.futures import ThreadPoolExecutor
 from pathlib import Path
 
+sys.dont_write_bytecode = True
+sys.path[0] = str(Path(__file__).resolve().parent.parent)
+from lib import large
+
 TOP = Path(__file__).resolve().parents[2]
 SEED, MUTANTS = 7, 2400
-FLAGS = "--ascii -a --strip -s --keep-map --undo-map --properties --witness --batch --vcd".split()
+# what a large circuit has of each kind, steps of its stimulus, frames; bytes that a large text has at least
+LINES, STEPS, FRAMES, MANY = 70_000, 16, 3, 1_000_000
+# what a smaller one has, and runs of its stimulus
+FEWER, RUNS = 60, 1_000
+FLAGS = "--ascii -a --strip -s --keep-map --undo-map --outputs-as-bad --properties --witness --batch --vcd --cnf".split()
 # prints each row of the table, each word of it ended by a NUL
 ROWS = 'work=$1; . tests/rows/all.sh; row() { printf "%s\\0" $# "$@"; }; rows'
 ESCAPE = re.compile(rb"\\(0[0-7]{0,3}|x[0-9a-f]{1,2}|.)", re.S)
@@ -59,8 +69,10 @@ def options_of(words):
         word = rest.pop(0)
         if word in FLAGS:
             options[{"-a": "ascii", "-s": "strip"}.get(word, word[2:].replace("-", "_"))] = True
-        elif word in ("--max-var", "--frames") and rest and rest[0].isdigit():
+        elif word in ("--max-var", "--frames", "--bad") and rest and rest[0].isdigit():
             options[word[2:].replace("-", "_")] = int(rest.pop(0))
+        elif word == "--answer" and rest:
+            options["answer"] = rest.pop(0)
         elif word.startswith("-") and word != "-":
             return None
         else:
@@ -84,8 +96,11 @@ def answer(name, options, first, second):
     try:
         if name == "aigtoaig":
             return aigtools.convert(first, **options), "", 0
+        if name == "aigunroll" and options.pop("answer", False):
+            return aigtools.answer(first, second, **options), "", 0
         if name == "aigunroll":
-            return aigtools.unroll(first, **options), "", 0
+            call = aigtools.clauses if options.pop("cnf", False) else aigtools.unroll
+            return call(first, **options), "", 0
         options.pop("batch", None)
         if options.pop("witness", False):
             return judged(options.pop("vcd", False), first, second, options)
@@ -106,12 +121,14 @@ def rows(folder):
         if asked is None or status not in (b"0", b"1") or asked[0] not in ("aigtoaig", "aigunroll", "aigsim"):
             continue
         tool, options, files = asked
+        if "answer" in options:
+            files = [*(files or ["-"]), options["answer"]]
         inputs = [meant(given) if it == "-" else Path(it).read_bytes() if os.path.isfile(it) else None for it in files]
         if tool == "aigsim":
             inputs += [meant(given)] * (len(inputs) == 1)
             whole = "batch" in options or "witness" in options or status == b"0"
         else:
-            inputs = (inputs or [meant(given)]) + [b""]
+            inputs = (inputs or [meant(given)]) + [b""] * ("answer" not in options)
             whole = True
         if whole and len(inputs) == 2 and None not in inputs:
             yield name.decode(), tool, options, inputs, (meant(output), meant(errors).decode(), int(status)), files
@@ -151,18 +168,27 @@ def mutants(folder, program):
     seeds += [row[3][0] for row in rows(folder) if row[4][2] == 0 and len(row[3][0]) < 2000][::7]
     seeds += [aigtools.convert(it, keep_map=True) for it in seeds]
     for number in range(MUTANTS):
-        text, kind = mutated(chance, chance.choice(seeds)), chance.randrange(10)
+        text, kind = mutated(chance, chance.choice(seeds)), chance.randrange(12)
         if kind < 6:
-            flags = chance.choice([(), ("ascii",), ("keep_map",), ("undo_map",), ("undo_map", "ascii"), ("strip",)])
+            flags = [(), ("ascii",), ("keep_map",), ("undo_map",), ("undo_map", "ascii"), ("strip",)]
+            flags = chance.choice([*flags, ("outputs_as_bad",)])
             yield "aigtoaig", [f"--{it.replace('_', '-')}" for it in flags], dict.fromkeys(flags, True), text, b""
         elif kind < 8:
             frames = chance.randrange(1, 4)
             yield "aigunroll", ["--frames", str(frames)], {"frames": frames}, text, b""
+        elif kind < 10:
+            options = {"frames": chance.randrange(1, 4), **chance.choice([{}, {"bad": chance.randrange(3)}])}
+            words = [word for name, number in options.items() for word in (f"--{name}", str(number))]
+            if kind == 8:
+                yield "aigunroll", [*words, "--cnf"], {**options, "cnf": True}, text, b""
+            else:
+                said = b"c\ns SATISFIABLE\nv %d %d 5 -6\nv 0\n" % (chance.randrange(1, 9), chance.randrange(1, 9))
+                yield "aigunroll", [*words, "--answer", "-"], {**options, "answer": "-"}, text, mutated(chance, said)
         else:
             inputs = re.match(rb"a[ai]g \d+ (\d+)", text)
             width = min(int(inputs[1]), 9) if inputs else 1
             steps = b"".join(b"%s\n" % bytes(chance.choice(b"01x") for _ in range(width)) for _ in range(3))
-            if kind == 8:
+            if kind == 10:
                 flags = chance.choice([(), ("properties",), ("vcd",), ("vcd",)])
                 words, options = ["--batch", *(f"--{it}" for it in flags)], dict.fromkeys(flags, True)
                 yield "aigsim", words, options, text, mutated(chance, steps)
@@ -179,7 +205,7 @@ def check_mutants(program):
         def compare(mutant):
             number, (tool, words, options, first, second) = mutant
             given, files = first, []
-            if tool == "aigsim":
+            if tool == "aigsim" or "answer" in options:
                 model = Path(folder, str(number))
                 model.write_bytes(first)
                 given, files = second, [str(model)]
@@ -193,6 +219,115 @@ def check_mutants(program):
             judge("a changed input", holds, *details)
             refused += details[1].returncode
         judge("some inputs are refused, and some are not", MUTANTS // 4 < refused < MUTANTS * 3 // 4, refused)
+
+
+class Sizes:
+    """The library beside the program at inputs and texts of megabytes, where the contracts would allow that either says it
+    is out of memory. What is wanted is made by rule in tests/lib/large.py."""
+
+    def __init__(self, program, work):
+        self.program, self.model = program, Path(work, "model")
+
+    def alike(self, name, made, words, given, wanted=None):
+        """That this was made, as the program makes it, and as it is wanted."""
+        ran = subprocess.run([self.program, *words.split()], input=given, capture_output=True, check=False)
+        sizes = len(made), len(ran.stdout), ran.stderr
+        judge(f"{name} of megabytes, as {words} makes it", made == ran.stdout and not ran.stderr and len(made) > MANY, *sizes)
+        judge(f"{name} of megabytes", wanted in (made, None), *sizes)
+        return made
+
+    def text(self, letters, numbers=range(LINES - 1, -1, -1)):
+        return "".join(large.wide(LINES, numbers, letters)).encode()
+
+    def conversions(self):
+        """A circuit whose gates stand the wrong way round."""
+        source, ordered = self.text("ilobcjf"), self.text("ilobcjf", range(LINES))
+        end = len(source) - source.index(b"\ni0 0\n") - 1
+        image = self.alike("an image", aigtools.convert(source), "aigtoaig", source)
+        self.alike("a text", aigtools.convert(source, ascii=True), "aigtoaig --ascii", source, source)
+        self.alike("what is read again", aigtools.convert(image, ascii=True), "aigtoaig --ascii", image, ordered)
+        stripped = aigtools.convert(source, ascii=True, strip=True)
+        self.alike("a stripped text", stripped, "aigtoaig --strip --ascii", source, source[:-end])
+        stripped = aigtools.convert(source, strip=True)
+        self.alike("a stripped image", stripped, "aigtoaig --strip", source, image[:-end])
+        mapped = self.alike("an image", aigtools.convert(source, keep_map=True), "aigtoaig --keep-map", source)
+        undone = aigtools.convert(mapped, undo_map=True, ascii=True)
+        self.alike("an undone text", undone, "aigtoaig --undo-map --ascii", mapped, source)
+        self.alike("an undone image", aigtools.convert(mapped, undo_map=True), "aigtoaig --undo-map", mapped, image)
+
+    def unrolled(self):
+        """A circuit in frames, of which the header and the lines are counted."""
+        source, words = self.text("ilobc"), f"aigunroll --frames {FRAMES}"
+        text = self.alike("frames", aigtools.unroll(source, FRAMES, ascii=True), f"{words} --ascii", source)
+        image = self.alike("frames", aigtools.unroll(source, FRAMES), words, source)
+        self.alike("frames", aigtools.convert(text), "aigtoaig", text, image)
+        # an uninitialised latch is an input; a frame has the gates, and one for each bad state and each constraint
+        listed, inputs = FRAMES * LINES, FRAMES * LINES + LINES // 3
+        head = f"aag {inputs + 3 * listed} {inputs} 0 {listed} {3 * listed} {listed}".encode()
+        came = text[: text.index(b"\n")], text.count(b"\n")
+        judge("frames by count", came == (head, 1 + inputs + 5 * listed), *came)
+        text = self.alike("clauses", aigtools.clauses(source, FRAMES), f"{words} --cnf", source)
+        head = f"p cnf {inputs + 3 * listed + 1} {9 * listed + 2}".encode()
+        came = text[: text.index(b"\n")], text.count(b"\n")
+        judge("clauses by count", came == (head, 9 * listed + 3), *came)
+
+    def answered(self):
+        """A solver's answer by which all inputs and all first values are 1."""
+        source, words = self.text("ilobc"), f"aigunroll --frames {FRAMES} --bad {LINES - 1} --answer - {self.model}"
+        self.model.write_bytes(source)
+        values = b"".join(b"v %d\n" % (at + 2) for at in range(LINES // 3 + FRAMES * LINES))
+        given = b"s SATISFIABLE\n" + values + b"v 0\n"
+        made = aigtools.answer(source, given, FRAMES, bad=LINES - 1)
+        ran = subprocess.run([self.program, *words.split()], input=given, capture_output=True, check=False)
+        wanted = b"1\nb%d\n%s\n%s\n.\n" % (LINES - 1, (b"011" * LINES)[:LINES], b"1" * LINES)
+        judge("an answer of megabytes", len(given) > MANY and made == ran.stdout == wanted, len(given), len(made), ran.stderr)
+        judge("its witness", aigtools.confirm(source, made) == 0)
+
+    def traces(self, count, runs):
+        """The traces and the dump of these runs of a circuit of this size."""
+        source = "".join(large.wide(count, range(count), "ilobc")).encode()
+        self.model.write_bytes(source)
+        steps = "".join("".join(f"{values}\n" for values in run) + ".\n" for run in runs).encode()
+        lines = [line for run in runs for line in large.trace(count, run)]
+        full, plain = "".join(lines), "".join(" ".join(line.split(" ")[:4]).rstrip("\n") + "\n" for line in lines)
+        words, name = f"aigsim --batch {self.model}", f"a trace of {len(runs)} runs"
+        self.alike(name, aigtools.simulate(source, steps), words, steps, plain.encode())
+        properties = aigtools.simulate(source, steps, properties=True)
+        self.alike(name, properties, f"{words} --properties", steps, full.encode())
+        made, wanted = aigtools.simulate(source, steps, vcd=True), large.dump(count, runs)
+        self.alike(f"a dump of {len(runs)} runs", made, f"{words} --vcd", steps, wanted)
+        return wanted
+
+    def witnesses(self, run, dump):
+        """A witness of this run, which has the dump: it is confirmed by its last step, and without that it is not."""
+        model = self.model.read_bytes()
+        steps = [f"{values}\n".encode() for values in run]
+        given = large.claim(LINES) + b"".join(steps) + b".\n"
+        step, text = aigtools.dump(model, given)
+        head = b"$comment confirmed %d $end\n" % (len(run) - 1)
+        self.alike("a run", text, f"aigsim --witness --vcd {self.model}", given, head + dump)
+        judge("a large witness", (aigtools.confirm(model, given), step) == (len(run) - 1, len(run) - 1), step)
+        given = large.claim(LINES) + b"".join(steps[:-1]) + b".\n"
+        step, text = aigtools.dump(model, given)
+        self.alike("a run without its end", text, f"aigsim --witness --vcd {self.model}", given)
+        times = [line for line in text.split(b"\n") if line[:1] == b"#"]
+        judge("its times", (len(times), times[-1]) == (len(run) + 1, b"#%d" % len(run)), len(times), times[-1])
+        judge("a large witness without its end", (aigtools.confirm(model, given), step) == (None, None), step)
+
+
+def check_sizes(program):
+    """Each call at inputs of megabytes, with each of its options."""
+    with tempfile.TemporaryDirectory() as work:
+        sizes = Sizes(program, work)
+        sizes.conversions()
+        sizes.unrolled()
+        sizes.answered()
+        *some, last = large.inputs(LINES)
+        run = [*itertools.islice(itertools.cycle(some), STEPS), last]
+        dump = sizes.traces(LINES, [run])
+        sizes.witnesses(run, dump)
+        values = large.inputs(FEWER)
+        sizes.traces(FEWER, [values[at % 5 :][: 1 + at % 4] * 3 for at in range(RUNS)])
 
 
 WARNINGS = "-std=c99 -pedantic -Wall -Wextra -Werror".split()
@@ -219,10 +354,28 @@ def check_calls(folder):
             circuit = (TOP / "examples/half_adder.aag").read_bytes()
             ran = subprocess.run([made], input=circuit, capture_output=True, check=False)
             judge("the example in C", ran.stdout == aigtools.convert(circuit, keep_map=True), ran)
+        check_search()
         check_other_library(archive, Path(work))
         if shutil.which("g++"):
             words = f"-std=c++11 -pedantic -Wall -Werror -fsyntax-only -x c++ {TOP}/include/aigtools.h".split()
             judge("the header in C++", subprocess.run(["g++", *words], check=False).returncode == 0)
+
+
+# in the place of a solver: it knows that the clauses of one frame of the toggle have two variables
+SOLVER = ["sh", "-c", "read p cnf count rest; [ $count = 2 ] && echo s UNSATISFIABLE || printf 's SATISFIABLE\\nv 0\\n'"]
+
+
+def check_search():
+    """The example in Python: a search over more and more steps, which ends with a witness."""
+    words = [sys.executable, "-B", TOP / "examples/python/search.py"]
+    model = b"aag 1 0 1 0 0 1\n2 3\n2\n"
+    with tempfile.NamedTemporaryFile() as file:
+        file.write(model)
+        file.flush()
+        how = {"capture_output": True, "env": {**os.environ, "PYTHONPATH": str(TOP / "python")}, "check": False}
+        for most, *wanted in (("5", b"1\nb0\n0\n\n\n.\n", b"confirmed 1\n", 0), ("1", b"", b"no run of at most 1 steps\n", 1)):
+            ran = subprocess.run([*words, file.name, most, *SOLVER], **how)
+            judge("the example in Python", [ran.stdout, ran.stderr, ran.returncode] == wanted, ran)
 
 
 # what a model checker carries of Biere's library: a header aiger.h, and a function of another type than ours had
@@ -317,7 +470,7 @@ def check_options(program):
     """Each option of a command is one of its calls, or says which call it is; and each of a call one of the command."""
     calls = {
         "aigtoaig": ((aigtools.convert,), set()),
-        "aigunroll": ((aigtools.unroll,), set()),
+        "aigunroll": ((aigtools.unroll, aigtools.clauses, aigtools.answer), {"cnf", "answer"}),
         "aigsim": ((aigtools.simulate, aigtools.confirm, aigtools.dump), {"batch", "witness"}),
     }
     for command, (functions, chosen) in calls.items():
@@ -325,7 +478,7 @@ def check_options(program):
         words = re.findall(r"^ {2,6}(?:-\w, )?--([a-z-]+)", said, re.M)
         there = {it.replace("-", "_") for it in words} - {"help", "version"}
         names = {name for it in functions for name in inspect.signature(it).parameters}
-        here = names - {"data", "model", "stimulus", "witness"} | chosen
+        here = names - {"data", "model", "stimulus", "witness", "answer"} | chosen
         judge(f"the options of {command}", there == here and len(there) > 1, there, here)
 
 
@@ -349,25 +502,50 @@ def check_arguments():
     for other in ("ascii", "strip", "undo_map"):
         why = f"keep_map excludes {other}"
         judge(why, refuses(ValueError, why, aigtools.convert, gate, keep_map=True, **{other: True}))
+    for other in ("keep_map", "undo_map"):
+        why = f"outputs_as_bad excludes {other}"
+        judge(why, refuses(ValueError, why, aigtools.convert, gate, outputs_as_bad=True, **{other: True}))
     why = "vcd excludes properties"
     judge(why, refuses(ValueError, why, aigtools.simulate, gate, b"", vcd=True, properties=True))
     for frames in (0, 1000001):
-        judge("frames", refuses(ValueError, "frames is not from 1 to 1000000", aigtools.unroll, gate, frames), frames)
+        for call in (aigtools.unroll, aigtools.clauses):
+            judge("frames", refuses(ValueError, "frames is not from 1 to 1000000", call, gate, frames), frames)
+        judge("frames", refuses(ValueError, "frames is not from", aigtools.answer, gate, b"", frames), frames)
+    for bad in (-1, aigtools.LARGEST + 1):
+        why = f"bad is not from 0 to {aigtools.LARGEST}"
+        judge(why, refuses(ValueError, why, aigtools.clauses, gate, 1, bad=bad), bad)
     for limit in (-1, aigtools.LARGEST + 1):
         why = f"max_var is not from 0 to {aigtools.LARGEST}"
         judge(why, refuses(ValueError, why, aigtools.confirm, gate, b"", max_var=limit), limit)
+
+
+def check_guess():
+    """Beside a large comment a text of 63 frames is short. As many times the comment would be 16 GB."""
+    model = b"aag 1 0 1 1 0\n2 3\n2\nc\n" + bytes(1 << 26)
+    used = int(Path("/proc/self/statm").read_text().split()[0]) * resource.getpagesize()
+    limits = resource.getrlimit(resource.RLIMIT_AS)
+    resource.setrlimit(resource.RLIMIT_AS, (used + (1 << 30), limits[1]))
+    try:
+        text = aigtools.unroll(model, 63, ascii=True)
+    except MemoryError as why:
+        text = repr(why)
+    finally:
+        resource.setrlimit(resource.RLIMIT_AS, limits)
+    judge("the room for a short text", text == b"aag 0 0 0 63 0\n" + b"0\n1\n" * 31 + b"0\n", text)
 
 
 def main(folder, program):
     """All checks, and their sums."""
     check_rows()
     check_mutants(program)
+    check_sizes(program)
     check_calls(folder)
     check_symbols(folder)
     check_layout()
     check_numbers(program)
     check_options(program)
     check_arguments()
+    check_guess()
     tried = doctest.testmod(aigtools)
     judge("the examples of the Python module", tried.attempted > 5 and not tried.failed, tried)
     print(f"{passed} passed, {failed} failed")

@@ -2,8 +2,8 @@
 # Runs each row of tests/rows/all.sh with its Nth growth of memory refused, N from 1 until there is no Nth growth; of a row
 # that grows more than a hundred times, some N.
 # A run with a refusal answers 'aiger: out of memory', status 1, and writes nothing; a simulation without --batch has
-# then read nothing of its stimulus or its witness either, but where a witness is to be dumped. The run without a
-# refusal gives the row's own answer. A row counts once.
+# then read nothing of its stimulus or its witness either, but where a witness is to be dumped, and aigunroll nothing
+# of a solver's answer. The run without a refusal gives the row's own answer. A row counts once.
 # What happens before anything is read is the same for all rows with the same words, so it is refused
 # once, with a folder as standard input and as the model; and what happens before a stimulus is read is so with the
 # same model, with a folder as the stimulus.
@@ -43,7 +43,7 @@ run_refusing() {
 growths=0
 
 # Whether a run with a refusal that ended with STATUS ran out of memory, and wrote nothing; and, of a simulation without --batch
-# whose stimulus is the standard input, whether it read nothing of that.
+# whose stimulus is the standard input, or of a solver's answer that is, whether it read nothing of that.
 ran_out() {
     local line= rest=
     { IFS= read -r line; IFS= read -r rest; } < "$work/err"
@@ -109,6 +109,7 @@ row() {
     # stimulus that it reads, a dump of a witness the witness
     [ "${1-}" != aigsim ] || [ "${2-}" = - ] || [[ " $* " = *' --batch '* ]] ||
         [[ " $* " = *' --witness '* && " $* " = *' --vcd '* ]] || reads=stimulus
+    [[ " $* " != *' --answer - '* ]] || reads=stimulus
     leave_out 1 "${unread[@]}"
     [ "${unread[*]@Q}" = "${*@Q}" ] || leave_out $((known + 1)) "$@"
     sparse=$each

@@ -3,9 +3,10 @@
 
     tests/run/sizes.py PROGRAM [NAME]     all, or what has NAME in the name of its function
 
-Files, stimuli, witnesses and map blocks have more than 64 MB. Each section has 500,000 lines. There are 20,000 runs,
-1,000 frames, and 4,000,000 gates, each before the one that it is over. What is wanted is made here by rule. A run may
-take 1.5 GB of memory.
+Files, stimuli, witnesses and map blocks have more than 64 MB, comments of a solver's answer 100 MB, and a line of its
+values 50 MB. Each section has 500,000 lines. There are 20,000 runs, 1,000 frames, and 4,000,000 gates, each before the
+one that it is over. Dumps have 350,000 signals, and 1,200,000 steps.
+What is wanted is made here by rule. A run may take 1.5 GB of memory.
 
 The last line is 'N passed, M failed'.
 """
@@ -20,7 +21,8 @@ from pathlib import Path
 
 sys.dont_write_bytecode = True
 sys.path[0] = str(Path(__file__).resolve().parent.parent)
-from lib import counts
+from lib import answers, counts, waves
+from lib.large import claim, conjunctions, dump, inputs, trace, wide, write
 
 # bytes: a large file, and what a run may take; seconds that a run may take
 MANY, MEMORY, PATIENCE = 70_000_000, 1_500_000_000, 100
@@ -28,10 +30,12 @@ MANY, MEMORY, PATIENCE = 70_000_000, 1_500_000_000, 100
 LINES, GATES, RUNS = 500_000, 4_000_000, 20_000
 # latches and inputs to simulate; inputs of a long stimulus; frames, and gates in each
 WIDTH, INPUTS, FRAMES, CARRIED = 5_000, 1_000, 1_000, 1_000
+# signals of each kind in a dump, and steps of one
+SIGNALS, STEPS = 70_000, 1_200_000
+# bytes of comments in a solver's answer, and of a line of its values
+COMMENTS, VALUES = 100_000_000, 50_000_000
 # bytes of a file that are held at a time
 EDGE = 65_536
-# lines that are made at once
-PIECE = 10_000
 
 
 class Room:
@@ -66,19 +70,6 @@ class Room:
 
 def is_same(first, second):
     return os.path.exists(second) and filecmp.cmp(first, second, shallow=False)
-
-
-def write(name, *parts):
-    """A file of these parts: bytes, or texts that are made one by one."""
-    with open(name, "wb") as file:
-        for part in parts:
-            if isinstance(part, bytes):
-                file.write(part)
-                continue
-            texts = iter(part)
-            while piece := "".join(itertools.islice(texts, PIECE)):
-                file.write(piece.encode())
-    return name
 
 
 def comes_back(room, source, ordered):
@@ -116,50 +107,6 @@ def large_tails(room):
         Path("again.aag").unlink(missing_ok=True)
 
 
-def wide(count, numbers, letters):
-    """So many entries of each section, with justice and fairness if there are letters for them, and the gates of these
-    numbers. The next state of a latch is an input, and each latch is an output. Each gate is a bad state: the
-    conjunction of all inputs up to its own."""
-    latch, gate, live = 2 * count + 2, 4 * count + 2, count * ("j" in letters)
-    yield f"aag {3 * count}{f' {count}' * 6}{f' {live} {live}' if live else ''}\n"
-    yield from (f"{2 * n + 2}\n" for n in range(count))
-    yield from (f"{latch + 2 * n} {2 * n + 2}{['', ' 1', f' {latch + 2 * n}'][n % 3]}\n" for n in range(count))
-    yield from (f"{latch + 2 * n}\n" for n in range(count))
-    yield from (f"{gate + 2 * n}\n" for n in range(count))
-    yield from itertools.repeat("1\n", count + live)
-    yield from (f"{latch + 2 * n}\n" for n in range(live))
-    yield from (f"{2 * n + 3}\n" for n in range(live))
-    yield from (f"{gate + 2 * n} {gate + 2 * n - 2 if n else 2} {2 * n + 2}\n" for n in numbers)
-    yield from (f"{letter}{n} {n}\n" for letter in letters for n in range(count))
-    yield "c\nwide\n"
-
-
-def reset(count):
-    """The first state."""
-    return ("01x" * count)[:count]
-
-
-def conjunctions(values):
-    """The values of the gates, over these inputs."""
-    zero, unknown = (values.find(it) % (len(values) + 1) for it in "0x")
-    return "1" * min(zero, unknown) + "x" * max(zero - unknown, 0) + "0" * (len(values) - zero)
-
-
-def trace(count, run):
-    """The lines of a run, with properties."""
-    state = reset(count)
-    for values in run:
-        yield f"{state} {values} {state} {values} {conjunctions(values)} {'1' * count}\n"
-        state = values
-    yield ".\n"
-
-
-def inputs(count):
-    """Some values of so many inputs, with which no bad state is 1 behind the first half, and then all 1."""
-    half = count // 2
-    return [("1" * half + "0x1x1"[at:] * count)[:count] for at in range(4)] + ["1" * count]
-
-
 def traces(room, count, runs):
     """That these runs of the wide circuit give their traces."""
     write("steps", ("".join(f"{values}\n" for values in run) + ".\n" for run in runs))
@@ -171,9 +118,8 @@ def traces(room, count, runs):
 def judges(room, count, before):
     """That a witness for the last bad state is confirmed behind so many steps, and not confirmed before."""
     *some, last = (f"{values}\n" for values in inputs(count))
-    head = f"1\nb{count - 1}\n{reset(count)}\n".encode()
     for end, answer in ((last, (0, f"confirmed {before}\n")), ("", (1, "not confirmed\n"))):
-        write("witness", head, itertools.islice(itertools.cycle(some), before), f"{end}.\n".encode())
+        write("witness", claim(count), itertools.islice(itertools.cycle(some), before), f"{end}.\n".encode())
         errors, status = room.run("aigsim --witness wide", "witness", "came")
         came = errors, status, Path("came").read_text(encoding="ascii")
         room.judge(f"a witness of {before} steps over {count} inputs", came == (b"", *answer), came)
@@ -191,9 +137,50 @@ def large_sections(room):
     room.gives("aigtoaig --ascii", room.made("aigunroll --frames 2", "safe"), "unrolled")
 
 
+def dumps(room, count, runs, called):
+    """That these runs of the wide circuit give their dump."""
+    write("steps", ("".join(f"{values}\n" for values in run) + ".\n" for run in runs))
+    write("dump", dump(count, runs, called))
+    room.gives("aigsim --vcd wide", "steps", "dump")
+    room.gives("aigsim --vcd --batch wide", "steps", "dump")
+
+
 def many_runs(room):
     write("wide", wide(1, range(1), "ilobcjf"))
-    traces(room, 1, [[*"10x"[at % 3 :]] for at in range(RUNS)])
+    runs = [[*"10x"[at % 3 :]] for at in range(RUNS)]
+    traces(room, 1, runs)
+    dumps(room, 1, runs, "{}")
+
+
+def many_signals(room):
+    """A signal for each position, or one for all of a kind."""
+    run = inputs(SIGNALS)
+    for called in ("{}", "bus[{}]"):
+        write("wide", wide(SIGNALS, range(SIGNALS), "ilobc", called))
+        dumps(room, SIGNALS, [run], called)
+        write("witness", claim(SIGNALS), (f"{values}\n" for values in run), b".\n")
+        write("wanted", f"$comment confirmed {len(run) - 1} $end\n".encode(), Path("dump").read_bytes())
+        room.gives("aigsim --witness --vcd wide", "witness", "wanted")
+
+
+def long_dumps(room):
+    """A latch that takes an input, which is another one in each step, and is the output."""
+    write("latch", b"aag 2 1 1 1 0\n2\n4 2\n4\n")
+    signals = [waves.Signal(kind, 0, 1, f"{kind.letter}0".encode()) for kind in waves.KINDS[:3]]
+    given = ("10x" * STEPS)[:STEPS]
+    write("steps", (f"{value}\n" for value in given))
+    write(
+        "wanted",
+        waves.head(signals),
+        b"#0\nb0 r\n1i0\n0l0\n0o0\n",
+        (f"#{at}\n{given[at]}i0\n{given[at - 1]}l0\n{given[at - 1]}o0\n" for at in range(1, STEPS)),
+        f"#{STEPS}\nzi0\n{given[-1]}l0\nzo0\n#{STEPS + 1}\n".encode(),
+    )
+    for words in ("aigsim --vcd latch", "aigsim --vcd --batch latch"):
+        room.gives(words, "steps", "wanted")
+        *_, last = times = [line for line in Path("came").read_bytes().split(b"\n") if line[:1] == b"#"]
+        came = len(times), last
+        room.judge(f"the times that {words} shows", came == (STEPS + 2, b"#%d" % (STEPS + 1)), came)
 
 
 def many_latches(room):
@@ -236,6 +223,68 @@ def many_frames(room):
     room.gives("aigtoaig --ascii", room.made(f"aigunroll --frames {FRAMES}", "chain"), "wanted")
 
 
+def three_clauses(own, left, right):
+    """The lines of a gate."""
+    own, left, right = (answers.number(it) for it in (own, left, right))
+    return f"-{own} {left} 0\n-{own} {right} 0\n{own} {-left} {-right} 0\n"
+
+
+def many_clauses(room):
+    """The same chain, whose end is the bad state: that has one more gate in each frame."""
+    end, size = 2 * CARRIED + 4, CARRIED + 1
+    gates = (f"{2 * n + 4} {2 * n + 2} 2\n" for n in range(1, CARRIED + 1))
+    write("chain", f"aag {CARRIED + 2} 1 1 0 {CARRIED} 1\n2\n4 {end} 1\n{end}\n".encode(), gates)
+    write(
+        "wanted",
+        f"p cnf {FRAMES + FRAMES * size + 1} {3 * FRAMES * size + 2}\n-1 0\n".encode(),
+        (frame_clauses(frame, 2 * (FRAMES + frame * size) + 2) for frame in range(FRAMES)),
+        (f"{FRAMES + (frame + 1) * size + 1} " for frame in range(FRAMES)),
+        b"0\n",
+    )
+    room.gives(f"aigunroll --frames {FRAMES} --cnf", "chain", "wanted")
+    room.gives(f"aigunroll --frames {FRAMES} --cnf --bad 0", "chain", "wanted")
+
+
+def frame_clauses(frame, first):
+    """The lines of a frame whose gates begin with this literal: its latch is 1, or the end of the chain before."""
+    given = 2 * frame + 2
+    head = three_clauses(first, first - 4, given) if frame else three_clauses(first, 2, 1)
+    middle = (three_clauses(own, own - 2, given) for own in range(first + 2, first + 2 * CARRIED, 2))
+    return "".join([head, *middle, three_clauses(first + 2 * CARRIED, first + 2 * CARRIED - 2, 1)])
+
+
+def large_answers(room):
+    """Comments and lines of values of many bytes, and a model with many inputs, of which the last one is bad at last."""
+    write("model", b"aag 1 1 0 0 0 1\n2\n2\n")
+    write("wanted", b"1\nb0\n\n0\n0\n1\n.\n")
+    comment, values = [b"c" + b" s SATISFIABLE\r" * (COMMENTS // 30) + b"\n"], b" 2147483647" * (VALUES // 22)
+    comment += [b"c v 0\r\n\n" * (COMMENTS // 18)]
+    write("answer", *comment, b"s SATISFIABLE\nv", values, b" 4", values, b"\nv 0\n", *comment)
+    words = "aigunroll --frames 3 model --answer -"
+    room.gives(words, "answer", "wanted")
+    told = b"aiger: -: line %d: bad answer line\n" % (Path("answer").read_bytes().count(b"\n") + 1)
+    with open("answer", "ab") as file:
+        file.write(b"v 0\n")
+    came = room.run(words, "answer", "came")
+    room.judge("a wrong line behind many", came == (told, 1), came)
+    write("model", b"aig %d %d 0 0 0 1\n%d\n" % (LINES, LINES, 2 * LINES))
+    steps = [("10" * LINES)[at : at + LINES - 1] + str(at // 3) for at in range(4)]
+    write("wanted", b"1\nb0\n\n", (f"{step}\n" for step in steps), b".\n")
+    values = enumerate(itertools.chain(*steps), 2)
+    write("answer", b"s SATISFIABLE\n", (f"v {'-' if value == '0' else ''}{at}\n" for at, value in values), b"v 0\n")
+    room.gives("aigunroll --frames 4 model --answer -", "answer", "wanted")
+
+
+def frames_of_nothing(room):
+    """Latches that start anyhow, and nothing else: to go over all latches in each frame would take hours."""
+    count, frames = LINES, 1_000_000
+    write("latches", f"aag {count} 0 {count} 0 0\n".encode(), (f"{2 * n} 0 {2 * n}\n" for n in range(1, count + 1)))
+    write("image", f"aig {count} {count} 0 0 0\n".encode())
+    write("wanted", f"aag {count} {count} 0 0 0\n".encode(), (f"{2 * n}\n" for n in range(1, count + 1)))
+    room.gives(f"aigunroll --frames {frames}", "latches", "image")
+    room.gives(f"aigunroll --frames {frames} --ascii", "latches", "wanted")
+
+
 def window_edges(room):
     """Files that are longer than the part of a file that is held at a time, which ends at each byte of a row in one of
     them: at a number, a space, a carriage return or a line feed."""
@@ -255,7 +304,8 @@ def window_edges(room):
             room.judge(f"line {number}", came == (f"aiger: -: line {number}: bad line\n".encode(), 1), came)
 
 
-JUDGES = [large_chains, large_tails, large_sections, many_runs, many_latches, long_stimuli, many_frames, window_edges]
+JUDGES = [large_chains, large_tails, large_sections, many_runs, many_signals, many_latches, long_stimuli, long_dumps]
+JUDGES += [many_frames, many_clauses, large_answers, frames_of_nothing, window_edges]
 
 
 def main(program, name=""):

@@ -67,6 +67,12 @@ many=()
 for i in {1..1000}; do many+=("V$i=$i"); done
 check 'a thousand variables' env -i "${many[@]}" "$program" aigtoaig --ascii "$work/small"
 
+# --- a limit on the size of files ---
+awk 'BEGIN { print "aag 0 0 0 100000 0"; for (i = 0; i < 100000; i++) print i % 2 }' > "$work/long"
+limited() { ( ulimit -f 16 && exec env --default-signal=XFSZ "$program" aigtoaig "$work/long" "$work/limited.aag" ); }
+wants '' "aiger: $work/limited.aag: cannot write\n" 1
+check 'a file above the limit on sizes, whose signal is not ignored before' limited
+
 # --- an older processor ---
 if command -v qemu-x86_64 > /dev/null; then
     older='this machine lacks a feature of x86-64-v2, which this program was built for: '

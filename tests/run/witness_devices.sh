@@ -1,5 +1,5 @@
 #!/usr/bin/env bash
-# Witnesses over devices of the system: standard streams that fail, names, pipes, and little memory.
+# Witnesses and solvers' answers over devices of the system: standard streams that fail, names, pipes, and little memory.
 #
 #     tests/run/witness_devices.sh
 . "$(dirname "${BASH_SOURCE[0]}")/../lib/judge.sh"
@@ -191,6 +191,84 @@ witness_without_memory() {
     fi
 }
 
+# a solver's answer that gives the witness, over the same model
+reach() { "$program" aigunroll --frames 2 --answer "$@" "$judged/model.aag"; }
+clauses() { "$program" aigunroll --frames 2 --cnf "$judged/model.aag"; }
+run='1\nb0\n0\n\n\n.\n'
+
+answer_streams() {
+    local stream
+    printf 's SATISFIABLE\nv 0\n' > "$judged/answer"
+    printf 's SAT\n' > "$judged/bad_answer"
+    for stream in closed full; do
+        wants '' 'aiger: -: cannot write\n' 1
+        check "clauses, a $stream standard output" "output_$stream" clauses
+        check "an answer, a $stream standard output" "output_$stream" reach "$judged/answer"
+        wants '' "aiger: $judged/bad_answer: line 1: bad answer line\n" 1
+        check "a bad answer, a $stream standard output" "output_$stream" reach "$judged/bad_answer"
+        wants '' '' 1
+        check "a bad answer, a $stream standard error" "errors_$stream" reach "$judged/bad_answer"
+        wants "$run" '' 0
+        check "an answer, a $stream standard error" "errors_$stream" reach "$judged/answer"
+    done
+    wants '' 'aiger: -: cannot read\n' 1
+    check 'a directory as answer by standard input' reach - < "$work"
+    check 'a closed standard input as answer' reach - <&-
+    check 'a closed standard input as model of an answer' "$program" aigunroll --frames 2 - --answer "$judged/answer" <&-
+    wants "$run" '' 0
+    check 'the answer by standard input' reach - < "$judged/answer"
+    check 'a name of an answer that begins with -, behind =' eval 'cp "$judged/answer" "$judged/-a" && cd "$judged" && reach=-a &&
+        "$program" aigunroll --frames 2 --answer=$reach model.aag'
+    answer_in_pieces() { printf 'c\ns SAT'; sleep 0.1; printf 'ISFIABLE\r'; sleep 0.1; printf '\nv 4'; sleep 0.1; printf '2 0'; }
+    answer_in_pieces | reach - > "$work/out" 2> "$work/err"
+    judge 'an answer that comes in pieces' "${PIPESTATUS[1]}"
+    # clauses, the solver and its answer side by side, as the model has a name
+    wants '' 'aiger: -: unsatisfiable\n' 1
+    clauses | { cat > "$work/through"; printf 's UNSATISFIABLE\n'; } | reach - > "$work/out" 2> "$work/err"
+    judge 'from clauses to an answer in one pipe' "${PIPESTATUS[2]}"
+}
+
+# an answer whose model is refused, or of which the words are, is left alone for whoever reads standard input next
+answers_left_alone() {
+    wants 's SATISFIABLE\nv 0\n' '' 0
+    check 'the answer on a model that is refused' unread aigunroll --frames 2 --answer - "$judged/cut.aag" < "$judged/answer"
+    check 'the answer on a model that is not there' unread aigunroll --frames 2 --answer - "$judged/none" < "$judged/answer"
+    check 'the answer on no such bad state' \
+        unread aigunroll --frames 2 --answer - --bad 1 "$judged/model.aag" < "$judged/answer"
+    check 'the answer of words that are refused' \
+        unread aigunroll --frames 2 --cnf --answer - "$judged/model.aag" < "$judged/answer"
+    wants "${run}s SATISFIABLE\nv 0\n" '' 0
+    check 'standard input, where model and answer are named' \
+        unread aigunroll --frames 2 --answer "$judged/answer" "$judged/model.aag" < "$judged/answer"
+}
+
+# memory is taken for the model and the inputs of all frames, and not for what an answer holds besides
+answer_memory() {
+    reach_in_little() { ( ulimit -v 20480 && exec timeout 300 "$program" aigunroll --frames 2 --answer - "$judged/model.aag" ); }
+    # many COUNT BYTES: these bytes so often
+    many() { yes "$2" 2> /dev/null | head -n "$1" | tr -d '\n'; }
+    wants "$run" '' 0
+    { printf 'c'; many 2000000 ' a comment of 25 characters'; printf '\ns SATISFIABLE\nv 0\n'; } | reach_in_little > "$work/out" 2> "$work/err"
+    judge 'a comment of 50 MB in 20 MB of memory' "${PIPESTATUS[1]}"
+    { printf 's SATISFIABLE\nv'; many 4000000 ' -2147483647'; printf ' 0\n'; } | reach_in_little > "$work/out" 2> "$work/err"
+    judge 'a line of values of 48 MB in 20 MB of memory' "${PIPESTATUS[1]}"
+    wants '' 'aiger: -: line 2: bad answer line\n' 1
+    { printf 's SATISFIABLE\nv '; many 4000000 '1234567890'; printf ' 0\n'; } | reach_in_little > "$work/out" 2> "$work/err"
+    judge 'a number of 40 MB in 20 MB of memory' "${PIPESTATUS[1]}"
+    # which has no end, so that it must not be waited for
+    wants '' 'aiger: -: line 3: bad answer line\n' 1
+    { printf 'c\nc\n'; yes wrong 2> /dev/null; } | reach_in_little > "$work/out" 2> "$work/err"
+    judge 'a wrong answer without an end' "${PIPESTATUS[1]}"
+    # too many inputs for the memory: nothing was read of the answer
+    printf 'aig 100000000 100000000 0 0 0 1\n2\n' > "$work/inputs"
+    too_large_to_reach() { within 204800 "$program" aigunroll --frames 2 --answer - "$work/inputs" 2> "$work/told"; cat; }
+    wants 's SATISFIABLE\nv 0\n' '' 0
+    check 'a model too large for the memory, and an answer' too_large_to_reach < "$judged/answer"
+    if [ "$(cat "$work/told")" = 'aiger: out of memory' ]; then pass; else
+        fail 'a model of an answer too large for the memory' "came   $(cat "$work/told")"
+    fi
+}
+
 make_witnesses
 witness_outputs
 witness_inputs
@@ -199,4 +277,7 @@ witness_in_pieces
 witness_names
 witness_pipes
 witness_memory
+answer_streams
+answers_left_alone
+answer_memory
 finish

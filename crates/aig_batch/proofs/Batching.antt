@@ -21,7 +21,7 @@ use Rattle.aig_lanes.specs.declared.run.Run.{Run}
 use Rattle.aig_trace.specs.Parts.Progress.{begin_of}
 use Rattle.aig_trace.specs.Parts.Tracing.{PutText, Tracing}
 use Rattle.aig_batch.specs.Batched.{BatchSays, NotCollected}
-use Rattle.aig_batch.specs.Parts.RunsRead.{PutRuns, Says, entries_of_groups}
+use Rattle.aig_batch.specs.Parts.RunsRead.{PutRuns, SaysEntries, entries_of_groups}
 use Rattle.aig_batch.specs.Parts.Sent.{of_sink}
 use Rattle.aig_batch.proofs.Side.Fronts.{front_goes, goes_too}
 use Rattle.aig_trace.proofs.RunTexts.{goes_over, closing, goes_is_text}
@@ -29,7 +29,7 @@ use Rattle.aig_trace.proofs.RunTexts.{goes_over, closing, goes_is_text}
 -- the text of the front was put, and then that of all lines behind it
 pub put_behind : {W : Type 0} (c d : Circuit) (t : Tracing) (bytes rest : List ℕ) (groups : List (List Run))
     (a mid b : Out W) → MeansTheSame c t.circuit → MeansTheSame c d
-    → Says (length c.inputs) bytes (entries_of_groups groups) rest → first_bad_line c bytes true ≡ None
+    → SaysEntries (length c.inputs) bytes (entries_of_groups groups) rest → first_bad_line c bytes true ≡ None
     → PutRuns d t.columns groups a mid → PutText t rest mid b
     → (text : List ℕ) × IsTraceUpTo c t.columns bytes true None text × Put a b text
 put_behind c d t bytes rest groups a mid b means runs says none front back =

@@ -1,21 +1,20 @@
 //! A simulation that reads the whole stimulus before it sends anything.
-ghost use Rattle.std.specs.Prelude.{◌≡◌, ◌≤◌, ℕ, List, None, length, true};
+ghost use Rattle.std.specs.Prelude.{◌≡◌, ℕ, List, None, length, true};
 ghost use Rattle.std.specs.List.{All};
 ghost use Rattle.aig_circuit.specs.declared.circuit.Circuit.{Circuit as CircuitRecord};
 ghost use Rattle.aig_io.specs.Devices.{CanFail};
 ghost use Rattle.aig_io.specs.Runs.{AtEnd, Ran, Sent};
-ghost use Rattle.aig_lanes.specs.declared.run.Run.{Run as RunRecord};
 ghost use Rattle.aig_batch.specs.Batched.{BatchSays};
 ghost use Rattle.aig_step.specs.Outcome.{first_bad_line};
-ghost use Rattle.aig_lanes.specs.Parts.Benches.{Fits, HasRoomFor, IsBench};
-ghost use Rattle.aig_batch.specs.Parts.RunsRead.{PutRuns, Says, entries_of_groups};
+ghost use Rattle.aig_lanes.specs.Parts.Benches.{HasRoomFor};
+ghost use Rattle.aig_batch.specs.Parts.RunsRead.{PutRuns, SaysEntries, entries_of_groups};
 ghost use Rattle.aig_batch.specs.Parts.Sent.{of_sink};
 ghost use Rattle.aig_trace.specs.Parts.Tracing.{IsFresh};
 ghost use Rattle.aig_lanes.specs.Runs.{IsRunOf};
 ghost use Rattle.aig_meaning.specs.Meaning.{MeansTheSame};
 
 use crate::collected::collect;
-use crate::front::read_front;
+use crate::front::read_front_groups;
 use crate::text_group::run_group;
 use aig_checked::Checked;
 use aig_io::{DeviceFault, Output, Sink, Source};
@@ -31,11 +30,8 @@ fn put_groups<W: Sink>(
     groups: &[RunGroup],
     bench: &mut Bench,
 )
-    requires lanes { All (λ (runs : List RunRecord). length runs ≤ 256) groups.now }
-    requires fits { All (λ (runs : List RunRecord). All (IsRunOf machine.now) runs) groups.now }
-    requires is { IsBench machine.now bench.old }
-    requires counts { All (All (Fits machine.now)) groups.now }
-    requires room { All (HasRoomFor bench.old) groups.now }
+    requires runs { All (All (IsRunOf machine.now)) groups.now }
+    requires room { All (HasRoomFor machine.now bench.old) groups.now }
     ensures { PutRuns machine.now bench.old.shown.columns groups.now output.old output.new }
 {
     for group in groups {
@@ -43,7 +39,8 @@ fn put_groups<W: Sink>(
     }
 }
 
-/// Sends the text for the front of a stimulus that has no bad line, and the text for what comes behind it.
+/// Sends the text for the front of a stimulus that has no bad line, and the text for what comes
+/// behind it.
 fn trace_good<W: Sink>(
     reader: StimulusReader,
     sink: &mut W,
@@ -54,20 +51,18 @@ fn trace_good<W: Sink>(
     requires fresh { IsFresh reader }
     requires same { reader.tracing.columns ≡ bench.old.shown.columns }
     requires sink { CanFail (W.past sink.old) }
-    requires lanes { All (λ (runs : List RunRecord). length runs ≤ 256) groups.now }
-    requires fits { All (λ (runs : List RunRecord). All (IsRunOf reader.tracing.circuit) runs) groups.now }
-    requires is { IsBench reader.tracing.circuit bench.old }
-    requires counts { All (All (Fits reader.tracing.circuit)) groups.now }
-    requires room { All (HasRoomFor bench.old) groups.now }
+    requires runs { All (All (IsRunOf reader.tracing.circuit)) groups.now }
+    requires room { All (HasRoomFor reader.tracing.circuit bench.old) groups.now }
     ensures { (c : CircuitRecord) (bytes : List ℕ) → MeansTheSame c reader.tracing.circuit
-        → Says (length c.inputs) bytes (entries_of_groups groups.now) rest.now
-        → first_bad_line c bytes true ≡ None → Sent (BatchSays c reader.tracing.columns (of_sink result) bytes AtEnd)
+        → SaysEntries (length c.inputs) bytes (entries_of_groups groups.now) rest.now
+        → first_bad_line c bytes true ≡ None
+        → Sent (BatchSays c reader.tracing.columns (of_sink result) bytes AtEnd)
         (W.past sink.old) (W.past sink.new) }
 {
     let mut output = Output::new(sink);
     put_groups(&mut output, reader.machine(), groups, bench);
     // No line is bad, so the text is that for all of the rest.
-    let (sent, _sink) = reader.put_text(output, rest).finish();
+    let (sent, _sink) = reader.put_trace_text(output, rest).finish();
     sent
 }
 
@@ -84,11 +79,12 @@ fn trace_lines<W: Sink>(
         → Sent (BatchSays c reader.tracing.columns (of_sink result) bytes.now AtEnd)
         (W.past sink.old) (W.past sink.new) }
 {
-    let (sent, _sink) = reader.put_text(Output::new(sink), bytes).finish();
+    let (sent, _sink) = reader.put_trace_text(Output::new(sink), bytes).finish();
     sent
 }
 
-/// Sends the text for a stimulus that has no bad line. All memory is taken before the first byte is sent.
+/// Sends the text for a stimulus that has no bad line. All memory is taken before the first byte is
+/// sent.
 fn trace_collected<W: Sink>(
     alloc: Global,
     checked: &Checked,
@@ -102,7 +98,8 @@ fn trace_collected<W: Sink>(
     requires columns { reader.tracing.columns ≡ columns }
     requires none_bad { first_bad_line checked.now bytes.now true ≡ None }
     requires sink { CanFail (W.past sink.old) }
-    ensures { Sent (BatchSays checked.now columns result bytes.now AtEnd) (W.past sink.old) (W.past sink.new) }
+    ensures { Sent (BatchSays checked.now columns result bytes.now AtEnd)
+        (W.past sink.old) (W.past sink.new) }
 {
     let circuit = checked.circuit();
     if circuit.latches.len() == 0 && circuit.inputs.len() <= MOST_INPUTS {
@@ -112,8 +109,8 @@ fn trace_collected<W: Sink>(
             Err(_fault) => Err(SimFault::WriteFailed),
         };
     }
-    let Ok((groups, rest)) = read_front(alloc, circuit.inputs.len(), bytes) else {
-        drop(reader);
+    let Ok((groups, rest)) = read_front_groups(alloc, circuit.inputs.len(), bytes) else {
+        drop(reader); // for the proof
         return Err(SimFault::OutOfMemory);
     };
     let Ok(mut bench) = Bench::new(
@@ -123,23 +120,23 @@ fn trace_collected<W: Sink>(
         line_room(checked),
         &groups,
     ) else {
-        drop(reader);
-        drop(groups);
+        drop(reader); // for the proof
+        drop(groups); // for the proof
         return Err(SimFault::OutOfMemory);
     };
     let sent = trace_good(reader, sink, &groups, &mut bench, rest);
-    drop(groups);
-    drop(bench);
+    drop(groups); // for the proof
+    drop(bench); // for the proof
     match sent {
         Ok(()) => Ok(()),
         Err(_fault) => Err(SimFault::WriteFailed),
     }
 }
 
-/// Simulates a circuit over a stimulus text, and writes the trace text, as `simulate` does; but the whole stimulus is
-/// read, and each line of it found good, before anything is sent. All memory is taken before that too: beside the
-/// stimulus that of what is kept of 256 runs, which are stepped side by side. That is faster than `simulate` from some
-/// hundred gates on.
+/// Simulates a circuit over a stimulus text, and writes the trace text, as `simulate` does; but the
+/// whole stimulus is read, and each line of it found good, before anything is sent. All memory is
+/// taken before that too: beside the stimulus that of what is kept of 256 runs, which are stepped
+/// side by side. That is faster than `simulate` from some hundred gates on.
 // Not built into its callers, whose stack would then hold the rooms for lines several times over.
 #[inline(never)]
 pub fn simulate_batched<R: Source, W: Sink>(
@@ -158,11 +155,11 @@ pub fn simulate_batched<R: Source, W: Sink>(
     let bytes = match collect(alloc, checked, source) {
         Ok(bytes) => bytes,
         Err(fault) => {
-            drop(reader);
+            drop(reader); // for the proof
             return Err(fault);
         }
     };
     let traced = trace_collected(alloc, checked, columns, reader, sink, &bytes);
-    drop(bytes);
+    drop(bytes); // for the proof
     traced
 }

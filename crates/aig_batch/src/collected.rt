@@ -49,7 +49,8 @@ fn collect_into<R: Source>(
     requires none { bytes.old.items ≡ [] }
     ensures came { OnOk result (R.past source.new ≡ gave_all bytes.new.items (R.past source.old)) }
     ensures good { OnOk result (first_bad_line checked.now bytes.new.items true ≡ None) }
-    ensures err { IfErr result (λ e. Read (NotCollected checked.now e) (R.past source.old) (R.past source.new)) }
+    ensures err { IfErr result (λ e.
+        Read (NotCollected checked.now e) (R.past source.old) (R.past source.new)) }
 {
     let mut judge = Judge {
         inputs: checked.circuit().inputs.len(),
@@ -73,7 +74,8 @@ fn collect_into<R: Source>(
     }
 }
 
-/// Reads all bytes of a stimulus, and judges each line as it comes: after a bad one nothing more is fetched.
+/// Reads all bytes of a stimulus, and judges each line as it comes: after a bad one nothing more is
+/// fetched.
 pub(crate) fn collect<R: Source>(
     alloc: Global,
     checked: &Checked,
@@ -82,16 +84,17 @@ pub(crate) fn collect<R: Source>(
     requires { CanFail (R.past source.old) }
     ensures came { IfOk result (λ all. R.past source.new ≡ gave_all all.items (R.past source.old)) }
     ensures good { IfOk result (λ all. first_bad_line checked.now all.items true ≡ None) }
-    ensures err { IfErr result (λ e. Read (NotCollected checked.now e) (R.past source.old) (R.past source.new)) }
+    ensures err { IfErr result (λ e.
+        Read (NotCollected checked.now e) (R.past source.old) (R.past source.new)) }
 {
     let mut feeder = LineFeeder::new(alloc, checked.circuit().inputs.len().max(1))?;
     let mut bytes = Vec::new(alloc);
     let collected = collect_into(checked, &mut feeder, source, &mut bytes);
-    drop(feeder);
+    drop(feeder); // for the proof
     match collected {
         Ok(()) => Ok(bytes),
         Err(fault) => {
-            drop(bytes);
+            drop(bytes); // for the proof
             Err(fault)
         }
     }

@@ -3,7 +3,7 @@ ghost use Rattle.std.specs.Prelude.{◌≡◌, ◌+◌, ◌<◌, ◌≤◌, List
 ghost use Rattle.std.specs.List.{All, flat_map};
 ghost use Rattle.aig_circuit.specs.declared.value.Val.{Val as Value};
 ghost use Rattle.aig_lanes.specs.declared.run.Run.{Run as RunRecord};
-ghost use Rattle.aig_batch.specs.Parts.RunsRead.{HasNoBadLine, Says, entries_of_run};
+ghost use Rattle.aig_batch.specs.Parts.RunsRead.{HasNoBadLine, SaysEntries, entries_of_run};
 ghost use Rattle.memchr.specs.Find.{IsFirstByte, is_byte};
 
 use aig_circuit::OutOfMemory;
@@ -24,8 +24,8 @@ fn first_line_len(bytes: &[u8]) -> usize {
     }
 }
 
-/// The first line feed. A line that does not begin as one that ends a run is a step, since none is bad, so its line
-/// feed has its place, and none is looked for.
+/// The first line feed. A line that does not begin as one that ends a run is a step, since none is
+/// bad, so its line feed has its place, and none is looked for.
 #[inline(always)]
 fn first_end(inputs: usize, bytes: &[u8]) -> Option<usize>
     requires { HasNoBadLine inputs bytes.now }
@@ -37,13 +37,15 @@ fn first_end(inputs: usize, bytes: &[u8]) -> Option<usize>
     memchr(b'\n', bytes)
 }
 
-/// The run at the front of the bytes and what comes behind it, if it ends there and all its lines have one length but
-/// for the last, which ends it. No line is judged again.
+/// The run at the front of the bytes and what comes behind it, if it ends there and all its lines
+/// have one length but for the last, which ends it. No line is judged again.
 fn read_run<'a>(inputs: usize, bytes: &'a [u8]) -> Option<(Vectors<'a>, &'a [u8])>
     requires { HasNoBadLine inputs bytes.now }
-    ensures says { IfSome result (λ read. Says inputs bytes.now (entries_of_run read.0) read.1.now) }
+    ensures says { IfSome result (λ read.
+        SaysEntries inputs bytes.now (entries_of_run read.0) read.1.now) }
     ensures shorter { IfSome result (λ read. length read.1.now < length bytes.now) }
-    ensures fits { IfSome result (λ read. All (λ (vector : List Value). length vector ≡ inputs) read.0.steps) }
+    ensures fits { IfSome result (λ read.
+        All (λ (vector : List Value). length vector ≡ inputs) read.0.steps) }
     ensures good { IfSome result (λ read. HasNoBadLine inputs read.1.now) }
 {
     let stride = first_line_len(bytes);
@@ -64,14 +66,16 @@ fn read_run<'a>(inputs: usize, bytes: &'a [u8]) -> Option<(Vectors<'a>, &'a [u8]
     None
 }
 
-/// The runs at the front of the bytes, as many as are stepped side by side or fewer, and what comes behind them.
+/// The runs at the front of the bytes, as many as are stepped side by side or fewer, and what comes
+/// behind them.
 pub(crate) fn read_group<'a>(
     alloc: Global,
     inputs: usize,
     bytes: &'a [u8],
 ) -> Result<(RunGroup<'a>, &'a [u8]), OutOfMemory>
     requires { HasNoBadLine inputs bytes.now }
-    ensures says { IfOk result (λ read. Says inputs bytes.now (flat_map entries_of_run read.0) read.1.now) }
+    ensures says { IfOk result (λ read.
+        SaysEntries inputs bytes.now (flat_map entries_of_run read.0) read.1.now) }
     ensures fits { IfOk result (λ read. All (λ (run : RunRecord).
         All (λ (vector : List Value). length vector ≡ inputs) run.steps) read.0) }
     ensures few { IfOk result (λ read. length read.0 ≤ 256) }

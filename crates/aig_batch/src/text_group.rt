@@ -1,11 +1,13 @@
 //! The texts of groups of runs that are stepped side by side, put run by run.
-ghost use Rattle.std.specs.Prelude.{◌+◌, ◌*◌, ◌<◌, ◌≤◌, ◌^◌, ◌++◌, ℕ, List, codes, length, slice_index_or};
+ghost use Rattle.std.specs.Prelude.{◌+◌, ◌*◌, ◌<◌, ◌≤◌, ◌^◌, ◌++◌, ℕ, List, codes, length};
+ghost use Rattle.std.specs.Prelude.{slice_index_or};
 ghost use Rattle.std.specs.List.{All};
 ghost use Rattle.aig_circuit.specs.declared.value.Val.{Val as Value};
 ghost use Rattle.aig_io.specs.Output.{Put};
 ghost use Rattle.aig_lanes.specs.declared.run.Run.{Run as RunRecord};
-ghost use Rattle.aig_lanes.specs.Parts.Benches.{Fits, HasRoomFor, HasSameRoom, IsBench};
-ghost use Rattle.aig_lanes.specs.Parts.LaneTexts.{HoldsRun, HoldsRuns, KeepsRun, kept_text, shown_size};
+ghost use Rattle.aig_lanes.specs.Parts.Benches.{HasRoomFor, HasSameRoom};
+ghost use Rattle.aig_lanes.specs.Parts.LaneTexts.{HoldsRun, HoldsRuns, KeepsRun};
+ghost use Rattle.aig_lanes.specs.Parts.LaneTexts.{kept_text, shown_size};
 ghost use Rattle.aig_lanes.specs.Parts.Sheets.{text_in};
 ghost use Rattle.aig_batch.specs.Parts.RunsRead.{kept_texts, text_of_group};
 ghost use Rattle.aig_lanes.specs.Runs.{IsRunOf};
@@ -26,10 +28,11 @@ fn put_run<W: Sink>(
     requires lane { lane < 256 }
     requires fits { length run.now.steps * shown_size shown.now < 2 ^ 64 }
     requires room { HoldsRun lane run.now shown.now sheet.now }
-    requires line { All (λ (vector : List Value). shown_size shown.now + length vector ≤ length line.old)
-        run.now.steps }
+    requires line { All (λ (vector : List Value).
+        shown_size shown.now + length vector ≤ length line.old) run.now.steps }
     ensures { Put output.old output.new
-        (kept_text shown.now run.now (length run.now.steps) (text_in lane sheet.now) ++ codes ".\n") }
+        (kept_text shown.now run.now (length run.now.steps) (text_in lane sheet.now)
+        ++ codes ".\n") }
 {
     for step in 0..run.len() {
         let shown_line = ShownLine {
@@ -53,7 +56,8 @@ fn put_runs<W: Sink>(
     sheet: &Sheet,
 )
     requires lanes { length runs.now ≤ 256 }
-    requires fits { All (λ (run : RunRecord). length run.steps * shown_size shown.now < 2 ^ 64) runs.now }
+    requires fits { All (λ (run : RunRecord).
+        length run.steps * shown_size shown.now < 2 ^ 64) runs.now }
     requires room { HoldsRuns shown.now sheet.now runs.now }
     requires line { All (λ (run : RunRecord). All (λ (vector : List Value).
         shown_size shown.now + length vector ≤ length line.old) run.steps) runs.now }
@@ -72,12 +76,8 @@ pub(crate) fn run_group<W: Sink>(
     runs: &[Vectors],
     output: &mut Output<W>,
 )
-    requires lanes { length runs.now ≤ 256 }
     requires runs { All (IsRunOf machine.now) runs.now }
-    requires fits { All (Fits machine.now) runs.now }
-    requires is { IsBench machine.now bench.old }
-    requires room { HasRoomFor bench.old runs.now }
-    ensures is { IsBench machine.now bench.new }
+    requires room { HasRoomFor machine.now bench.old runs.now }
     ensures same { HasSameRoom bench.old bench.new }
     ensures put { Put output.old output.new
         (text_of_group (kept_texts bench.new.shown runs.now (length runs.now) bench.new.sheet)) }

@@ -106,7 +106,8 @@ whole_read tell s u v a b c answer reads h =
 -- A source whose first bytes were fetched, and of which the header or the lines in front of the gates were read.
 
 -- what bytes told is what those tell that are left when the first of their whole lines are taken
-passed : (tell s : List ℕ → Result Circuit ReadFault) (bytes lines rest held : List ℕ) (used : ℕ) → bytes ≡ lines ++ rest
+passed : (tell s : List ℕ → Result Circuit ReadFault) (bytes lines rest held : List ℕ) (used : ℕ)
+    → bytes ≡ lines ++ rest
     → used ≤ length lines → ((more : List ℕ) → tell (lines ++ more) ≡ s (drop used lines ++ more))
     → held ≡ drop used bytes → (more : List ℕ) → tell (bytes ++ more) ≡ s (held ++ more)
 passed tell s bytes lines rest held used cut within on is more =

@@ -18,7 +18,7 @@ DeltasAreUnambiguous =
     → (a ≡ b) × (value ≡ other)
 
 -- what is read at the front of bytes is exactly the number that is spelled there
-abbrev pub ReadExactly : Type 0
-ReadExactly =
+abbrev pub DeltasAreReadExactly : Type 0
+DeltasAreReadExactly =
     (bytes rest : List ℕ) (value : ℕ)
     → (delta_at bytes ≡ Some (value, rest)) ↔ ((d : List ℕ) × (bytes ≡ d ++ rest) × IsDelta d value)

@@ -113,7 +113,7 @@ fn small_only(value: u64, count: usize) -> Option<(u32, usize)>
 
 /// Most numbers of a file have one to three bytes, and are read without a loop.
 #[inline(always)]
-#[tactic(auto, using(crate::proofs::Deltas::Reading::delta_of_one, crate::proofs::Deltas::Reading::delta_of_two, crate::proofs::Deltas::Reading::delta_of_three))]
+#[tactic(auto, using(crate::proofs::Deltas::Reading::short_deltas))]
 fn get_short_delta(bytes: &[u8]) -> Option<(u32, usize)>
     requires { 3 ≤ length bytes.now }
     ensures delta { IfSome result (λ x. delta_at bytes.now ≡ Some (x.0, drop x.1 bytes.now)) }

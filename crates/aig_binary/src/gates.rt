@@ -49,7 +49,7 @@ fn lower(from: u32, least: u32, bytes: &[u8]) -> Result<(u32, &[u8]), ReadKind>
 
 #[inline(always)]
 #[tactic(auto, unfolding(crate::specs::BinaryReading::gate_at))]
-fn next_gate(variable: u32, bytes: &[u8]) -> Result<(Gate, &[u8]), ReadKind>
+fn read_gate(variable: u32, bytes: &[u8]) -> Result<(Gate, &[u8]), ReadKind>
     requires { 2 * variable < 2 ^ 32 }
     ensures gate { GivesOrFails (λ x. (x.0, x.1.now)) result (gate_at variable bytes.now) }
     ensures shorter { IfOk result (λ x. length x.1.now ≤ length bytes.now) }
@@ -95,7 +95,7 @@ pub(crate) fn read_first_gates(
 {
     let mut rest = bytes;
     for at in found.len() as u32..count {
-        match next_gate(variable + at, rest) {
+        match read_gate(variable + at, rest) {
             Ok((gate, behind)) => {
                 found.push(gate)?;
                 rest = behind;

@@ -1,6 +1,6 @@
 //! Laws: facts about the definitions alone, each the contract of a function with an empty body.
 ghost use Rattle.aig_binary.specs.Laws.{ShortestIsDelta, ShortestIsOne};
-ghost use Rattle.aig_binary.specs.Laws.{DeltasAreUnambiguous, ReadExactly};
+ghost use Rattle.aig_binary.specs.Laws.{DeltasAreUnambiguous, DeltasAreReadExactly};
 ghost use Rattle.aig_binary.specs.FileLaws.{BinaryReadExactly, BinaryFaultyOrAccepted};
 ghost use Rattle.aig_binary.specs.FileLaws.{BinaryTextsAreUnambiguous};
 ghost use Rattle.aig_binary.specs.FileLaws.{CanonicalBinaryIsAccepted};
@@ -22,8 +22,8 @@ pub fn deltas_are_unambiguous()
 {}
 
 /// What is read at the front of bytes is exactly the number that is spelled there.
-pub fn read_exactly()
-    ensures { ReadExactly }
+pub fn deltas_are_read_exactly()
+    ensures { DeltasAreReadExactly }
 {}
 
 /// What is read of a text is a circuit exactly where the text is the binary file of that circuit.

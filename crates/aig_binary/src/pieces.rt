@@ -10,7 +10,7 @@ ghost use Rattle.aig_binary.specs.Begun.{front_at, gates_then, rest_of};
 
 use crate::gates::{read_first_gates, read_gates};
 use crate::piecewise::Pieces;
-use crate::reader::{define, read_front};
+use crate::reader::{add_definitions, read_front};
 use aig_core::{Circuit, Gate, Listing};
 use aig_lines::Cursor;
 use aig_text::{Header, Limits, ReadFault, tail};
@@ -129,7 +129,7 @@ impl Pieces for BinaryReader {
             }
         };
         // The inputs that a header promises take memory only where all lines and gates were there.
-        if let Err(fault) = define(alloc, &header, gates, &mut circuit) {
+        if let Err(fault) = add_definitions(alloc, &header, gates, &mut circuit) {
             drop(circuit); // for the proof
             return Err(fault);
         }

@@ -150,7 +150,7 @@ fn read_sections(
 }
 
 /// Adds the definitions that no line tells.
-pub(crate) fn define(
+pub(crate) fn add_definitions(
     alloc: Global,
     header: &Header,
     gates: Listing<Gate>,
@@ -184,7 +184,7 @@ pub(crate) fn read_front(
 }
 
 /// Whether it is well formed is not checked here.
-fn read_circuit(alloc: Global, bytes: &[u8], limits: Limits) -> Result<Circuit, ReadFault>
+fn read_unchecked(alloc: Global, bytes: &[u8], limits: Limits) -> Result<Circuit, ReadFault>
     ensures { GivesOrMemory (λ c. c) result (binary_at limits.max_var (lines_of bytes.now)) }
 {
     let mut at = Cursor::new(bytes);
@@ -204,6 +204,6 @@ pub fn read_binary(alloc: Global, bytes: &[u8], limits: Limits) -> Result<Checke
 {
     // What is read of a binary file is well formed already: its gates are in order, and define all
     // that is used. That it is in binary order stays known, so nobody need look at its gates again.
-    let circuit = read_circuit(alloc, bytes, limits)?;
+    let circuit = read_unchecked(alloc, bytes, limits)?;
     Ok(Ordered::from_well_ordered(circuit).into_checked())
 }

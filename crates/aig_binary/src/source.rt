@@ -52,7 +52,7 @@ fn fetch_first<R: Source>(alloc: Global, source: &mut R) -> Result<(Window, bool
 
 /// There is no reader where the lines are not right. Answers whether the source goes on. Lines that
 /// are not there yet are read anew when twice as much is held, so on the whole no more than twice.
-fn read_front<R: Source>(
+fn begin_reader<R: Source>(
     alloc: Global,
     source: &mut R,
     window: &mut Window,
@@ -125,7 +125,7 @@ fn read_binary_file<R: Source>(
         → ReadsAs (AnswersFile limits.max_var) result before (R.past source.new) }
 {
     let mut window = window;
-    let (front, more) = read_front(alloc, source, &mut window, limits)?;
+    let (front, more) = begin_reader(alloc, source, &mut window, limits)?;
     let Some(reader) = front else {
         return read_whole(alloc, source, window, more, limits, Keep::Circuit);
     };

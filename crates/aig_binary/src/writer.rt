@@ -31,7 +31,7 @@ fn put_next<W: Sink>(output: &mut Output<W>, latch: Latch)
     }
 }
 
-fn put_nexts<W: Sink>(output: &mut Output<W>, latches: &[Latch])
+fn put_next_lines<W: Sink>(output: &mut Output<W>, latches: &[Latch])
     ensures { Put output.old output.new (flat_map
         (λ (l : LatchRecord). row_text 0 (next_row l)) latches.now) }
 {
@@ -40,10 +40,10 @@ fn put_nexts<W: Sink>(output: &mut Output<W>, latches: &[Latch])
     }
 }
 
-fn put_lines<W: Sink>(output: &mut Output<W>, circuit: &Circuit)
+fn put_front_lines<W: Sink>(output: &mut Output<W>, circuit: &Circuit)
     ensures { Put output.old output.new (flat_map line_text (binary_rows_of circuit.now)) }
 {
-    put_nexts(output, circuit.latches.as_slice());
+    put_next_lines(output, circuit.latches.as_slice());
     put_literal_sections(output, circuit);
 }
 
@@ -88,7 +88,7 @@ fn put_text<W: Sink>(output: &mut Output<W>, circuit: &Circuit)
     ensures { Put output.old output.new (binary_text circuit.now) }
 {
     put_header(output, BINARY_WORD, &header_numbers(circuit));
-    put_lines(output, circuit);
+    put_front_lines(output, circuit);
     put_gates(output, circuit.gates.as_slice());
     put_tail(output, circuit);
 }

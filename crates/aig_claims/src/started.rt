@@ -7,7 +7,7 @@ use aig_checked::Checked;
 use aig_circuit::{Circuit, Latch, Listing, Reset};
 
 /// The reset by which a latch starts at the value of a character.
-fn reset_of(character: u8) -> Reset
+fn reset_by_character(character: u8) -> Reset
     ensures { result ≡ reset_to (value_or_x character) }
 {
     match character {
@@ -22,7 +22,7 @@ fn reset_by(latches: &mut [Latch], text: &[u8])
     ensures { latches.new ≡ with_resets (map reset_to (map value_or_x text.now)) latches.old }
 {
     for i in 0..latches.len().min(text.len()) {
-        latches[i].reset = reset_of(text[i]);
+        latches[i].reset = reset_by_character(text[i]);
     }
 }
 

@@ -12,7 +12,7 @@ use Rattle.clap.specs.declared.parser.matches.ArgMatches.{ArgMatches}
 use Rattle.clap.proofs.OnLiterals.{clap_on_literals}
 use Rattle.clap.proofs.WalkLemmas.{list_any-map}
 use Rattle.aig_command.specs.Aiger.{aiger}
-use Rattle.aig_command.specs.Asked.{Asked, IsWithinLimits, asked_by, command_of, faults}
+use Rattle.aig_command.specs.Asked.{Asked, AsksWithinLimits, asked_by, command_of, faults}
 use Rattle.aig_command.specs.Answer.{IsAnswer, IsCommand, IsErrorAnswer, IsUsage, IsWrong, asks_for, is_option, texts}
 use Rattle.aig_command.specs.declared.request.Command.{Command}
 use Rattle.aig_command.specs.declared.request.Command.TheVariants as commands
@@ -40,6 +40,7 @@ is_command words None r is some h = absurd (true≢false (sym some))
 is_command words (Some asked) (Ok (commands.ToAig request)) is some h = is ∙ ap Some h
 is_command words (Some asked) (Ok (commands.Sim request)) is some h = is ∙ ap Some h
 is_command words (Some asked) (Ok (commands.Unroll request)) is some h = is ∙ ap Some h
+is_command words (Some asked) (Ok (commands.Reach request)) is some h = is ∙ ap Some h
 is_command words (Some asked) (Ok (commands.Help text)) is some h = absurd h
 is_command words (Some asked) (Ok (commands.Version text)) is some h = absurd h
 is_command words (Some asked) (Err reason) is some h = tt
@@ -53,16 +54,22 @@ is_usage words (Some asked) (Err (usage.Words text)) is some h = absurd h
 is_usage words (Some asked) (Err usage.KeepMapNeedsBinary) is some h = is ∙ ap Some h
 is_usage words (Some asked) (Err usage.KeepMapExcludesStrip) is some h = is ∙ ap Some h
 is_usage words (Some asked) (Err usage.KeepMapExcludesUndoMap) is some h = is ∙ ap Some h
+is_usage words (Some asked) (Err usage.OutputsAsBadExcludesKeepMap) is some h = is ∙ ap Some h
+is_usage words (Some asked) (Err usage.OutputsAsBadExcludesUndoMap) is some h = is ∙ ap Some h
 is_usage words (Some asked) (Err usage.BothStandardInput) is some h = is ∙ ap Some h
 is_usage words (Some asked) (Err usage.CompressedOutput) is some h = is ∙ ap Some h
 is_usage words (Some asked) (Err usage.WitnessAlone) is some h = is ∙ ap Some h
 is_usage words (Some asked) (Err usage.VcdExcludesProperties) is some h = is ∙ ap Some h
+is_usage words (Some asked) (Err usage.CnfExcludesAscii) is some h = is ∙ ap Some h
+is_usage words (Some asked) (Err usage.AnswerAlone) is some h = is ∙ ap Some h
+is_usage words (Some asked) (Err usage.BadNeedsClauses) is some h = is ∙ ap Some h
+is_usage words (Some asked) (Err usage.BothAreStandardInput) is some h = is ∙ ap Some h
 
 module _ (words : List Text) (m : ArgMatches) (h : HasMatchesOf aiger words m) (e : faults words ≡ []) where
   pub rows_known : is_some (option_and_then asked_by (subcommand_rows_of m)) ≡ true
   rows_known = ap (λ o. is_some (option_and_then asked_by o)) (h simple).1 ∙ known words e
 
-  pub rows_within : IfSome (option_and_then asked_by (subcommand_rows_of m)) IsWithinLimits
+  pub rows_within : IfSome (option_and_then asked_by (subcommand_rows_of m)) AsksWithinLimits
   rows_within = rw (h simple).1 (within words e)
 
   command_is : command_of words ≡ option_and_then asked_by (subcommand_rows_of m)
@@ -105,25 +112,32 @@ module _ (words : List Text) (kind : ErrorKind) (passes : takes aiger words ≡ 
 
   pub refused_command : (r : Result Command Usage) → IsErrorAnswer kind words r → IfOk r (IsCommand words)
   refused_command (Ok (commands.Help text)) h =
-      (subst (IsWrong words) h.0 (is_wrong (no_memory kind kinds.DisplayHelp refl h.0)), h.1)
+      (subst (IsWrong words) h.0 (is_wrong (no_memory kind kinds.DisplayHelp refl h.0)), h.1, h.2)
   refused_command (Ok (commands.Version text)) h =
-      (subst (IsWrong words) h.0 (is_wrong (no_memory kind kinds.DisplayVersion refl h.0)), h.1)
+      (subst (IsWrong words) h.0 (is_wrong (no_memory kind kinds.DisplayVersion refl h.0)), h.1, h.2)
   refused_command (Ok (commands.ToAig request)) h = absurd h
   refused_command (Ok (commands.Sim request)) h = absurd h
   refused_command (Ok (commands.Unroll request)) h = absurd h
+  refused_command (Ok (commands.Reach request)) h = absurd h
   refused_command (Err reason) h = tt
 
   pub refused_usage : (r : Result Command Usage) → IsErrorAnswer kind words r → IfErr r (IsUsage words)
   refused_usage (Ok command) h = tt
   refused_usage (Err usage.OutOfMemory) h = tt
-  refused_usage (Err (usage.Words text)) h = (kind, is_wrong h.0, h.1, h.2)
+  refused_usage (Err (usage.Words text)) h = (kind, is_wrong h.0, h.1, h.2, h.3)
   refused_usage (Err usage.KeepMapNeedsBinary) h = absurd h
   refused_usage (Err usage.KeepMapExcludesStrip) h = absurd h
   refused_usage (Err usage.KeepMapExcludesUndoMap) h = absurd h
+  refused_usage (Err usage.OutputsAsBadExcludesKeepMap) h = absurd h
+  refused_usage (Err usage.OutputsAsBadExcludesUndoMap) h = absurd h
   refused_usage (Err usage.BothStandardInput) h = absurd h
   refused_usage (Err usage.CompressedOutput) h = absurd h
   refused_usage (Err usage.WitnessAlone) h = absurd h
   refused_usage (Err usage.VcdExcludesProperties) h = absurd h
+  refused_usage (Err usage.CnfExcludesAscii) h = absurd h
+  refused_usage (Err usage.AnswerAlone) h = absurd h
+  refused_usage (Err usage.BadNeedsClauses) h = absurd h
+  refused_usage (Err usage.BothAreStandardInput) h = absurd h
 
 -- ---- an argument that asks for a text
 

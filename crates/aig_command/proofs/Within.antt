@@ -2,7 +2,7 @@
 use Rattle.std.proofs.Common.{◌≡◌, ◌∙◌, ◌&&◌, ◌∷◌, ◌<◌, ◌≤◌, ◌==◌, ◌^◌, rules, ℕ, Bool, Option, Some, None, Result}
 use Rattle.std.proofs.Common.{List, [], ap, cond, false, length, refl, sym, true, true≢false, option_map, IfSome, arith}
 use Rattle.std.proofs.Common.{drop, codes, nat_lt, option_and_then, unwrap_or, pos, slice_get, Bor, find, bytes_eq}
-use Rattle.std.proofs.Common.{lt-ltb, ltb-true, ne_eqb}
+use Rattle.std.proofs.Common.{is_some, lt-ltb, ltb-true, ne_eqb}
 use Rattle.std.specs.Prelude.{⊤}
 use Rattle.std.specs.List.{list_all, AllByRecursion}
 use Rattle.std.specs.Option.{option_map_or}
@@ -27,8 +27,10 @@ use Rattle.clap.specs.declared.builder.value_parser.ValueParser.{ValueParser}
 use Rattle.clap.specs.declared.builder.value_parser.ValueParser.TheVariants as parser
 use Rattle.clap.proofs.CallerReads.{signed_reads}
 use Rattle.clap.proofs.ValueTestLemmas.{accepts-Accepts}
-use Rattle.aig_command.specs.Asked.{file, number_in, Asked, IsWithinLimits, asked_by, command_of, conversion, converts}
-use Rattle.aig_command.specs.Asked.{faults, frames, limit, number, refused, simulates, simulation, unrolling, unrolls}
+use Rattle.aig_command.specs.Asked.{file, number_in, Asked, AsksWithinLimits, asked_by, command_of, conversion}
+use Rattle.aig_command.specs.Asked.{converts, faults, frames, limit, number, refused, simulates, simulation}
+use Rattle.aig_command.specs.Asked.{aigunroll, asked_reaching, asked_unrolling, is_given, options_refusal, reaches}
+use Rattle.aig_command.specs.Asked.{reaching, unrolling, unrolls}
 use Rattle.aig_command.specs.Aiger.{aiger, largest_index, max_var, most_frames, frames as frames_rule}
 use Rattle.aig_command.specs.declared.usage.Usage.{Usage}
 use Rattle.aig_command.proofs.Entered.{found_has, is_none, second_empty, stop_at, AllPass, IsFirst, first_empty}
@@ -79,12 +81,17 @@ read_number : (text : Text) (r : Option ℕ) → ReadsOne gives text r → r ≡
 read_number text (Some n) h = search (rules, lt-ltb, digits_pass)
 read_number text None h = search (rules, both, ltb-true, digits_from)
 
--- the option that is read as a number, and is this one where there is none
+-- the option that is read as a number, where there is one
+pub number_read : (o : Option Text) (r : Option ℕ) → (o ≡ None → r ≡ None)
+    → ((t : Text) → o ≡ Some t → ReadsOne gives t r) → r ≡ option_and_then number_in o
+number_read None r none value = none refl
+number_read (Some t) r none value = read_number t r (value t refl)
+
+-- and is this one where there is none
 pub number_is : (otherwise : ℕ) (o : Option Text) (r : Option ℕ) → (o ≡ None → r ≡ None)
     → ((t : Text) → o ≡ Some t → ReadsOne gives t r)
     → unwrap_or r otherwise ≡ unwrap_or (option_and_then number_in o) otherwise
-number_is otherwise None r none value = ap (λ x. unwrap_or x otherwise) (none refl)
-number_is otherwise (Some t) r none value = ap (λ x. unwrap_or x otherwise) (read_number t r (value t refl))
+number_is otherwise o r none value = ap (λ x. unwrap_or x otherwise) (number_read o r none value)
 
 -- ---- files
 
@@ -92,8 +99,15 @@ number_is otherwise (Some t) r none value = ap (λ x. unwrap_or x otherwise) (re
 abbrev from_first : Option Text → Option Text
 from_first first = option_and_then (λ name. cond (bytes_eq name (codes "-")) None (Some name)) first
 
+same_given : (o : Option (Bor Text)) → is_some o ≡ is_some (option_map (λ s. s.now) o)
+same_given None = refl
+same_given (Some s) = refl
+
 module _ (m : ArgMatches) (place : Text) (o : Option (Bor Text))
     (is : option_map (λ s. s.now) o ≡ first_value (found_of m) place) where
+  pub given : is_some o ≡ is_given place (rows_of (found_of m))
+  given = same_given o ∙ ap is_some (is ∙ first_value-rows (found_of m) place)
+
   file_is : from_first (option_map (λ s. s.now) o) ≡ file place (rows_of (found_of m))
   file_is = ap from_first (is ∙ first_value-rows (found_of m) place)
 
@@ -184,8 +198,8 @@ module _ (low high otherwise : ℕ) (small : high < 2 ^ 32) (least : low ≤ oth
 
 -- ---- each subcommand
 
-unless_refused : (reason : Option Usage) (asked : Asked) → IsWithinLimits asked
-    → IsWithinLimits (option_map_or refused reason asked)
+unless_refused : (reason : Option Usage) (asked : Asked) → AsksWithinLimits asked
+    → AsksWithinLimits (option_map_or refused reason asked)
 unless_refused None asked h = h
 unless_refused (Some reason) asked h = tt
 
@@ -196,7 +210,7 @@ record AreGood (c : List Rule) (rows : List Row) : Type 0 where
 -- where the values of its arguments pass, what it asks for is within limits
 abbrev IsBounded : Shape → Type 0
 IsBounded s = AllByRecursion (IsFirst s.rules) s.rules
-    × ((rows : List Row) → AreGood s.rules rows → IfSome (asked_by (s.name, rows)) IsWithinLimits)
+    × ((rows : List Row) → AreGood s.rules rows → IfSome (asked_by (s.name, rows)) AsksWithinLimits)
 
 limit_is_in : (c : List Rule) (a : Rule) → arg_by_id c max_var.id ≡ Some a
     → parser_of_value a.parser ≡ parser.Signed (pos 0) (pos largest_index)
@@ -211,6 +225,14 @@ frames_are_in : (c : List Rule) (a : Rule) → arg_by_id c frames_rule.id ≡ So
 frames_are_in c a is p rows h =
     number_is_in 1 most_frames 1 (omega arith) (omega arith) (omega arith) c frames_rule.id a is p rows h.all
 
+aigunroll_is_in : (rows : List Row) → (1 ≤ frames rows) × (frames rows ≤ most_frames) → limit rows ≤ largest_index
+    → AsksWithinLimits (aigunroll rows)
+aigunroll_is_in rows few low = unless_refused (options_refusal rows) _ (go (is_given (codes "answer") rows))
+  where
+    go : (b : Bool) → AsksWithinLimits (cond b (asked_reaching rows) (asked_unrolling rows))
+    go true = unless_refused _ (reaches (reaching rows)) (few.0, few.1, low)
+    go false = unless_refused _ (unrolls (unrolling rows)) (few.0, few.1, low)
+
 subcommands_are_bounded : AllByRecursion IsBounded (built aiger).subs
 subcommands_are_bounded = (
   (search rules, λ rows h. unless_refused _ (converts (conversion rows)) (limit_is_in _ _ refl refl rows h)),
@@ -219,9 +241,7 @@ subcommands_are_bounded = (
     (
       (
         search rules,
-        λ rows h.
-            let few = frames_are_in _ _ refl refl rows h in
-            unless_refused _ (unrolls (unrolling rows)) (few.0, few.1, limit_is_in _ _ refl refl rows h),
+        λ rows h. aigunroll_is_in rows (frames_are_in _ _ refl refl rows h) (limit_is_in _ _ refl refl rows h),
       ),
       tt,
     ),
@@ -231,7 +251,7 @@ subcommands_are_bounded = (
 -- ---- and all of them
 
 entered_within : (stop : Option (Text × List Text)) → entered_fault (built aiger) stop ≡ []
-    → IfSome (option_and_then asked_by (entered (built aiger) stop)) IsWithinLimits
+    → IfSome (option_and_then asked_by (entered (built aiger) stop)) AsksWithinLimits
 entered_within None e = tt
 entered_within (Some p) e =
     go (find named (built aiger).subs) (found_has IsBounded named (built aiger).subs subcommands_are_bounded) e
@@ -241,24 +261,24 @@ entered_within (Some p) e =
 
     go : (o : Option Shape) → IfSome o IsBounded
         → option_map_or (λ s. level_fault s [] nothing_held p.1 false []) o [] ≡ []
-        → IfSome (option_and_then asked_by (option_map (λ s. rows_at s p.1) o)) IsWithinLimits
+        → IfSome (option_and_then asked_by (option_map (λ s. rows_at s p.1) o)) AsksWithinLimits
     go None is f = tt
     go (Some s) is f = is.1 (rows_after s.rules [] p.1) (record { all = level_pass s is.0 [] p.1 false [] f })
 
 -- what a command line that is taken asks for is within limits
 pub within : (words : List Text) → faults words ≡ []
-    → IfSome (option_and_then asked_by (subcommand_of aiger words)) IsWithinLimits
+    → IfSome (option_and_then asked_by (subcommand_of aiger words)) AsksWithinLimits
 within words e =
     let a : App = built aiger in
     let after : List Text = drop 1 words in
     let past = second_empty (walk_fault a.top (names_of a) (walk_from nothing_held) after) _ e in
     entered_within (stop_at words) (first_empty (entered_fault a (stop_at words)) _ past)
 
-pub command_within : (words : List Text) → IfSome (command_of words) IsWithinLimits
+pub command_within : (words : List Text) → IfSome (command_of words) AsksWithinLimits
 command_within words = go (faults words) (within words)
   where
-    go : (ks : Kinds) → (ks ≡ [] → IfSome (option_and_then asked_by (subcommand_of aiger words)) IsWithinLimits)
-        → IfSome (cond (length ks == 0) (option_and_then asked_by (subcommand_of aiger words)) None) IsWithinLimits
+    go : (ks : Kinds) → (ks ≡ [] → IfSome (option_and_then asked_by (subcommand_of aiger words)) AsksWithinLimits)
+        → IfSome (cond (length ks == 0) (option_and_then asked_by (subcommand_of aiger words)) None) AsksWithinLimits
     go [] h = h refl
     go (k ∷ ks) h =
         let some : (length (k ∷ ks) == 0) ≡ false = ne_eqb (length (k ∷ ks)) 0 (λ none. omega arith) in

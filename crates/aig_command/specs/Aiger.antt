@@ -36,7 +36,7 @@ with_rules = fold with_rule
 abbrev pub to_aig : App
 to_aig = with_rules (new_app (codes "aigtoaig"))
     (flag (codes "ascii") ∷ flag (codes "strip") ∷ flag (codes "keep-map") ∷ flag (codes "undo-map")
-    ∷ max_var ∷ new_rule (codes "source") ∷ new_rule (codes "destination") ∷ [])
+    ∷ flag (codes "outputs-as-bad") ∷ max_var ∷ new_rule (codes "source") ∷ new_rule (codes "destination") ∷ [])
 
 -- the name of a file that has to be given
 abbrev pub required_file : Text → Rule
@@ -58,10 +58,24 @@ frames = record (new_rule (codes "frames")) {
   required = true;
 }
 
+-- `--bad N`
+abbrev pub bad : Rule
+bad = record (new_rule (codes "bad")) {
+  long = Some (codes "bad");
+  action = Some Set;
+  value_names = 1;
+  parser = Some (parser.Signed (pos 0) (pos largest_index));
+}
+
+-- `--answer FILE`
+abbrev pub answer : Rule
+answer = record (new_rule (codes "answer")) { long = Some (codes "answer"); action = Some Set; value_names = 1 }
+
 -- `aigunroll`: its options in any order, then the names of the two files, by place
 abbrev pub aigunroll : App
 aigunroll = with_rules (new_app (codes "aigunroll"))
-    (frames ∷ flag (codes "ascii") ∷ max_var ∷ new_rule (codes "source") ∷ new_rule (codes "destination") ∷ [])
+    (frames ∷ flag (codes "ascii") ∷ flag (codes "cnf") ∷ answer ∷ bad ∷ max_var ∷ new_rule (codes "source")
+    ∷ new_rule (codes "destination") ∷ [])
 
 -- a command that has to be given a subcommand, has none for help, and has a version, as its subcommands have
 abbrev pub above : App → App

@@ -1,6 +1,6 @@
 -- What is answered to a command line (this project's profile).
-use Rattle.std.specs.Prelude.{◌≡◌, ◌≢◌, ◌≤◌, ◌||◌, List, Bool, true, false, drop, map, nat_eq, Option, Some, None}
-use Rattle.std.specs.Prelude.{Result, Ok, Err, codes, option_map, String, string_bytes, ⊤}
+use Rattle.std.specs.Prelude.{◌≡◌, ◌≢◌, ◌<◌, ◌≤◌, ◌||◌, List, Bool, true, false, drop, map, nat_eq, Option, Some, None}
+use Rattle.std.specs.Prelude.{Result, Ok, Err, codes, option_map, String, string_bytes, string_len, ⊤}
 use Rattle.std.specs.Global.{Global}
 use Rattle.std.specs.List.{list_any, starts_with}
 use Rattle.std.specs.Str.{bytes_eq}
@@ -8,8 +8,9 @@ use Rattle.clap.specs.Words.{IsAmong, Text, takes}
 use Rattle.clap.specs.declared.error.kind.ErrorKind.{ErrorKind}
 use Rattle.clap.specs.declared.error.kind.ErrorKind.TheVariants.{DisplayHelp, DisplayVersion, OutOfMemory}
 use Rattle.aig_command.specs.Aiger.{aiger, most_frames}
-use Rattle.aig_command.specs.Asked.{Asked, Conversion, Simulation, Unrolling, command_of, faults}
-use Rattle.aig_command.specs.Asked.{converts, refused, simulates, unrolls}
+use Rattle.aig_command.specs.Asked.{Asked, Conversion, Reaching, Simulation, Unrolling, command_of, faults}
+use Rattle.aig_command.specs.Asked.{converts, reaches, refused, simulates, unrolls}
+use Rattle.aig_command.specs.declared.request.Reach.{Reach}
 use Rattle.aig_command.specs.declared.request.Sim.{Sim}
 use Rattle.aig_command.specs.declared.request.ToAig.{ToAig}
 use Rattle.aig_command.specs.declared.request.Unroll.{Unroll}
@@ -33,6 +34,7 @@ conversion_of request = record {
   strip = request.strip;
   keep_map = request.keep_map;
   undo_map = request.undo_map;
+  outputs_as_bad = request.outputs_as_bad;
   max_var = request.max_var;
   source = name_of request.source;
   destination = name_of request.destination;
@@ -54,9 +56,20 @@ simulation_of request = record {
 abbrev pub unrolling_of : Unroll → Unrolling
 unrolling_of request = record {
   frames = request.frames;
-  ascii = request.ascii;
+  form = request.form;
   max_var = request.max_var;
   source = name_of request.source;
+  destination = name_of request.destination;
+}
+
+-- the answer and its model that a request is for
+abbrev pub reaching_of : Reach → Reaching
+reaching_of request = record {
+  frames = request.frames;
+  bad = request.bad;
+  max_var = request.max_var;
+  model = name_of request.model;
+  answer = name_of request.answer;
   destination = name_of request.destination;
 }
 
@@ -78,26 +91,33 @@ asks_for_version = asks_for (codes "--version") (codes "-V")
 abbrev pub IsWrong : List Text → ErrorKind → Type 0
 IsWrong words kind = IsAmong kind (faults words) × (takes aiger words ≡ false)
 
--- the command is what the arguments ask for
+-- the command is what the arguments ask for; a text that is shown has a byte at least
 abbrev pub IsCommand : List Text → Command → Type 0
 IsCommand words (commands.ToAig request) = command_of words ≡ Some (converts (conversion_of request))
 IsCommand words (commands.Sim request) = command_of words ≡ Some (simulates (simulation_of request))
 IsCommand words (commands.Unroll request) = command_of words ≡ Some (unrolls (unrolling_of request))
-IsCommand words (commands.Help text) = IsWrong words DisplayHelp × (asks_for_help words ≡ true)
-IsCommand words (commands.Version text) = IsWrong words DisplayVersion × (asks_for_version words ≡ true)
+IsCommand words (commands.Reach request) = command_of words ≡ Some (reaches (reaching_of request))
+IsCommand words (commands.Help text) =
+    IsWrong words DisplayHelp × (asks_for_help words ≡ true) × (0 < string_len text)
+IsCommand words (commands.Version text) =
+    IsWrong words DisplayVersion × (asks_for_version words ≡ true) × (0 < string_len text)
 
--- the arguments are refused for this reason
+-- the arguments are refused for this reason, which has words
 abbrev pub IsUsage : List Text → Usage → Type 0
 IsUsage words usage.OutOfMemory = ⊤
 IsUsage words (usage.Words text) =
     (kind : ErrorKind) × IsWrong words kind × (kind ≡ DisplayHelp → asks_for_help words ≡ false)
-    × (kind ≡ DisplayVersion → asks_for_version words ≡ false)
+    × (kind ≡ DisplayVersion → asks_for_version words ≡ false) × (0 < string_len text)
 IsUsage words reason = command_of words ≡ Some (refused reason)
 
 -- A map is kept in binary, of the whole circuit that was read, or not at all.
 abbrev pub IsKeptAlone : ToAig → Type 0
 IsKeptAlone request =
     request.keep_map ≡ true → (request.ascii ≡ false) × (request.strip ≡ false) × (request.undo_map ≡ false)
+
+-- Outputs become bad states without a map, which does not tell that they were outputs.
+abbrev pub IsWithoutMap : ToAig → Type 0
+IsWithoutMap request = request.outputs_as_bad ≡ true → (request.keep_map ≡ false) × (request.undo_map ≡ false)
 
 -- The standard input gives the model, or the stimulus, or neither, but never both.
 abbrev pub HasOneStandardInput : Sim → Type 0
@@ -115,22 +135,33 @@ IsDumpAlone request = request.vcd ≡ true → request.properties ≡ false
 abbrev pub HasFrames : Unroll → Type 0
 HasFrames request = (1 ≤ request.frames) × (request.frames ≤ most_frames)
 
+-- The standard input gives the model, or the answer, or neither, but never both.
+abbrev pub IsAnswerApart : Reach → Type 0
+IsAnswerApart request = name_of request.model ≡ None → name_of request.answer ≡ None → ⊥
+
+-- An answer is on a circuit that was unrolled over one frame or more, and not over too many.
+abbrev pub CanReach : Reach → Type 0
+CanReach request = (1 ≤ request.frames) × (request.frames ≤ most_frames) × IsAnswerApart request
+
 -- what the command asks for can be done
 abbrev pub CanDo : Command → Type 0
-CanDo (commands.ToAig request) = IsKeptAlone request
+CanDo (commands.ToAig request) = IsKeptAlone request × IsWithoutMap request
 CanDo (commands.Sim request) = HasOneStandardInput request × IsWitnessAlone request × IsDumpAlone request
 CanDo (commands.Unroll request) = HasFrames request
+CanDo (commands.Reach request) = CanReach request
 CanDo (commands.Help text) = ⊤
 CanDo (commands.Version text) = ⊤
 
 -- What is answered where `clap` answers with an error of this kind. Only private functions cite it.
 abbrev pub IsErrorAnswer : ErrorKind → List Text → Result Command Usage → Type 0
-IsErrorAnswer kind words (Ok (commands.Help text)) = (kind ≡ DisplayHelp) × (asks_for_help words ≡ true)
-IsErrorAnswer kind words (Ok (commands.Version text)) = (kind ≡ DisplayVersion) × (asks_for_version words ≡ true)
+IsErrorAnswer kind words (Ok (commands.Help text)) =
+    (kind ≡ DisplayHelp) × (asks_for_help words ≡ true) × (0 < string_len text)
+IsErrorAnswer kind words (Ok (commands.Version text)) =
+    (kind ≡ DisplayVersion) × (asks_for_version words ≡ true) × (0 < string_len text)
 IsErrorAnswer kind words (Err usage.OutOfMemory) = ⊤
 IsErrorAnswer kind words (Err (usage.Words text)) =
     (kind ≢ OutOfMemory) × (kind ≡ DisplayHelp → asks_for_help words ≡ false)
-    × (kind ≡ DisplayVersion → asks_for_version words ≡ false)
+    × (kind ≡ DisplayVersion → asks_for_version words ≡ false) × (0 < string_len text)
 IsErrorAnswer kind words answer = ⊥
 
 -- What is answered to arguments that ask for this. Only private functions cite it.
@@ -138,6 +169,7 @@ abbrev pub IsAnswer : Asked → Result Command Usage → Type 0
 IsAnswer asked (Ok (commands.ToAig request)) = asked ≡ converts (conversion_of request)
 IsAnswer asked (Ok (commands.Sim request)) = asked ≡ simulates (simulation_of request)
 IsAnswer asked (Ok (commands.Unroll request)) = asked ≡ unrolls (unrolling_of request)
+IsAnswer asked (Ok (commands.Reach request)) = asked ≡ reaches (reaching_of request)
 IsAnswer asked (Err usage.OutOfMemory) = ⊤
 IsAnswer asked (Err (usage.Words text)) = ⊥
 IsAnswer asked (Err reason) = asked ≡ refused reason

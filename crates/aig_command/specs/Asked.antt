@@ -1,7 +1,7 @@
 -- What a command line asks for that `clap` takes (this project's profile).
 use Rattle.std.specs.Prelude.{ℕ, ◌≤◌, ⊤, List, [], ◌∷◌, ◌==◌, ◌&&◌, ◌||◌, ◌^◌, Bool, false, length, nat_lt, nat_eq}
 use Rattle.std.specs.Prelude.{Option, Some, None, unwrap_or, option_and_then, option_map, find}
-use Rattle.std.specs.Prelude.{codes, if◌then◌else◌}
+use Rattle.std.specs.Prelude.{codes, if◌then◌else◌, is_some, not}
 use Rattle.std.specs.List.{ends_with, list_all}
 use Rattle.std.specs.Option.{is_none, option_map_or}
 use Rattle.std.specs.Char.{digit_value}
@@ -9,6 +9,8 @@ use Rattle.std.specs.Str.{bytes_eq}
 use Rattle.std.specs.Str.Parse.{digits_value, without_leading_plus}
 use Rattle.clap.specs.Words.{Kinds, Row, Text, fault_of, first_of, one_of, subcommand_of}
 use Rattle.aig_command.specs.Aiger.{aiger, largest_index, most_frames}
+use Rattle.aig_command.specs.declared.request.UnrolledForm.{UnrolledForm}
+use Rattle.aig_command.specs.declared.request.UnrolledForm.TheVariants as forms
 use Rattle.aig_command.specs.declared.usage.Usage.{Usage}
 use Rattle.aig_command.specs.declared.usage.Usage.TheVariants as usage
 
@@ -36,7 +38,15 @@ limit = number (codes "max-var") largest_index
 abbrev pub frames : List Row → ℕ
 frames = number (codes "frames") 1
 
--- the file that is named at this place; no name, or `-`, is the standard stream
+-- the number of the bad state that `--bad` chooses
+abbrev pub bad_number : List Row → Option ℕ
+bad_number rows = option_and_then number_in (one_of (codes "bad") rows)
+
+-- there is a value at this place, or for this option
+abbrev pub is_given : Text → List Row → Bool
+is_given name rows = is_some (first_of name rows)
+
+-- the file that is named at this place, or by this option; no name, or `-`, is the standard stream
 abbrev pub file : Text → List Row → Option Text
 file place rows = option_and_then (λ name. if bytes_eq name (codes "-") then None else Some name) (first_of place rows)
 
@@ -59,6 +69,7 @@ pub record Conversion : Type 0 where
   pub strip : Bool
   pub keep_map : Bool
   pub undo_map : Bool
+  pub outputs_as_bad : Bool
   pub max_var : ℕ
   pub source : Option Text
   pub destination : Option Text
@@ -70,6 +81,7 @@ conversion rows = record {
   strip = is_set (codes "strip") rows;
   keep_map = is_set (codes "keep-map") rows;
   undo_map = is_set (codes "undo-map") rows;
+  outputs_as_bad = is_set (codes "outputs-as-bad") rows;
   max_var = limit rows;
   source = file (codes "source") rows;
   destination = file (codes "destination") rows;
@@ -81,6 +93,8 @@ refusal c =
     if c.keep_map && c.ascii then Some usage.KeepMapNeedsBinary
     else if c.keep_map && c.strip then Some usage.KeepMapExcludesStrip
     else if c.keep_map && c.undo_map then Some usage.KeepMapExcludesUndoMap
+    else if c.outputs_as_bad && c.keep_map then Some usage.OutputsAsBadExcludesKeepMap
+    else if c.outputs_as_bad && c.undo_map then Some usage.OutputsAsBadExcludesUndoMap
     else destination_refusal c.destination
 
 -- a simulation: of which model, on which stimulus, and how; or which witness file is judged against the model
@@ -114,37 +128,83 @@ simulation_refusal s =
     else if s.vcd && s.properties then Some usage.VcdExcludesProperties
     else None
 
--- an unrolling: from which file to which, over how many frames, and how
+-- an unrolling: from which file to which, over how many frames, and what is written
 pub record Unrolling : Type 0 where
   pub frames : ℕ
-  pub ascii : Bool
+  pub form : UnrolledForm
   pub max_var : ℕ
   pub source : Option Text
   pub destination : Option Text
+
+-- what is written of an unrolled circuit: the clauses where they are asked for, and else the circuit
+abbrev pub unrolled_form : List Row → Option Text → UnrolledForm
+unrolled_form rows destination =
+    if is_set (codes "cnf") rows then forms.Clauses (bad_number rows)
+    else if wants_ascii rows destination then forms.Ascii else forms.Binary
 
 -- the unrolling that the arguments of `aigunroll` name
 abbrev pub unrolling : List Row → Unrolling
 unrolling rows = record {
   frames = frames rows;
-  ascii = wants_ascii rows (file (codes "destination") rows);
+  form = unrolled_form rows (file (codes "destination") rows);
   max_var = limit rows;
   source = file (codes "source") rows;
   destination = file (codes "destination") rows;
 }
+
+-- a solver's answer, in which there is the witness of a run that reaches a bad state: on which model, over how many
+-- frames, and of which bad state, if not of any
+pub record Reaching : Type 0 where
+  pub frames : ℕ
+  pub bad : Option ℕ
+  pub max_var : ℕ
+  pub model : Option Text
+  pub answer : Option Text
+  pub destination : Option Text
+
+-- what the arguments of `aigunroll --answer` name
+abbrev pub reaching : List Row → Reaching
+reaching rows = record {
+  frames = frames rows;
+  bad = bad_number rows;
+  max_var = limit rows;
+  model = file (codes "source") rows;
+  answer = file (codes "answer") rows;
+  destination = file (codes "destination") rows;
+}
+
+-- the first reason to refuse an answer's files: the standard input is one stream and cannot give two files
+abbrev pub reaching_refusal : Reaching → Option Usage
+reaching_refusal r =
+    if is_none r.model && is_none r.answer then Some usage.BothAreStandardInput else destination_refusal r.destination
+
+-- the first reason to refuse options of `aigunroll` together: clauses are neither ASCII nor binary, an answer is read
+-- in place of writing them, and only these two know of one bad state
+abbrev pub options_refusal : List Row → Option Usage
+options_refusal rows =
+    let clauses = is_set (codes "cnf") rows in
+    let ascii = is_set (codes "ascii") rows in
+    let answer = is_given (codes "answer") rows in
+    if clauses && ascii then Some usage.CnfExcludesAscii
+    else if answer && (clauses || ascii) then Some usage.AnswerAlone
+    else if is_given (codes "bad") rows && not (clauses || answer) then Some usage.BadNeedsClauses
+    else None
 
 -- what is asked for, or why that is refused
 pub data Asked : Type 0 where
   converts : Conversion → Asked
   simulates : Simulation → Asked
   unrolls : Unrolling → Asked
+  reaches : Reaching → Asked
   refused : Usage → Asked
 
 -- The numbers are within their limits: that on indices and counts, and the frames.
-abbrev pub IsWithinLimits : Asked → Type 0
-IsWithinLimits (converts c) = c.max_var ≤ largest_index
-IsWithinLimits (simulates s) = s.max_var ≤ largest_index
-IsWithinLimits (unrolls u) = (1 ≤ u.frames) × (u.frames ≤ most_frames) × (u.max_var ≤ largest_index)
-IsWithinLimits (refused reason) = ⊤
+abbrev pub AsksWithinLimits : Asked → Type 0
+AsksWithinLimits (converts c) = c.max_var ≤ largest_index
+AsksWithinLimits (simulates s) = s.max_var ≤ largest_index
+AsksWithinLimits (unrolls u) = (1 ≤ u.frames) × (u.frames ≤ most_frames) × (u.max_var ≤ largest_index)
+AsksWithinLimits (reaches r) = (1 ≤ r.frames) × (r.frames ≤ most_frames) × (r.max_var ≤ largest_index)
+AsksWithinLimits (refused reason) = ⊤
 
 -- what the arguments of `aigtoaig` ask for
 abbrev pub to_aig : List Row → Asked
@@ -154,9 +214,20 @@ to_aig rows = option_map_or refused (refusal (conversion rows)) (converts (conve
 abbrev pub aigsim : List Row → Asked
 aigsim rows = option_map_or refused (simulation_refusal (simulation rows)) (simulates (simulation rows))
 
+-- what the arguments of `aigunroll` ask for without `--answer`
+abbrev pub asked_unrolling : List Row → Asked
+asked_unrolling rows =
+    option_map_or refused (destination_refusal (unrolling rows).destination) (unrolls (unrolling rows))
+
+-- what they ask for with it
+abbrev pub asked_reaching : List Row → Asked
+asked_reaching rows = option_map_or refused (reaching_refusal (reaching rows)) (reaches (reaching rows))
+
 -- what the arguments of `aigunroll` ask for
 abbrev pub aigunroll : List Row → Asked
-aigunroll rows = option_map_or refused (destination_refusal (unrolling rows).destination) (unrolls (unrolling rows))
+aigunroll rows =
+    option_map_or refused (options_refusal rows)
+    (if is_given (codes "answer") rows then asked_reaching rows else asked_unrolling rows)
 
 -- each subcommand: its name, and what its arguments ask for
 abbrev pub subcommands : List (Text × (List Row → Asked))

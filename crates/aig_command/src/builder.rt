@@ -1,8 +1,8 @@
 //! The command line as `clap` takes it, with its help texts.
 ghost use Rattle.std.specs.Prelude.{IfOk, codes};
 ghost use Rattle.clap.specs.Words.{App, Rule, new_app, new_rule, with_rule, with_subcommand};
-ghost use Rattle.aig_command.specs.Aiger.{HasApp, HasRule, above, aiger, aigsim};
-ghost use Rattle.aig_command.specs.Aiger.{aigunroll, flag, frames, max_var};
+ghost use Rattle.aig_command.specs.Aiger.{HasApp, HasRule, above, aiger, aigsim, answer};
+ghost use Rattle.aig_command.specs.Aiger.{aigunroll, bad, flag, frames, max_var};
 ghost use Rattle.aig_command.specs.Aiger.{required_file, to_aig};
 
 use clap::{Arg, ArgAction, Command, value_parser};
@@ -23,6 +23,11 @@ The output is ASCII where --ascii is given or the name of the destination ends
 in .aag, and else binary. Nothing is written before the whole conversion has
 succeeded, so the destination may be the source; it is lost if writing fails.
 
+With --outputs-as-bad each output is written as a bad state, by its name, and
+there are no outputs. It is for files before AIGER 1.9, and for those of ABC:
+their properties are outputs, and a witness speaks of bad states alone. A
+circuit that has bad states already is refused.
+
 Exit status:
   0  done, also for --help
   1  the input was refused, a file or stream failed, or memory ran out
@@ -32,7 +37,8 @@ Examples:
   aiger aigtoaig model.aag model.aig              to binary
   aiger aigtoaig model.aig model.aag              to ASCII
   aiger aigtoaig --keep-map model.aag image.aig   to binary, with a map
-  aiger aigtoaig --undo-map image.aig again.aag   undone by that map";
+  aiger aigtoaig --undo-map image.aig again.aag   undone by that map
+  aiger aigtoaig --outputs-as-bad model.aag bad.aag   outputs as bad states";
 
 const SIM_ABOUT: &str = "Simulate a circuit, step by step";
 
@@ -102,17 +108,41 @@ constraints is refused. Nothing is written before the whole circuit was read
 and only the destination can still fail, so the destination may be the source;
 it is lost if writing fails.
 
+With --cnf clauses in DIMACS are written, for a SAT solver: they can be
+satisfied exactly if a run of at most K steps reaches a bad state with all
+constraints kept. Variable N of the unrolled circuit is number N + 1 there.
+--bad N takes the bad state N alone, counted from 0. A circuit without bad
+states is refused.
+
+With --answer the solver's output on those clauses is read, by the same K and
+--bad, and the run that it gives is followed. Up to the first bad state it is
+written as a witness, which aigsim --witness confirms whatever the solver said.
+
 Exit status:
   0  done, also for --help
-  1  the input was refused, a file or stream failed, or memory ran out
+  1  the input was refused, a file or stream failed, or memory ran out; or the
+     answer is not 'satisfiable', or its run reaches no bad state
   2  the command line was refused
 
 Examples:
   aiger aigunroll --frames 20 model.aig long.aig     to binary
   aiger aigunroll --frames 2 model.aag two.aag       to ASCII
-  aiger aigunroll --frames 20 - < model.aig > out    from stream to stream";
+  aiger aigunroll --frames 20 - < model.aig > out    from stream to stream
+  aiger aigunroll --frames 20 --cnf model.aig model.cnf    clauses
+  aiger aigunroll --frames 20 --cnf model.aig | cadical -q > answer.txt
+  aiger aigunroll --frames 20 --answer answer.txt model.aig witness.txt";
 
 const FRAMES_HELP: &str = "The number of time frames: 1 to 1000000";
+
+const CNF_HELP: &str = "Write clauses for a SAT solver (DIMACS); not with --ascii";
+
+const ANSWER_HELP: &str = "\
+Take the witness from a solver's answer, FILE; - is the
+standard input. Not with --cnf or --ascii";
+
+const BAD_HELP: &str = "\
+Of the bad states take that of number N alone, counted
+from 0; with --cnf or --answer";
 
 const BATCH_HELP: &str = "\
 Read the whole stimulus first, and write nothing if a line
@@ -137,6 +167,10 @@ Keep a map of the renumbering in the comment, so that
 const STRIP_HELP: &str = "Leave out the symbols and the comment";
 
 const UNDO_MAP_HELP: &str = "Give back the source of a conversion with --keep-map";
+
+const OUTPUTS_AS_BAD_HELP: &str = "\
+Write the outputs as bad states; not with --keep-map or
+--undo-map";
 
 const ASCII_HELP: &str = "Write ASCII, whatever the destination is named";
 
@@ -192,6 +226,27 @@ fn frames<'a>(alloc: Global) -> Arg<'a>
         .help(FRAMES_HELP)
 }
 
+fn bad<'a>(alloc: Global) -> Arg<'a>
+    ensures { HasRule bad result }
+{
+    Arg::new(alloc, "bad")
+        .long("bad")
+        .value_name("N")
+        .action(ArgAction::Set)
+        .value_parser(value_parser!(u32).range(0..=2_147_483_647))
+        .help(BAD_HELP)
+}
+
+fn answer<'a>(alloc: Global) -> Arg<'a>
+    ensures { HasRule answer result }
+{
+    Arg::new(alloc, "answer")
+        .long("answer")
+        .value_name("FILE")
+        .action(ArgAction::Set)
+        .help(ANSWER_HELP)
+}
+
 fn file<'a>(alloc: Global, name: &'a str, help: &'a str) -> Arg<'a>
     ensures { HasRule (new_rule name.now) result }
 {
@@ -235,6 +290,7 @@ fn to_aig<'a>(alloc: Global) -> Result<Command<'a>, AllocError>
     let command = with_argument(command, flag(alloc, "strip", STRIP_HELP));
     let command = with_argument(command, flag(alloc, "keep-map", KEEP_MAP_HELP));
     let command = with_argument(command, flag(alloc, "undo-map", UNDO_MAP_HELP));
+    let command = with_argument(command, flag(alloc, "outputs-as-bad", OUTPUTS_AS_BAD_HELP));
     let command = with_argument(command, max_var(alloc));
     let command = with_argument(command, file(alloc, "source", SOURCE_HELP));
     with_argument(command, file(alloc, "destination", DESTINATION_HELP))
@@ -259,6 +315,9 @@ fn aigunroll<'a>(alloc: Global) -> Result<Command<'a>, AllocError>
     let command = Ok(command(alloc, "aigunroll", UNROLL_ABOUT, UNROLL_AFTER));
     let command = with_argument(command, frames(alloc));
     let command = with_argument(command, flag(alloc, "ascii", ASCII_HELP));
+    let command = with_argument(command, flag(alloc, "cnf", CNF_HELP));
+    let command = with_argument(command, answer(alloc));
+    let command = with_argument(command, bad(alloc));
     let command = with_argument(command, max_var(alloc));
     let command = with_argument(command, file(alloc, "source", SOURCE_HELP));
     with_argument(command, file(alloc, "destination", DESTINATION_HELP))

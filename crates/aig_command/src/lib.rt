@@ -10,6 +10,7 @@ mod builder;
 mod destination;
 pub mod laws;
 mod options;
+mod reach;
 mod reader;
 mod request;
 mod sim;
@@ -19,5 +20,5 @@ mod usage;
 
 pub use crate::builder::VERSION;
 pub use crate::reader::command;
-pub use crate::request::{Command, Sim, ToAig, Unroll};
+pub use crate::request::{Command, Reach, Sim, ToAig, Unroll, UnrolledForm};
 pub use crate::usage::Usage;

@@ -1,8 +1,9 @@
-//! Options and names of files that several commands have.
+//! Options and names of files that several requests have.
 ghost use Rattle.std.specs.Prelude.{◌≡◌, IfOk};
 ghost use Rattle.clap.specs.Words.{found_of, rows_of};
 ghost use Rattle.aig_command.specs.Answer.{name_of};
-ghost use Rattle.aig_command.specs.Asked.{file, is_set, limit, number};
+ghost use Rattle.aig_command.specs.Asked.{bad_number, file, frames, is_given};
+ghost use Rattle.aig_command.specs.Asked.{is_set, limit, number};
 
 use clap::ArgMatches;
 use std::alloc::{AllocError, Global};
@@ -17,7 +18,7 @@ pub(crate) fn is_set(matches: &ArgMatches<'_>, name: &str) -> bool
     matches.get_one::<bool>(name).unwrap_or(false)
 }
 
-pub(crate) fn number(matches: &ArgMatches<'_>, name: &str, otherwise: u32) -> u32
+pub(crate) fn option_number(matches: &ArgMatches<'_>, name: &str, otherwise: u32) -> u32
     ensures { result ≡ number name.now otherwise (rows_of (found_of matches.now)) }
 {
     matches.get_one::<u32>(name).unwrap_or(otherwise)
@@ -26,11 +27,31 @@ pub(crate) fn number(matches: &ArgMatches<'_>, name: &str, otherwise: u32) -> u3
 pub(crate) fn limit(matches: &ArgMatches<'_>) -> u32
     ensures { result ≡ limit (rows_of (found_of matches.now)) }
 {
-    number(matches, "max-var", LARGEST)
+    option_number(matches, "max-var", LARGEST)
+}
+
+pub(crate) fn frame_count(matches: &ArgMatches<'_>) -> u32
+    ensures { result ≡ frames (rows_of (found_of matches.now)) }
+{
+    option_number(matches, "frames", 1)
+}
+
+/// The number of the bad state that is chosen.
+pub(crate) fn bad_number(matches: &ArgMatches<'_>) -> Option<u32>
+    ensures { result ≡ bad_number (rows_of (found_of matches.now)) }
+{
+    matches.get_one::<u32>("bad")
+}
+
+/// Whether there is a value at this place, or for this option.
+pub(crate) fn is_given(matches: &ArgMatches<'_>, name: &str) -> bool
+    ensures { result ≡ is_given name.now (rows_of (found_of matches.now)) }
+{
+    matches.get_str(name).is_some()
 }
 
 /// The file that is named at this place; no name, or `-`, is the standard stream.
-pub(crate) fn file(
+pub(crate) fn named_file(
     alloc: Global,
     matches: &ArgMatches<'_>,
     place: &str,

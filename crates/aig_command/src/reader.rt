@@ -1,13 +1,13 @@
 //! What a command line asks for.
-ghost use Rattle.std.specs.Prelude.{◌≡◌, IfErr, IfOk, IfSome, is_some};
-ghost use Rattle.std.specs.Prelude.{option_and_then, string_bytes, true};
+ghost use Rattle.std.specs.Prelude.{◌≡◌, ◌<◌, IfErr, IfOk, IfSome, is_some};
+ghost use Rattle.std.specs.Prelude.{option_and_then, string_bytes, string_len, true};
 ghost use Rattle.std.specs.List.{list_any};
 ghost use Rattle.clap.specs.Words.{FailsBy, HasMatchesOf, kind_of, subcommand_rows_of, takes};
 ghost use Rattle.clap.specs.declared.error.kind.ErrorKind.TheVariants.{OutOfMemory};
 ghost use Rattle.aig_command.specs.Aiger.{aiger};
 ghost use Rattle.aig_command.specs.Answer.{asks_for, CanDo, is_option, texts};
 ghost use Rattle.aig_command.specs.Answer.{IsAnswer, IsCommand, IsErrorAnswer, IsUsage};
-ghost use Rattle.aig_command.specs.Asked.{asked_by, faults, IsWithinLimits};
+ghost use Rattle.aig_command.specs.Asked.{asked_by, faults, AsksWithinLimits};
 
 use crate::builder::aiger;
 use crate::request::Command;
@@ -31,7 +31,7 @@ fn parse<'a>(alloc: Global, words: &'a [String]) -> Result<ArgMatches<'a>, Error
 fn read_matches(alloc: Global, matches: &ArgMatches<'_>) -> Result<Command, Usage>
     requires known { is_some (option_and_then asked_by (subcommand_rows_of matches.now)) ≡ true }
     requires within { IfSome (option_and_then asked_by (subcommand_rows_of matches.now))
-        IsWithinLimits }
+        AsksWithinLimits }
     ensures answer { IfSome (option_and_then asked_by (subcommand_rows_of matches.now)) (λ asked.
         IsAnswer asked result) }
     ensures can_do { IfOk result CanDo }
@@ -75,13 +75,20 @@ fn asks_for(words: &[String], long: &str, short: &str) -> bool
     }
 }
 
-/// The text that `clap` has for the user.
-fn text_of(alloc: Global, error: &Error) -> Result<String, AllocError> {
-    format!(in alloc; "{error}")
+/// The text that `clap` has for the user. That there is one is not in its contracts, so an empty
+/// one has other words.
+fn clap_text(alloc: Global, error: &Error) -> Result<String, AllocError>
+    ensures { IfOk result (λ text. 0 < string_len text) }
+{
+    let text = format!(in alloc; "{error}")?;
+    if text.is_empty() {
+        return String::from_str(alloc, "error: no such command\n");
+    }
+    Ok(text)
 }
 
 /// The answer to arguments that `clap` does not take.
-fn not_taken(alloc: Global, words: &[String], error: &Error) -> Result<Command, Usage>
+fn error_answer(alloc: Global, words: &[String], error: &Error) -> Result<Command, Usage>
     ensures answer { IsErrorAnswer (kind_of error.now) (texts words.now) result }
     ensures can_do { IfOk result CanDo }
 {
@@ -89,12 +96,12 @@ fn not_taken(alloc: Global, words: &[String], error: &Error) -> Result<Command, 
         ErrorKind::OutOfMemory => Err(Usage::OutOfMemory),
         // No contract of `clap` says that only such an argument makes it answer with help.
         ErrorKind::DisplayHelp if asks_for(words, "--help", "-h") => {
-            Ok(Command::Help(text_of(alloc, error)?))
+            Ok(Command::Help(clap_text(alloc, error)?))
         }
         ErrorKind::DisplayVersion if asks_for(words, "--version", "-V") => {
-            Ok(Command::Version(text_of(alloc, error)?))
+            Ok(Command::Version(clap_text(alloc, error)?))
         }
-        _ => Err(Usage::Words(text_of(alloc, error)?)),
+        _ => Err(Usage::Words(clap_text(alloc, error)?)),
     }
 }
 
@@ -108,6 +115,6 @@ pub fn command(alloc: Global, words: &[String]) -> Result<Command, Usage>
 {
     match parse(alloc, words) {
         Ok(matches) => read_matches(alloc, &matches),
-        Err(error) => not_taken(alloc, words, &error),
+        Err(error) => error_answer(alloc, words, &error),
     }
 }

@@ -12,6 +12,8 @@ pub struct ToAig {
     pub keep_map: bool,
     /// Whether a conversion is undone by the map block of its image.
     pub undo_map: bool,
+    /// Whether the outputs become bad states. This stands without `keep_map` and `undo_map`.
+    pub outputs_as_bad: bool,
     /// The limit on the largest variable index and the counts of the source.
     pub max_var: u32,
     /// The source's name; `None` is the standard input.
@@ -30,8 +32,8 @@ pub struct Sim {
     /// Whether a witness file is judged, which stands in the stimulus's place. This stands without
     /// `batch` and `properties`.
     pub witness: bool,
-    /// Whether the trace is written as a Value Change Dump, which always shows bad states and
-    /// constraints too. This stands without `properties` and `witness`.
+    /// Whether the trace, or the run of a witness, is written as a Value Change Dump, which always
+    /// shows bad states and constraints too. This stands without `properties`.
     pub vcd: bool,
     /// The limit on the largest variable index and the counts of the model.
     pub max_var: u32,
@@ -42,17 +44,49 @@ pub struct Sim {
     pub stimulus: Option<String>,
 }
 
+/// What is written of an unrolled circuit.
+#[derive(Clone, Copy)]
+pub enum UnrolledForm {
+    /// The circuit itself, in binary.
+    Binary,
+    /// The circuit itself, in ASCII, whether an option or the destination's name decided it.
+    Ascii,
+    /// The clauses, in DIMACS, by which a bad state is 1.
+    Clauses {
+        /// The number of that bad state, counted from 0; `None` is any.
+        bad: Option<u32>,
+    },
+}
+
 /// An unrolling of a circuit over time frames.
 #[derive(Drop)]
 pub struct Unroll {
     /// The number of frames, from 1 to 1000000.
     pub frames: u32,
-    /// Whether ASCII is written, whether an option or the destination's name decided it.
-    pub ascii: bool,
+    /// What is written of the unrolled circuit.
+    pub form: UnrolledForm,
     /// The limit on the largest variable index and the counts of the source.
     pub max_var: u32,
     /// The source's name; `None` is the standard input.
     pub source: Option<String>,
+    /// The destination's name; `None` is the standard output.
+    pub destination: Option<String>,
+}
+
+/// A solver's answer on the clauses of an unrolled circuit, and the witness in it: a run that
+/// reaches a bad state.
+#[derive(Drop)]
+pub struct Reach {
+    /// The number of frames, from 1 to 1000000.
+    pub frames: u32,
+    /// The number of the bad state that is to be reached, counted from 0; `None` is any.
+    pub bad: Option<u32>,
+    /// The limit on the largest variable index and the counts of the model.
+    pub max_var: u32,
+    /// The model's name; `None` is the standard input.
+    pub model: Option<String>,
+    /// The answer's name; `None` is the standard input. This or the model is a file with a name.
+    pub answer: Option<String>,
     /// The destination's name; `None` is the standard output.
     pub destination: Option<String>,
 }
@@ -64,8 +98,10 @@ pub enum Command {
     ToAig(ToAig),
     /// `aigsim`.
     Sim(Sim),
-    /// `aigunroll`.
+    /// `aigunroll`, without `--answer`.
     Unroll(Unroll),
+    /// `aigunroll --answer`.
+    Reach(Reach),
     /// Help; this is its text.
     Help(String),
     /// The program's version; this is its text.

@@ -6,7 +6,7 @@ ghost use Rattle.aig_command.specs.Answer.{IsAnswer, IsDumpAlone, IsReason};
 ghost use Rattle.aig_command.specs.Answer.{IsWitnessAlone, simulation_of};
 ghost use Rattle.aig_command.specs.Asked.{aigsim, simulation, simulation_refusal};
 
-use crate::options::{file, is_set, limit};
+use crate::options::{is_set, limit, named_file};
 use crate::request::{Command, Sim};
 use crate::usage::Usage;
 use clap::ArgMatches;
@@ -16,8 +16,8 @@ fn simulation(alloc: Global, matches: &ArgMatches<'_>) -> Result<Sim, AllocError
     ensures { IfOk result (λ request. simulation_of request
         ≡ simulation (rows_of (found_of matches.now))) }
 {
-    let model = file(alloc, matches, "model")?;
-    let stimulus = file(alloc, matches, "stimulus")?;
+    let model = named_file(alloc, matches, "model")?;
+    let stimulus = named_file(alloc, matches, "stimulus")?;
     Ok(Sim {
         batch: is_set(matches, "batch"),
         properties: is_set(matches, "properties"),
@@ -29,7 +29,7 @@ fn simulation(alloc: Global, matches: &ArgMatches<'_>) -> Result<Sim, AllocError
     })
 }
 
-fn check(request: &Sim) -> Result<(), Usage>
+fn check_request(request: &Sim) -> Result<(), Usage>
     ensures ok { OnOk result (simulation_refusal (simulation_of request.now) ≡ None) }
     ensures err { IfErr result (λ reason. IsReason reason
         × (simulation_refusal (simulation_of request.now) ≡ Some reason)) }
@@ -54,6 +54,6 @@ pub(crate) fn aigsim(alloc: Global, matches: &ArgMatches<'_>) -> Result<Command,
     ensures can_do { IfOk result CanDo }
 {
     let request = simulation(alloc, matches)?;
-    check(&request)?;
+    check_request(&request)?;
     Ok(Command::Sim(request))
 }

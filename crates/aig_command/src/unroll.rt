@@ -1,43 +1,87 @@
 //! What the arguments of `aigunroll` ask for.
-ghost use Rattle.std.specs.Prelude.{◌≡◌, IfOk};
+ghost use Rattle.std.specs.Prelude.{◌≡◌, IfErr, IfOk, None, OnOk, Some};
 ghost use Rattle.clap.specs.Words.{found_of, rows_of};
-ghost use Rattle.aig_command.specs.Answer.{CanDo, IsAnswer, unrolling_of};
-ghost use Rattle.aig_command.specs.Asked.{aigunroll, frames, IsWithinLimits, unrolling};
+ghost use Rattle.aig_command.specs.Answer.{CanDo, IsAnswer, IsReason, name_of, unrolling_of};
+ghost use Rattle.aig_command.specs.Asked.{aigunroll, asked_unrolling, AsksWithinLimits};
+ghost use Rattle.aig_command.specs.Asked.{options_refusal, unrolled_form, unrolling};
 
 use crate::destination::{check_destination, wants_ascii};
-use crate::options::{file, limit, number};
-use crate::request::{Command, Unroll};
+use crate::options::{bad_number, frame_count, is_given, is_set, limit, named_file};
+use crate::reach::asked_reaching;
+use crate::request::{Command, Unroll, UnrolledForm};
 use crate::usage::Usage;
 use clap::ArgMatches;
 use std::alloc::{AllocError, Global};
 
-fn frames(matches: &ArgMatches<'_>) -> u32
-    ensures { result ≡ frames (rows_of (found_of matches.now)) }
+fn unrolled_form(matches: &ArgMatches<'_>, destination: &Option<String>) -> UnrolledForm
+    ensures { result ≡ unrolled_form (rows_of (found_of matches.now)) (name_of destination.now) }
 {
-    number(matches, "frames", 1)
+    if is_set(matches, "cnf") {
+        return UnrolledForm::Clauses {
+            bad: bad_number(matches),
+        };
+    }
+    if wants_ascii(matches, destination) {
+        UnrolledForm::Ascii
+    } else {
+        UnrolledForm::Binary
+    }
 }
 
 fn unrolling(alloc: Global, matches: &ArgMatches<'_>) -> Result<Unroll, AllocError>
     ensures { IfOk result (λ request. unrolling_of request
         ≡ unrolling (rows_of (found_of matches.now))) }
 {
-    let source = file(alloc, matches, "source")?;
-    let destination = file(alloc, matches, "destination")?;
+    let source = named_file(alloc, matches, "source")?;
+    let destination = named_file(alloc, matches, "destination")?;
     Ok(Unroll {
-        frames: frames(matches),
-        ascii: wants_ascii(matches, &destination),
+        frames: frame_count(matches),
+        form: unrolled_form(matches, &destination),
         max_var: limit(matches),
         source,
         destination,
     })
 }
 
-pub(crate) fn aigunroll(alloc: Global, matches: &ArgMatches<'_>) -> Result<Command, Usage>
-    requires within { IsWithinLimits (aigunroll (rows_of (found_of matches.now))) }
-    ensures answer { IsAnswer (aigunroll (rows_of (found_of matches.now))) result }
+fn check_options(matches: &ArgMatches<'_>) -> Result<(), Usage>
+    ensures ok { OnOk result (options_refusal (rows_of (found_of matches.now)) ≡ None) }
+    ensures err { IfErr result (λ reason. IsReason reason
+        × (options_refusal (rows_of (found_of matches.now)) ≡ Some reason)) }
+{
+    let clauses = is_set(matches, "cnf");
+    let ascii = is_set(matches, "ascii");
+    let answer = is_given(matches, "answer");
+    if clauses && ascii {
+        return Err(Usage::CnfExcludesAscii);
+    }
+    if answer && (clauses || ascii) {
+        return Err(Usage::AnswerAlone);
+    }
+    if is_given(matches, "bad") && !(clauses || answer) {
+        return Err(Usage::BadNeedsClauses);
+    }
+    Ok(())
+}
+
+fn asked_unrolling(alloc: Global, matches: &ArgMatches<'_>) -> Result<Command, Usage>
+    requires within { AsksWithinLimits (asked_unrolling (rows_of (found_of matches.now))) }
+    ensures answer { IsAnswer (asked_unrolling (rows_of (found_of matches.now))) result }
     ensures can_do { IfOk result CanDo }
 {
     let request = unrolling(alloc, matches)?;
     check_destination(&request.destination)?;
     Ok(Command::Unroll(request))
+}
+
+pub(crate) fn aigunroll(alloc: Global, matches: &ArgMatches<'_>) -> Result<Command, Usage>
+    requires within { AsksWithinLimits (aigunroll (rows_of (found_of matches.now))) }
+    ensures answer { IsAnswer (aigunroll (rows_of (found_of matches.now))) result }
+    ensures can_do { IfOk result CanDo }
+{
+    check_options(matches)?;
+    if is_given(matches, "answer") {
+        asked_reaching(alloc, matches)
+    } else {
+        asked_unrolling(alloc, matches)
+    }
 }

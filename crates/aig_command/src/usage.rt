@@ -18,6 +18,10 @@ pub enum Usage {
     KeepMapExcludesStrip,
     /// A map is undone, and none is kept by that.
     KeepMapExcludesUndoMap,
+    /// Outputs become bad states, and a map, which does not tell that, is kept.
+    OutputsAsBadExcludesKeepMap,
+    /// Outputs become bad states, and what was converted is to come back as it was.
+    OutputsAsBadExcludesUndoMap,
     /// A simulation reads both its model and its stimulus from the standard input.
     BothStandardInput,
     /// The destination's name is that of a compressed file.
@@ -26,6 +30,14 @@ pub enum Usage {
     WitnessAlone,
     /// A dump is asked for, which always has the properties, and with it properties.
     VcdExcludesProperties,
+    /// Clauses are asked for, and with them the circuit in ASCII.
+    CnfExcludesAscii,
+    /// An answer is read, and clauses or the circuit in ASCII are asked for too.
+    AnswerAlone,
+    /// A bad state is chosen, and neither clauses nor an answer need it.
+    BadNeedsClauses,
+    /// Both a model and an answer on it are read from the standard input.
+    BothAreStandardInput,
     /// An allocation failed; nothing is known of the command line.
     OutOfMemory,
 }
@@ -40,10 +52,16 @@ impl Usage {
             Usage::KeepMapNeedsBinary => "--keep-map needs binary output",
             Usage::KeepMapExcludesStrip => "--keep-map excludes --strip",
             Usage::KeepMapExcludesUndoMap => "--keep-map excludes --undo-map",
+            Usage::OutputsAsBadExcludesKeepMap => "--outputs-as-bad excludes --keep-map",
+            Usage::OutputsAsBadExcludesUndoMap => "--outputs-as-bad excludes --undo-map",
             Usage::BothStandardInput => "model and stimulus are both standard input",
             Usage::CompressedOutput => "compressed output is not supported",
             Usage::WitnessAlone => "--witness stands alone",
             Usage::VcdExcludesProperties => "--vcd excludes --properties",
+            Usage::CnfExcludesAscii => "--cnf excludes --ascii",
+            Usage::AnswerAlone => "--answer excludes --cnf and --ascii",
+            Usage::BadNeedsClauses => "--bad needs --cnf or --answer",
+            Usage::BothAreStandardInput => "model and answer are both standard input",
             Usage::OutOfMemory => "out of memory",
         }
     }

@@ -112,7 +112,8 @@ judged xs ys =
       p.behind,
       ap (filter (λ (l : Line). l.ended || true)) p.both ∙ all_judged (p.whole ++ p.behind)
           ∙ sym (ap (λ ls. ls ++ p.behind)
-          (ap (filter (λ (l : Line). l.ended || false)) p.front ∙ whole_judged p.whole p.begun p.are_whole p.are_begun)),
+          (ap (filter (λ (l : Line). l.ended || false)) p.front
+          ∙ whole_judged p.whole p.begun p.are_whole p.are_begun)),
     )
 
 -- a bad line of a stimulus
@@ -134,7 +135,8 @@ wrong_stays_at : (said : Option Said) (number k : ℕ) (rest more : Said → Res
 wrong_stays_at None number k rest more stays is = is
 wrong_stays_at (Some said) number k rest more stays is = stays said is
 
-wrong_stays : (shape : Shape) (number k : ℕ) (said : Said) (ls behind : List Line) → said_by shape number said ls ≡ Err k
+wrong_stays : (shape : Shape) (number k : ℕ) (said : Said) (ls behind : List Line)
+    → said_by shape number said ls ≡ Err k
     → said_by shape number said (ls ++ behind) ≡ Err k
 wrong_stays shape number k said [] behind is = cc
 wrong_stays shape number k said (l ∷ ls) behind is =

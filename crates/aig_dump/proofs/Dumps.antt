@@ -37,7 +37,8 @@ ran_origins P s s_now o o_now ran = (
 )
 
 -- what a sink took that was unused before, and whether it failed
-taken_is : (text : List ℕ) (taking : Taking) (origin : Origin) → (sent text taking (unused origin)).bytes ≡ taken text taking
+taken_is : (text : List ℕ) (taking : Taking) (origin : Origin)
+    → (sent text taking (unused origin)).bytes ≡ taken text taking
 taken_is text NotSent origin = refl
 taken_is text All origin = refl
 taken_is text (Beginning count) origin = refl
@@ -144,7 +145,8 @@ module _ (batch : Bool) (c : Circuit) (s s_now o o_now : Past) where
       })
 
   -- The trace went through a wave sink to a sink with this past.
-  pub dumped : {T E : Type 0} (r : Result T E) (ran answer : Result (Unit {0}) SimFault) (wave trace : Past) (w : Layout)
+  pub dumped : {T E : Type 0} (r : Result T E) (ran answer : Result (Unit {0}) SimFault) (wave trace : Past)
+      (w : Layout)
       (name : ℕ) (o_end : Past) (done failed : Bool) → w ≡ layout_of c → wave ≡ unused (wave_origin w name o)
       → IsTraced ran wave trace → done ≡ is_ok ran
       → ((v : Layout) (other : ℕ) (before : Past) → trace.origin ≡ wave_origin v other before
@@ -168,7 +170,8 @@ no_frame : (c : Circuit) → wave_text c [] false ≡ []
 unfolding lines_of most_frames
 no_frame c = refl
 
-refused_at_once : (batch : Bool) (c : Circuit) → TraceSaysAs batch c Properties (Err faults.OutOfMemory) [] Open [] NotSent
+refused_at_once : (batch : Bool) (c : Circuit)
+    → TraceSaysAs batch c Properties (Err faults.OutOfMemory) [] Open [] NotSent
 refused_at_once true c = (tt, refl)
 refused_at_once false c = (refl, refl, refl)
 

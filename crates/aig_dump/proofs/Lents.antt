@@ -31,7 +31,7 @@ module _ (input : List ℕ) (now : Past) (given : HasGiven now) where
       let all = rw is at given.whole in
       all input refl (omega arith)
 
-  part_read : (bytes : List ℕ) → now ≡ came bytes Open (unused (lent input)) → bytes ≡ take (length bytes) input
+  pub part_read : (bytes : List ℕ) → now ≡ came bytes Open (unused (lent input)) → bytes ≡ take (length bytes) input
   part_read bytes is =
       let front = rw is at given.front in
       front input refl

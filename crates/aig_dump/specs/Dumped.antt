@@ -25,7 +25,8 @@ meant text (Beginning count) = text
 
 -- This is the dump of all of the trace, with all its columns, that goes with this answer. It is ended where the
 -- simulation succeeded.
-pub record IsDumpOf (batch : Bool) (c : Circuit) (answer : Result (Unit {0}) SimFault) (bytes : List ℕ) (ending : Ending)
+pub record IsDumpOf (batch : Bool) (c : Circuit) (answer : Result (Unit {0}) SimFault) (bytes : List ℕ)
+    (ending : Ending)
     (dump : List ℕ) : Type 0 where
   pub trace : List ℕ
   pub taking : Taking

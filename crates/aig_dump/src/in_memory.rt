@@ -1,7 +1,8 @@
 //! Verdicts and dumps from bytes to bytes.
 ghost use Rattle.std.specs.Prelude.{◌≡◌, ◌⊎◌, IfErr, IfOk, None, true};
 ghost use Rattle.aig_step.specs.Outcome.{first_bad_line};
-ghost use Rattle.aig_dump.specs.InMemory.{IsBadStimulus, IsBadWitness, IsDumpFor, IsVerdictFor, WantsMemory};
+ghost use Rattle.aig_dump.specs.InMemory.{IsBadStimulus, IsBadWitness, IsDumpFor};
+ghost use Rattle.aig_dump.specs.InMemory.{IsVerdictFor, WantsMemory};
 
 use crate::tracing::write_dump;
 use aig_core::{Checked, SliceSource, VecSink};
@@ -12,7 +13,8 @@ use std::alloc::Global;
 /// The verdict on a witness file.
 pub fn verdict_on(alloc: Global, found: &Checked, witness: &[u8]) -> Result<Verdict, SimFault>
     ensures ok { IfOk result (IsVerdictFor found.now witness.now) }
-    ensures err { IfErr result (λ fault. IsBadWitness found.now witness.now fault ⊎ WantsMemory fault) }
+    ensures err { IfErr result (λ fault. IsBadWitness found.now witness.now fault
+        ⊎ WantsMemory fault) }
 {
     let mut source = SliceSource::new(witness)?;
     let judged = confirm(alloc, found, &mut source);
@@ -20,7 +22,8 @@ pub fn verdict_on(alloc: Global, found: &Checked, witness: &[u8]) -> Result<Verd
     judged
 }
 
-/// The dump of the trace of a stimulus, whose runs are taken side by side, or whose steps one after the other.
+/// The dump of the trace of a stimulus, whose runs are taken side by side, or whose steps one after
+/// the other.
 pub(crate) fn dump_as(
     alloc: Global,
     batch: bool,
@@ -29,7 +32,8 @@ pub(crate) fn dump_as(
 ) -> Result<Vec<u8>, SimFault>
     ensures none_bad { IfOk result (λ _. first_bad_line found.now stimulus.now true ≡ None) }
     ensures text { IfOk result (λ text. IsDumpFor found.now stimulus.now text.items) }
-    ensures err { IfErr result (λ fault. IsBadStimulus found.now stimulus.now fault ⊎ WantsMemory fault) }
+    ensures err { IfErr result (λ fault. IsBadStimulus found.now stimulus.now fault
+        ⊎ WantsMemory fault) }
 {
     let mut source = SliceSource::new(stimulus)?;
     let mut sink = VecSink::new(alloc);
@@ -43,7 +47,8 @@ pub(crate) fn dump_as(
 pub fn dump(alloc: Global, found: &Checked, stimulus: &[u8]) -> Result<Vec<u8>, SimFault>
     ensures none_bad { IfOk result (λ _. first_bad_line found.now stimulus.now true ≡ None) }
     ensures text { IfOk result (λ text. IsDumpFor found.now stimulus.now text.items) }
-    ensures err { IfErr result (λ fault. IsBadStimulus found.now stimulus.now fault ⊎ WantsMemory fault) }
+    ensures err { IfErr result (λ fault. IsBadStimulus found.now stimulus.now fault
+        ⊎ WantsMemory fault) }
 {
     dump_as(alloc, true, found, stimulus)
 }

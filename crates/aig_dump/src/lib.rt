@@ -1,7 +1,8 @@
 //! Dumps: that of a simulation's trace, and that of the run that a witness file claims.
 //!
-//! Others call `write_dump`, and `write_trace` where no dump is asked for; `read_and_dump` and `send_dump` for a
-//! witness file that comes from a source; and, where all bytes are there, `dump`, `verdict_on` and `judge_and_dump`.
+//! Others call `write_dump`, and `write_trace` where no dump is asked for; `read_and_dump` and
+//! `send_dump` for a witness file that comes from a source; and, where all bytes are there, `dump`,
+//! `verdict_on` and `judge_and_dump`.
 //!
 //! The definitions that matter most are `DumpSays`, and of `aig_claims` `IsRunDump`.
 #![tactic(auto)]

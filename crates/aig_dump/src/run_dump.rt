@@ -42,7 +42,8 @@ fn first_text(bytes: &[u8]) -> (&[u8], &[u8])
 
 /// The text of the third line of a witness file, which is the first state, and what follows it.
 fn state_and_steps(witness: &[u8]) -> (&[u8], &[u8])
-    ensures { (one two three : LineRecord) (ls : List LineRecord) → lines_of witness.now ≡ one ∷ two ∷ three ∷ ls
+    ensures { (one two three : LineRecord) (ls : List LineRecord)
+        → lines_of witness.now ≡ one ∷ two ∷ three ∷ ls
         → (result.0.now ≡ text_of three) × (lines_of result.1.now ≡ ls) }
 {
     let (_version, rest) = first_text(witness);
@@ -59,7 +60,7 @@ fn run_dump(alloc: Global, found: Checked, witness: &[u8]) -> Result<Vec<u8>, Ou
     let started = started_by(first, found);
     // To take runs side by side wants more stack than the system gives before a program begins.
     let made = dump_as(alloc, false, &started, steps);
-    drop(started);
+    drop(started); // for the proof
     match made {
         Ok(run) => Ok(run),
         // Its steps are no bad stimulus, so memory was refused.
@@ -78,8 +79,8 @@ fn reason_for_no_dump(fault: SimFault) -> SimFault
     }
 }
 
-/// Judges a witness file for a circuit, and makes the dump of the run that it claims. It fails at the first wrong line,
-/// or where memory is refused.
+/// Judges a witness file for a circuit, and makes the dump of the run that it claims. It fails at
+/// the first wrong line, or where memory is refused.
 pub fn judge_and_dump(
     alloc: Global,
     found: Checked,
@@ -87,12 +88,13 @@ pub fn judge_and_dump(
 ) -> Result<(Verdict, Vec<u8>), SimFault>
     ensures ok { IfOk result (λ made. (claim : Claim) × SaysClaim found witness.now claim
         × IsVerdict found claim made.0 × IsRunDump found claim made.1.items) }
-    ensures err { IfErr result (λ fault. IsBadWitness found witness.now fault ⊎ (fault ≡ faults.OutOfMemory)) }
+    ensures err { IfErr result (λ fault. IsBadWitness found witness.now fault
+        ⊎ (fault ≡ faults.OutOfMemory)) }
 {
     match verdict_on(alloc, &found, witness) {
         Ok(verdict) => Ok((verdict, run_dump(alloc, found, witness)?)),
         Err(fault) => {
-            drop(found);
+            drop(found); // for the proof
             Err(reason_for_no_dump(fault))
         }
     }

@@ -12,8 +12,8 @@ use aig_trace::simulate;
 use aig_wave::{WaveMemory, WaveSink};
 use std::alloc::Global;
 
-/// Simulates a circuit and writes the trace: step by step, or as a batch, which is sent once the whole stimulus was
-/// read and found right.
+/// Simulates a circuit and writes the trace: step by step, or as a batch, which is sent once the
+/// whole stimulus was read and found right.
 pub fn write_trace<R: Source, W: Sink>(
     alloc: Global,
     batch: bool,
@@ -46,8 +46,8 @@ fn outcome_of_dump(ran: Result<(), SimFault>, output_failed: bool) -> Result<(),
     ran
 }
 
-/// Simulates a circuit as `write_trace` does, and writes the dump of the trace, which has the properties. The memory
-/// for the dump is taken before anything is fetched of the stimulus.
+/// Simulates a circuit as `write_trace` does, and writes the dump of the trace, which has the
+/// properties. The memory for the dump is taken before anything is fetched of the stimulus.
 pub fn write_dump<R: Source, W: Sink>(
     alloc: Global,
     batch: bool,

@@ -19,8 +19,10 @@ fn read_witness<R: Source>(
     witness: &mut R,
 ) -> Result<Vec<u8>, SimFault>
     requires { CanFail (R.past witness.old) }
-    ensures ok { IfOk result (λ bytes. R.past witness.new ≡ gave_all bytes.items (R.past witness.old)) }
-    ensures err { IfErr result (λ fault. Read (HasNoDump found.now fault) (R.past witness.old) (R.past witness.new)) }
+    ensures ok { IfOk result (λ bytes. R.past witness.new
+        ≡ gave_all bytes.items (R.past witness.old)) }
+    ensures err { IfErr result (λ fault. Read (HasNoDump found.now fault)
+        (R.past witness.old) (R.past witness.new)) }
 {
     match read_all(alloc, witness) {
         Ok(bytes) => Ok(bytes),
@@ -37,26 +39,29 @@ pub fn read_and_dump<R: Source>(
 ) -> Result<(Verdict, Vec<u8>), SimFault>
     requires { CanFail (R.past witness.old) }
     ensures read { Read (λ bytes ending. MatchResult result
-        (λ made. (ending ≡ AtEnd) × JudgedRun found made.0 bytes made.1.items) (λ fault. HasNoDump found fault bytes ending))
+        (λ made. (ending ≡ AtEnd) × JudgedRun found made.0 bytes made.1.items)
+        (λ fault. HasNoDump found fault bytes ending))
         (R.past witness.old) (R.past witness.new) }
 {
     match read_witness(alloc, &found, witness) {
         Ok(bytes) => {
             let made = judge_and_dump(alloc, found, bytes.as_slice());
-            drop(bytes);
+            drop(bytes); // for the proof
             made
         }
         Err(fault) => {
-            drop(found);
+            drop(found); // for the proof
             Err(fault)
         }
     }
 }
 
-/// Sends the verdict and the dump of a run. It fails only where the sink fails, which then took a beginning of them.
+/// Sends the verdict and the dump of a run. It fails only where the sink fails, which then took a
+/// beginning of them.
 pub fn send_dump<W: Sink>(verdict: Verdict, run: &[u8], sink: &mut W) -> Result<(), WriteFault>
     requires { CanFail (W.past sink.old) }
-    ensures ok { OnOk result (W.past sink.new ≡ took (comment_line verdict ++ run.now) (W.past sink.old)) }
+    ensures ok { OnOk result (W.past sink.new
+        ≡ took (comment_line verdict ++ run.now) (W.past sink.old)) }
     ensures err { OnErr result
         (TookBeginning (comment_line verdict ++ run.now) (W.past sink.old) (W.past sink.new)) }
 {

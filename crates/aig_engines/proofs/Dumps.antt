@@ -101,32 +101,34 @@ file_shown false false c text good (image, is_image, is) =
     )
 
 -- a file and its conversion show the same
-pub shown_alike : (request : ToAig) → request.strip ≡ false → request.max_var ≡ LARGEST → (file converted : List ℕ)
-    → IsConversionText request file converted → (c d : Circuit) → IsFileOf file LARGEST c
+pub shown_alike : (request : ToAig) → request.outputs_as_bad ≡ false → request.strip ≡ false
+    → request.max_var ≡ LARGEST → (file converted : List ℕ) → IsConversionText request file converted
+    → (c d : Circuit) → IsFileOf file LARGEST c
     → IsFileOf converted LARGEST d → ShowTheSame c d
-shown_alike request keeps limit file converted p c d of_file of_converted =
+shown_alike request still keeps limit file converted p c d of_file of_converted =
     let good = well_formed_file file request.max_var p.found p.read in
     let source = source_shown request.undo_map p.found p.source good p.is_source in
-    let made = file_shown request.ascii request.keep_map p.source converted source.0 (rw keeps at p.written_as) in
+    let made =
+    file_shown request.ascii request.keep_map p.source converted source.0 (rw (keeps, still) at p.written_as) in
     let same_found = one_circuit file LARGEST p.found c (rw limit at p.read) of_file in
     let same_made = one_circuit converted LARGEST made.0 d made.1 of_converted in
     subst (λ (e : Circuit). ShowTheSame e d) same_found
     (subst (ShowTheSame p.found) same_made (show_through p.found p.source made.0 source.1 made.2))
 
 pub dumped_alike : ConversionsAreDumpedAlike
-dumped_alike request keeps limit file converted p c d of_file of_converted =
-    same_wave c d (shown_alike request keeps limit file converted p c d of_file of_converted)
+dumped_alike request still keeps limit file converted p c d of_file of_converted =
+    same_wave c d (shown_alike request still keeps limit file converted p c d of_file of_converted)
 
 at_limit : (text : List ℕ) (limit : ℕ) (c : Circuit) → limit ≡ LARGEST → IsFileOf text limit c
     → IsFileOf text LARGEST c
 at_limit text limit c is read = rw is at read
 
 pub dumps_are_kept : DumpsAreKept
-dumps_are_kept request before after keeps limit limit_before limit_after file converted stimulus dump p =
+dumps_are_kept request before after still keeps limit limit_before limit_after file converted stimulus dump p =
     let traces = λ (trace : List ℕ). (traces_are_kept request (record before { properties = true })
-    (record after { properties = true }) limit limit_before limit_after refl file converted stimulus trace p).0 in
+    (record after { properties = true }) still limit limit_before limit_after refl file converted stimulus trace p).0 in
     let alike = λ (c d : Circuit) (of_file : IsFileOf file before.max_var c)
-    (of_converted : IsFileOf converted after.max_var d). dumped_alike request keeps limit file converted p c d
+    (of_converted : IsFileOf converted after.max_var d). dumped_alike request still keeps limit file converted p c d
     (at_limit file before.max_var c limit_before of_file)
     (at_limit converted after.max_var d limit_after of_converted) in (
       λ d.

@@ -1,10 +1,17 @@
 pub mod Trips
 pub mod TripsExist
 pub mod Meant
+pub mod OutputsAsBad
 pub mod Traces
 pub mod Verdicts
 pub mod Lines
 pub mod Unrollings
+pub mod Reachings
+pub mod AskedFor
+pub mod Answered
+pub mod Values
+pub mod Cuts
+pub mod RightAnswers
 pub mod WitnessesUnrolled
 pub mod Texts
 pub mod Dumps

@@ -34,10 +34,16 @@ line_of_usage (usages.Words text) other = absurd (other text refl)
 line_of_usage usages.KeepMapNeedsBinary other = refl
 line_of_usage usages.KeepMapExcludesStrip other = refl
 line_of_usage usages.KeepMapExcludesUndoMap other = refl
+line_of_usage usages.OutputsAsBadExcludesKeepMap other = refl
+line_of_usage usages.OutputsAsBadExcludesUndoMap other = refl
 line_of_usage usages.BothStandardInput other = refl
 line_of_usage usages.WitnessAlone other = refl
 line_of_usage usages.VcdExcludesProperties other = refl
 line_of_usage usages.CompressedOutput other = refl
+line_of_usage usages.CnfExcludesAscii other = refl
+line_of_usage usages.AnswerAlone other = refl
+line_of_usage usages.BadNeedsClauses other = refl
+line_of_usage usages.BothAreStandardInput other = refl
 line_of_usage usages.OutOfMemory other = refl
 
 -- where an answer is no success it is an error

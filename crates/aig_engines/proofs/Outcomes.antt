@@ -1,5 +1,5 @@
 -- What came of a request, from what came of its parts.
-use Rattle.std.proofs.Common.{◌≡◌, ℕ, List, refl}
+use Rattle.std.proofs.Common.{ℕ, List}
 use Rattle.aig_io.specs.Devices.{Past, TookBeginning}
 use Rattle.aig_io.specs.Runs.{Beginning, Ending, Ran, Read, Taking}
 

@@ -1,5 +1,5 @@
 -- Why reading a source gave no circuit, as a fault of a tool.
-use Rattle.std.proofs.Common.{ℕ, List, Result, Ok, Err, Bool, true, false, refl}
+use Rattle.std.proofs.Common.{ℕ, Err, true, false, refl}
 use Rattle.aig_binary.specs.declared.source_fault.SourceFault.{SourceFault}
 use Rattle.aig_binary.specs.declared.source_fault.SourceFault.TheVariants as faults
 use Rattle.aig_binary.specs.Sources.{AnswersFile, ReadsAs}

@@ -41,9 +41,9 @@ carried before after file other stimulus text c d limit limit_after properties i
     }
 
 pub traces_are_kept : TracesAreKept
-traces_are_kept request before after limit limit_before limit_after properties file converted stimulus text p =
+traces_are_kept request before after still limit limit_before limit_after properties file converted stimulus text p =
     let is : IsFileOf file LARGEST p.found = rw limit at p.read in
-    let made = converted_file request file converted p in
+    let made = converted_file request file converted still p in
     let there =
     carried before after file converted stimulus text p.found made.0 limit_before limit_after properties is
     made.1 made.2 in

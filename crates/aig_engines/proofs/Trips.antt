@@ -53,17 +53,18 @@ found_is request bytes text c limit file p = one_circuit bytes LARGEST p.found c
 
 -- what is written of a file of a circuit, where nothing is undone
 written : (request : ToAig) (bytes text : List ℕ) (c : Circuit) → request.max_var ≡ LARGEST → request.strip ≡ false
-    → request.undo_map ≡ false → IsFileOf bytes LARGEST c
+    → request.undo_map ≡ false → request.outputs_as_bad ≡ false → IsFileOf bytes LARGEST c
     → IsConversionText request bytes text → IsTextAs request.ascii request.keep_map c text
-written request bytes text c limit whole kept file p =
+written request bytes text c limit whole kept still file p =
     let source : p.source ≡ p.found = rw kept at p.is_source in
-    rw (whole, source, found_is request bytes text c limit file p) at p.written_as
+    rw (whole, still, source, found_is request bytes text c limit file p) at p.written_as
 
 -- what a plain conversion writes of a file of a circuit
 plainly : (request : ToAig) (bytes text : List ℕ) (c : Circuit) → IsPlain request → IsFileOf bytes LARGEST c
     → IsConversionText request bytes text → IsTextAs request.ascii false c text
 plainly request bytes text c plain file p =
-    rw plain.keep_map at (written request bytes text c plain.limit plain.strip plain.undo_map file p)
+    rw plain.keep_map at
+    (written request bytes text c plain.limit plain.strip plain.undo_map plain.outputs_as_bad file p)
 
 pub binary_file : (c : Circuit) (text : List ℕ) → IsWellFormed c → IsInBinaryOrder c → text ≡ binary_text c
     → IsFileOf text LARGEST c
@@ -85,7 +86,8 @@ pub with_map : (request : ToAig) (bytes text : List ℕ) (c : Circuit) → Keeps
     → IsConversionText request bytes text
     → (image : Circuit) × IsMappedImage c image × (text ≡ binary_text image)
 with_map request bytes text c keeps file p =
-    rw (keeps.ascii, keeps.keep_map) at (written request bytes text c keeps.limit keeps.strip keeps.undo_map file p)
+    rw (keeps.ascii, keeps.keep_map) at
+    (written request bytes text c keeps.limit keeps.strip keeps.undo_map keeps.outputs_as_bad file p)
 
 -- what is written where the map of a mapped image is undone
 without_map : (request : ToAig) (bytes text : List ℕ) (c image : Circuit) → UndoesMap request → IsWellFormed c
@@ -93,7 +95,8 @@ without_map : (request : ToAig) (bytes text : List ℕ) (c image : Circuit) → 
     → IsConversionText request bytes text → text ≡ ascii_text c
 without_map request bytes text c image undoes good is file p =
     let undone = rw (undoes.undo_map, found_is request bytes text image undoes.limit file p) at p.is_source in
-    rw (undoes.ascii, undoes.strip, (undoing_recovers c image good is).1 p.source undone) at p.written_as
+    rw (undoes.ascii, undoes.strip, undoes.outputs_as_bad, (undoing_recovers c image good is).1 p.source undone) at
+    p.written_as
 
 pub through_binary : UndoingGivesAsciiBack
 through_binary there back keeps undoes c file binary ascii accepted first second =

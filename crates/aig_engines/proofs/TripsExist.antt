@@ -1,5 +1,6 @@
 -- The texts of the headline exist: a file has a conversion text, which has one back, and no fault.
-use Rattle.std.proofs.Common.{◌≡◌, refl, ap, ℕ, List, false, inl, inr}
+use Rattle.std.proofs.Common.{◌≡◌, ◌∙◌, refl, sym, ap, ℕ, List, false, inl, inr}
+use Rattle.std.proofs.lemmas.Bool.{false≢true}
 use Rattle.aig_circuit.specs.declared.circuit.Circuit.{Circuit}
 use Rattle.aig_circuit.specs.declared.circuit.TheConstants.{LARGEST}
 use Rattle.aig_circuit.specs.Wellformed.{IsWellFormed}
@@ -19,15 +20,17 @@ use Rattle.aig_engines.proofs.Trips.{ascii_file, binary_file, with_map}
 
 -- what a conversion that leaves nothing out writes
 is_written : (request : ToAig) (bytes text : List ℕ) (found source : Circuit)
-    → request.max_var ≡ LARGEST → request.strip ≡ false → IsFileOf bytes LARGEST found
+    → request.max_var ≡ LARGEST → request.strip ≡ false → request.outputs_as_bad ≡ false
+    → IsFileOf bytes LARGEST found
     → IsSource request.undo_map found source → IsTextAs request.ascii request.keep_map source text
     → IsConversionText request bytes text
-is_written request bytes text found source limit whole file is as_asked = record {
+is_written request bytes text found source limit whole still file is as_asked = record {
   found = found;
   source = source;
   read = rw limit file;
   is_source = is;
-  written_as = rw whole as_asked;
+  can_turn = λ turns. absurd (false≢true (sym still ∙ turns));
+  written_as = rw (whole, still) as_asked;
 }
 
 pub well_formed_file : (text : List ℕ) (limit : ℕ) (c : Circuit) → IsFileOf text limit c → IsWellFormed c
@@ -41,9 +44,9 @@ there_and_back there back keeps undoes c file accepted =
     let binary = binary_text mapped.0 in (
       binary,
       ascii_text c,
-      is_written there file binary c c keeps.limit keeps.strip accepted (rw keeps.undo_map refl)
+      is_written there file binary c c keeps.limit keeps.strip keeps.outputs_as_bad accepted (rw keeps.undo_map refl)
           (rw (keeps.ascii, keeps.keep_map) (mapped.0, mapped.1, refl)),
-      is_written back binary (ascii_text c) mapped.0 c undoes.limit undoes.strip
+      is_written back binary (ascii_text c) mapped.0 c undoes.limit undoes.strip undoes.outputs_as_bad
           (binary_file mapped.0 binary mapped.2 mapped.3 refl)
           (rw undoes.undo_map (undoing_recovers c mapped.0 good mapped.1).0) (rw undoes.ascii refl),
     )
@@ -52,9 +55,9 @@ pub binary_there_and_back : BinaryFilesConvertThereAndBack
 binary_there_and_back there back plain to_ascii plain_back to_binary file (c, good, ordered, is) = (
   ascii_text c,
   binary_text c,
-  is_written there file (ascii_text c) c c plain.limit plain.strip (binary_file c file good ordered is)
-      (rw plain.undo_map refl) (rw (plain.keep_map, to_ascii) refl),
-  is_written back (ascii_text c) (binary_text c) c c plain_back.limit plain_back.strip
+  is_written there file (ascii_text c) c c plain.limit plain.strip plain.outputs_as_bad
+      (binary_file c file good ordered is) (rw plain.undo_map refl) (rw (plain.keep_map, to_ascii) refl),
+  is_written back (ascii_text c) (binary_text c) c c plain_back.limit plain_back.strip plain_back.outputs_as_bad
       (inl (ascii_file c (ascii_text c) good refl)) (rw plain_back.undo_map refl)
       (rw (plain_back.keep_map, to_binary) (c, own_image c good ordered, refl)),
 )

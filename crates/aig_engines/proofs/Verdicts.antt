@@ -87,10 +87,10 @@ carried before after file other witness verdict c d limit limit_after is is_othe
     }
 
 pub verdicts_are_kept : VerdictsAreKept
-verdicts_are_kept request before after limit limit_before limit_after file converted witness verdict p =
+verdicts_are_kept request before after still limit limit_before limit_after file converted witness verdict p =
     let c : Circuit = p.found in
     let is : IsFileOf file LARGEST c = subst (λ n. IsFileOf file n c) limit p.read in
-    let made = converted_file request file converted p in
+    let made = converted_file request file converted still p in
     let d : Circuit = made.0 in (
       carried before after file converted witness verdict c d limit_before limit_after is made.1 made.2,
       carried after before converted file witness verdict d c limit_after limit_before made.1 is

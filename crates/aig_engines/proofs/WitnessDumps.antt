@@ -107,12 +107,13 @@ carried_dump before after file other witness verdict text c d limit limit_after 
     }
 
 pub witness_dumps_are_kept : WitnessDumpsAreKept
-witness_dumps_are_kept request before after keeps limit limit_before limit_after file converted witness text verdict p =
+witness_dumps_are_kept request before after still keeps limit limit_before limit_after file converted witness text
+    verdict p =
     let c : Circuit = p.found in
     let is : IsFileOf file LARGEST c = subst (λ n. IsFileOf file n c) limit p.read in
-    let made = converted_file request file converted p in
+    let made = converted_file request file converted still p in
     let d : Circuit = made.0 in
-    let show = shown_alike request keeps limit file converted p c d is made.1 in (
+    let show = shown_alike request still keeps limit file converted p c d is made.1 in (
       carried_dump before after file converted witness verdict text c d limit_before limit_after is made.1 made.2 show,
       carried_dump after before converted file witness verdict text d c limit_after limit_before made.1 is
           (same_back c d made.2) (show_back c d show),

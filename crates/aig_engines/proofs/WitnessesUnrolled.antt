@@ -11,7 +11,7 @@ use Rattle.aig_circuit.specs.declared.value.Val.TheVariants.{Zero, One}
 use Rattle.aig_circuit.specs.Values.{value_and}
 use Rattle.aig_meaning.specs.Meaning.{IsRow, Row, literal_value}
 use Rattle.aig_meaning.specs.Trace.{Follow, IsTrace}
-use Rattle.aig_witness.specs.Witness.{Holds, IsBad, IsConfirmedAt}
+use Rattle.aig_witness.specs.Witness.{IsHeld, IsBad, IsConfirmedAt}
 use Rattle.aig_engines.specs.Laws.{ConfirmedWitnessesSetUnrolledCircuits}
 use Rattle.aig_unroll.specs.Unrolled.{IsUnrolled}
 use Rattle.aig_unroll.specs.SideBySide.{and_all, bad_side_by_side, side_by_side}
@@ -54,7 +54,7 @@ within (v ∷ vs) (suc i) is = let behind = within vs i is in omega (arith, behi
 
 -- the bad state of the last row, behind those of the rows before it
 last_bad : (c : Circuit) (state : List Val) (vectors : List (List Val)) (property : ℕ) (before : List Row) (row : Row)
-    → Follow c state vectors (before ++ row ∷ []) → All Holds before → Holds row → IsBad property row
+    → Follow c state vectors (before ++ row ∷ []) → All IsHeld before → IsHeld row → IsBad property row
     → get_or (bad_side_by_side One (before ++ row ∷ [])) (length before * length c.bad + property) Zero ≡ One
 last_bad c state [] property [] row follow held holds is = absurd follow
 last_bad c state (vector ∷ vectors) property [] row follow held holds is =
@@ -65,7 +65,7 @@ last_bad c state (vector ∷ vectors) property (r ∷ rs) row follow held holds 
     let long : length front ≡ length c.bad = length-map r.bad (value_and One) ∙ bad_long c r follow.2 in
     let place : length (r ∷ rs) * length c.bad + property ≡ length front + (length rs * length c.bad + property) =
     omega arith in
-    let others : All Holds rs = λ i d under. held (suc i) d (omega (arith, under)) in
+    let others : All IsHeld rs = λ i d under. held (suc i) d (omega (arith, under)) in
     rw (all_one r.constraints (held 0 r (omega arith)), place, get_or-append-add)
     (last_bad c r.next vectors property rs row follow.3 others holds is)
 

@@ -6,9 +6,12 @@ use Rattle.aig_map.specs.declared.fault.MapFault.TheVariants as map_faults
 use Rattle.aig_engines.specs.declared.fault.ToolFault.{ToolFault}
 use Rattle.aig_step.specs.declared.fault.SimFault.{SimFault}
 use Rattle.aig_step.specs.declared.fault.SimFault.TheVariants as sim_faults
+use Rattle.aig_search.specs.declared.fault.AnswerFault.{AnswerFault}
+use Rattle.aig_search.specs.declared.fault.AnswerFault.TheVariants as answer_faults
 use Rattle.aig_unroll.specs.declared.fault.UnrollFault.{UnrollFault}
 use Rattle.aig_unroll.specs.declared.fault.UnrollFault.TheVariants as unroll_faults
-use Rattle.aig_engines.specs.declared.fault.ToolFault.TheVariants.{Read, Map, Sim, Unroll, Source, Sink, OutOfMemory}
+use Rattle.aig_engines.specs.declared.fault.ToolFault.TheVariants.{Read, Map, HasBad, Sim, NoBad, Unroll, Clauses}
+use Rattle.aig_engines.specs.declared.fault.ToolFault.TheVariants.{Answer, Source, Sink, OutOfMemory}
 
 -- The device that failed, memory that was refused, or else what the source gave, or the stimulus. Of a simulation the
 -- model is the source; a witness file stands in the place of the stimulus.
@@ -43,13 +46,23 @@ abbrev pub unroll_blamed : UnrollFault → Party
 unroll_blamed unroll_faults.OutOfMemory = Memory
 unroll_blamed _ = TheInput
 
+-- where a solver's answer gives no witness
+abbrev pub answer_blamed : AnswerFault → Party
+answer_blamed answer_faults.OutOfMemory = Memory
+answer_blamed answer_faults.ReadFailed = TheSource
+answer_blamed _ = TheInput
+
 -- want of memory while a text or a map is judged, for a simulation, or while a circuit is unrolled, is reported as a
 -- fault of it
 abbrev pub at_fault : ToolFault → Party
 at_fault (Read fault) = blamed fault.kind
 at_fault (Map fault) = map_blamed fault
+at_fault HasBad = TheInput
 at_fault (Sim fault) = sim_blamed fault
+at_fault (NoBad number) = TheInput
 at_fault (Unroll fault) = unroll_blamed fault
+at_fault (Clauses fault) = TheInput
+at_fault (Answer fault) = answer_blamed fault
 at_fault Source = TheSource
 at_fault Sink = TheSink
 at_fault OutOfMemory = Memory

@@ -1,5 +1,5 @@
 -- Which text a conversion writes (this project's profile): a circuit is read, changed as asked, and written.
-use Rattle.std.specs.Prelude.{◌≡◌, ◌⊎◌, ℕ, List, [], Bool, true, false, None, if◌then◌else◌}
+use Rattle.std.specs.Prelude.{◌≡◌, ◌≢◌, ◌⊎◌, ℕ, List, [], Bool, true, false, None, if◌then◌else◌}
 use Rattle.aig_circuit.specs.declared.circuit.Circuit.{Circuit}
 use Rattle.aig_text.specs.AsciiText.{ascii_text}
 use Rattle.aig_binary.specs.BinaryText.{binary_text}
@@ -11,8 +11,9 @@ use Rattle.aig_command.specs.declared.request.ToAig.{ToAig}
 use Rattle.aig_engines.specs.declared.conversion.Ready.{Ready}
 use Rattle.aig_engines.specs.declared.conversion.Ready.TheVariants.{Ascii, Binary}
 use Rattle.aig_engines.specs.declared.fault.ToolFault.{ToolFault}
-use Rattle.aig_engines.specs.declared.fault.ToolFault.TheVariants.{Map}
+use Rattle.aig_engines.specs.declared.fault.ToolFault.TheVariants.{HasBad, Map}
 use Rattle.aig_engines.specs.File.{IsFileOf}
+use Rattle.aig_engines.specs.OutputsAsBad.{with_outputs_as_bad}
 use Rattle.aig_engines.specs.Reading.{IsUnreadable}
 
 -- the circuit without its symbols and its comment
@@ -24,9 +25,17 @@ abbrev pub IsSource : Bool → Circuit → Circuit → Type 0
 IsSource true found source = IsUndoneFrom found source
 IsSource false found source = source ≡ found
 
+-- the circuit with its outputs as bad states, where that is asked for
+abbrev pub turned_if_asked : ToAig → Circuit → Circuit
+turned_if_asked request source = if request.outputs_as_bad then with_outputs_as_bad source else source
+
+-- the circuit without what is to be left out
+abbrev pub stripped_if_asked : ToAig → Circuit → Circuit
+stripped_if_asked request source = if request.strip then stripped source else source
+
 -- the circuit that is written for that one
 abbrev pub changed : ToAig → Circuit → Circuit
-changed request source = if request.strip then stripped source else source
+changed request source = stripped_if_asked request (turned_if_asked request source)
 
 -- the image that is written in binary, with a map or without
 abbrev pub IsImageAs : Bool → Circuit → Circuit → Type 0
@@ -38,21 +47,29 @@ abbrev pub IsTextAs : Bool → Bool → Circuit → List ℕ → Type 0
 IsTextAs true keep_map written text = text ≡ ascii_text written
 IsTextAs false keep_map written text = (image : Circuit) × IsImageAs keep_map written image × (text ≡ binary_text image)
 
+-- outputs become bad states only where there is none
+abbrev pub CanTurn : ToAig → Circuit → Type 0
+CanTurn request source = request.outputs_as_bad ≡ true → source.bad ≡ []
+
 -- the text that is written for these bytes
 pub record IsConversionText (request : ToAig) (bytes text : List ℕ) : Type 0 where
   pub found : Circuit
   pub source : Circuit
   pub read : IsFileOf bytes request.max_var found
   pub is_source : IsSource request.undo_map found source
+  pub can_turn : CanTurn request source
   pub written_as : IsTextAs request.ascii request.keep_map (changed request source) text
 
--- The bytes have no conversion text for this reason: they are no file of a circuit; or they are the file of one that
--- was to be undone, and this is why it has no undone one, unless memory was refused.
+-- The bytes have no conversion text for this reason: they are no file of a circuit; they are the file of one that was
+-- to be undone, and this is why it has no undone one, unless memory was refused; or outputs were to become bad states
+-- where there are some already.
 abbrev pub IsConversionRefused : ToAig → ToolFault → List ℕ → Type 0
 IsConversionRefused request fault bytes =
     IsUnreadable request.max_var fault bytes
     ⊎ ((found : Circuit) × IsFileOf bytes request.max_var found × (request.undo_map ≡ true)
     × ((reason : MapFault) × (fault ≡ Map reason) × IsMapFault found reason))
+    ⊎ ((found : Circuit) × (source : Circuit) × IsFileOf bytes request.max_var found
+    × IsSource request.undo_map found source × (fault ≡ HasBad) × (request.outputs_as_bad ≡ true) × (source.bad ≢ []))
 
 -- the text of what is ready to be written
 abbrev pub ready_text : Ready → List ℕ

@@ -11,9 +11,10 @@ use Rattle.aig_engines.specs.Simulation.{IsDumpText}
 
 -- A file and its conversion have one dump of each trace text, of a whole one and of one that was cut short: whatever
 -- the conversion is, at the default limit, to ASCII or to binary, with the map or without, also one that undoes a map.
--- It only has to keep the symbols.
+-- It only has to keep the symbols, and the outputs outputs.
 abbrev pub ConversionsAreDumpedAlike : Type 0
-ConversionsAreDumpedAlike = (request : ToAig) → request.strip ≡ false → request.max_var ≡ LARGEST
+ConversionsAreDumpedAlike = (request : ToAig) → request.outputs_as_bad ≡ false → request.strip ≡ false
+    → request.max_var ≡ LARGEST
     → (file converted : List ℕ) → IsConversionText request file converted
     → (c d : Circuit) → IsFileOf file LARGEST c → IsFileOf converted LARGEST d
     → (text : List ℕ) (done : Bool) → wave_text d text done ≡ wave_text c text done
@@ -26,7 +27,8 @@ DumpsAreUnambiguous = (request : Sim) (model stimulus dump other : List ℕ)
 -- A file and its conversion have the same dump of every stimulus, where either has one. So the same dump is written for
 -- a file, for what it is converted to, and for what is undone from that.
 abbrev pub DumpsAreKept : Type 0
-DumpsAreKept = (request : ToAig) (before after : Sim) → request.strip ≡ false → request.max_var ≡ LARGEST
+DumpsAreKept = (request : ToAig) (before after : Sim) → request.outputs_as_bad ≡ false
+    → request.strip ≡ false → request.max_var ≡ LARGEST
     → before.max_var ≡ LARGEST → after.max_var ≡ LARGEST
     → (file converted stimulus dump : List ℕ) → IsConversionText request file converted
     → IsDumpText before file stimulus dump ↔ IsDumpText after converted stimulus dump

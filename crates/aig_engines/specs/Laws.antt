@@ -1,6 +1,10 @@
 -- What the definitions of this crate say of one another.
-use Rattle.std.specs.Prelude.{◌≡◌, ◌↔◌, ◌<◌, ◌+◌, ◌*◌, ℕ, List, [], ◌∷◌, None, Ok, true, false, length}
-use Rattle.std.specs.Prelude.{slice_index_or, take}
+use Rattle.std.specs.Prelude.{◌≡◌, ◌↔◌, ◌<◌, ◌+◌, ◌*◌, ℕ, List, [], ◌∷◌, None, Some, Ok, true, false, length}
+use Rattle.std.specs.Prelude.{◌≤◌, ◌-◌, ◌==◌, Bool, map, not, slice_index_or, take, ⊤}
+use Rattle.std.specs.List.{AllByRecursion, list_any}
+use Rattle.aig_answer.specs.declared.reader.Signed.{Signed}
+use Rattle.aig_answer.specs.AnswerText.{AreComments, AreValues, IsLine, Line, all_values, answer_text}
+use Rattle.aig_cnf.specs.Clauses.{Satisfies, bad_clauses}
 use Rattle.aig_circuit.specs.declared.circuit.TheConstants.{LARGEST}
 use Rattle.aig_circuit.specs.Wellformed.{IsWellFormed}
 use Rattle.aig_text.specs.AsciiText.{ascii_text}
@@ -13,20 +17,27 @@ use Rattle.aig_map.specs.declared.fault.MapFault.TheVariants.{OutOfMemory}
 use Rattle.aig_map.specs.Undone.{IsMapFault}
 use Rattle.aig_command.specs.declared.request.Sim.{Sim}
 use Rattle.aig_command.specs.declared.request.ToAig.{ToAig}
+use Rattle.aig_command.specs.declared.request.Reach.{Reach}
 use Rattle.aig_command.specs.declared.request.Unroll.{Unroll}
+use Rattle.aig_command.specs.declared.request.UnrolledForm.{UnrolledForm}
+use Rattle.aig_command.specs.declared.request.UnrolledForm.TheVariants.{Ascii, Binary, Clauses}
+use Rattle.aig_search.specs.Alone.{HasAsked, asked_of}
 use Rattle.aig_meaning.specs.Meaning.{Row}
 use Rattle.aig_meaning.specs.Trace.{IsTrace}
+use Rattle.aig_circuit.specs.declared.value.Val.{Val}
 use Rattle.aig_circuit.specs.declared.value.Val.TheVariants.{Zero, One}
 use Rattle.aig_witness.specs.declared.verdict.Verdict.{Verdict}
 use Rattle.aig_witness.specs.declared.verdict.Verdict.TheVariants.{Confirmed}
 use Rattle.aig_step.specs.Outcome.{first_bad_line}
 use Rattle.aig_witness.specs.Witness.{Claim, IsFirstConfirmed, IsVerdict, SaysClaim, first_bad_witness_line}
 use Rattle.aig_unroll.specs.SideBySide.{inputs_side_by_side}
-use Rattle.aig_unroll.specs.Unrolled.{IsTooLarge, IsUnrolled, IsUnsupported}
+use Rattle.aig_unroll.specs.Unrolled.{IsTooLarge, IsUnrolled, IsUnsupported, all_inputs}
 use Rattle.aig_engines.specs.File.{IsFileOf, file_reading, first_fault}
 use Rattle.aig_engines.specs.Conversion.{IsConversionText}
+use Rattle.aig_engines.specs.OutputsAsBad.{row_with_outputs_as_bad}
 use Rattle.aig_engines.specs.Simulation.{IsSimulationText}
-use Rattle.aig_engines.specs.Unrolling.{IsUnrollingText}
+use Rattle.aig_engines.specs.Reaching.{IsModelAsked, IsReachText}
+use Rattle.aig_engines.specs.Unrolling.{IsUnrollingText, IsWritable, bad_of}
 use Rattle.aig_engines.specs.WitnessOutcome.{IsWitnessAnswer}
 
 -- what is read of a text is exactly the circuit whose file it is, of either kind
@@ -59,26 +70,38 @@ abbrev pub UnrollingsAreUnambiguous : Type 0
 UnrollingsAreUnambiguous = (request : Unroll) (bytes text other : List ℕ)
     → IsUnrollingText request bytes text → IsUnrollingText request bytes other → text ≡ other
 
--- an unrolling text of the file of a circuit is, at the default limit, the file of exactly the unrolled circuit
+-- the circuit itself is written, and no clauses
+abbrev pub IsOfCircuit : UnrolledForm → Type 0
+IsOfCircuit Binary = ⊤
+IsOfCircuit Ascii = ⊤
+IsOfCircuit (Clauses bad) = ⊥
+
+-- an unrolling text of the file of a circuit, other than clauses, is, at the default limit, the file of exactly the
+-- unrolled circuit
 abbrev pub UnrolledTextsAreFiles : Type 0
-UnrolledTextsAreFiles = (request : Unroll) (c d : Circuit) (file text : List ℕ) → IsFileOf file request.max_var c
-    → IsUnrolled c request.frames d → IsUnrollingText request file text
+UnrolledTextsAreFiles = (request : Unroll) (c d : Circuit) (file text : List ℕ) → IsOfCircuit request.form
+    → IsFileOf file request.max_var c → IsUnrolled c request.frames d → IsUnrollingText request file text
     → (other : Circuit) → IsFileOf text LARGEST other ↔ (other ≡ d)
 
--- every file of a circuit that is supported and not too large to unroll has an unrolling text
+-- every file of a circuit that is supported and not too large to unroll has an unrolling text; and clauses, where it
+-- has the bad state that is asked for and they can be made
 abbrev pub UnrolledTextsExist : Type 0
 UnrolledTextsExist = (request : Unroll) (c : Circuit) (file : List ℕ) → IsFileOf file request.max_var c
-    → ¬ IsUnsupported c → ¬ IsTooLarge c request.frames → (text : List ℕ) × IsUnrollingText request file text
+    → HasAsked (bad_of request.form) c → ¬ IsUnsupported c
+    → ¬ IsTooLarge (asked_of (bad_of request.form) c) request.frames
+    → ((d : Circuit) → IsUnrolled (asked_of (bad_of request.form) c) request.frames d → IsWritable request.form d)
+    → (text : List ℕ) × IsUnrollingText request file text
 
 -- a canonical binary file: the canonical text of a well-formed circuit in binary order
 abbrev pub IsCanonicalBinary : List ℕ → Type 0
 IsCanonicalBinary file = (c : Circuit) × IsWellFormed c × IsInBinaryOrder c × (file ≡ binary_text c)
 
--- a conversion at the default limit that leaves nothing out, and keeps and undoes no record
+-- a conversion at the default limit that leaves nothing out, changes no property, and keeps and undoes no record
 pub record IsPlain (request : ToAig) : Type 0 where
   pub strip : request.strip ≡ false
   pub keep_map : request.keep_map ≡ false
   pub undo_map : request.undo_map ≡ false
+  pub outputs_as_bad : request.outputs_as_bad ≡ false
   pub limit : request.max_var ≡ LARGEST
 
 -- every canonical binary file survives the trip through ASCII byte for byte
@@ -93,6 +116,7 @@ pub record KeepsMap (request : ToAig) : Type 0 where
   pub strip : request.strip ≡ false
   pub keep_map : request.keep_map ≡ true
   pub undo_map : request.undo_map ≡ false
+  pub outputs_as_bad : request.outputs_as_bad ≡ false
   pub limit : request.max_var ≡ LARGEST
 
 -- a conversion to ASCII at the default limit that leaves nothing out and undoes the map
@@ -101,6 +125,7 @@ pub record UndoesMap (request : ToAig) : Type 0 where
   pub strip : request.strip ≡ false
   pub keep_map : request.keep_map ≡ false
   pub undo_map : request.undo_map ≡ true
+  pub outputs_as_bad : request.outputs_as_bad ≡ false
   pub limit : request.max_var ≡ LARGEST
 
 -- Of every ASCII file of a circuit, converted to binary with the map and undone, there is the canonical text of that
@@ -113,11 +138,12 @@ UndoingGivesAsciiBack = (there back : ToAig) → KeepsMap there → UndoesMap ba
 
 -- A file and its conversion have the same simulation text of every stimulus, where either has one: whatever the
 -- conversion is, at the default limit, to ASCII or to binary, with the map or without, also one that undoes a map or
--- leaves symbols and comment out. So the same text is written for a file, for what it is converted to, and for what is
--- undone from that.
+-- leaves symbols and comment out. It only has to keep the outputs outputs. So the same text is written for a file, for
+-- what it is converted to, and for what is undone from that.
 abbrev pub TracesAreKept : Type 0
-TracesAreKept = (request : ToAig) (before after : Sim) → request.max_var ≡ LARGEST → before.max_var ≡ LARGEST
-    → after.max_var ≡ LARGEST → after.properties ≡ before.properties
+TracesAreKept = (request : ToAig) (before after : Sim) → request.outputs_as_bad ≡ false
+    → request.max_var ≡ LARGEST → before.max_var ≡ LARGEST → after.max_var ≡ LARGEST
+    → after.properties ≡ before.properties
     → (file converted stimulus text : List ℕ) → IsConversionText request file converted
     → (IsSimulationText before file stimulus text ↔ IsSimulationText after converted stimulus text)
     × ((other : List ℕ)
@@ -126,10 +152,22 @@ TracesAreKept = (request : ToAig) (before after : Sim) → request.max_var ≡ L
 -- A file and its conversion get the same verdict on every witness file, where either gets one: whatever the conversion
 -- is, as for simulation texts.
 abbrev pub VerdictsAreKept : Type 0
-VerdictsAreKept = (request : ToAig) (before after : Sim) → request.max_var ≡ LARGEST → before.max_var ≡ LARGEST
-    → after.max_var ≡ LARGEST → (file converted witness : List ℕ) (verdict : Verdict)
+VerdictsAreKept = (request : ToAig) (before after : Sim) → request.outputs_as_bad ≡ false
+    → request.max_var ≡ LARGEST → before.max_var ≡ LARGEST → after.max_var ≡ LARGEST
+    → (file converted witness : List ℕ) (verdict : Verdict)
     → IsConversionText request file converted
     → IsWitnessAnswer before file witness verdict ↔ IsWitnessAnswer after converted witness verdict
+
+-- Where outputs became bad states, the traces are those of the circuit that was read, step by step with the outputs as
+-- bad states: of these first states, these inputs and these rows, and of no others. So the bad states show what the
+-- outputs showed.
+abbrev pub OutputsAreShownAsBad : Type 0
+OutputsAreShownAsBad = (request : ToAig) → request.outputs_as_bad ≡ true → request.max_var ≡ LARGEST
+    → (file converted : List ℕ) → IsConversionText request file converted
+    → (c d : Circuit) → IsFileOf file LARGEST c → IsFileOf converted LARGEST d
+    → (first : List Val) (steps : List (List Val)) (rows : List Row)
+    → IsTrace d first steps rows
+    ↔ ((shown : List Row) × IsTrace c first steps shown × (rows ≡ map row_with_outputs_as_bad shown))
 
 -- the headline
 pub record Headline : Type 0 where
@@ -175,6 +213,37 @@ MappedTextsHaveNoFault = (there : ToAig) → KeepsMap there
     → (first_fault LARGEST binary ≡ None)
     × ((found : Circuit) (fault : MapFault)
     → IsFileOf binary LARGEST found → IsMapFault found fault → fault ≡ OutOfMemory)
+
+-- a model and a solver's answer have one witness at most
+abbrev pub ReachTextsAreUnambiguous : Type 0
+ReachTextsAreUnambiguous = (request : Reach) (asked again : Circuit) (model answer text other : List ℕ)
+    → IsModelAsked request model asked → IsModelAsked request model again
+    → IsReachText request asked answer text → IsReachText request again answer other → text ≡ other
+
+-- The values are those of an assignment, as far as the first so many variables go: each is what the assignment says,
+-- and each variable that is true has one. Variable n of a circuit is number n + 1.
+pub record AreValuesOf (a : ℕ → Bool) (variables : ℕ) (values : List Signed) : Type 0 where
+  pub right : AllByRecursion (λ (value : Signed). value.is_negative ≡ not (a (value.number - 1))) values
+  pub listed : (v : ℕ) → 1 ≤ v → v ≤ variables → a v ≡ true
+      → list_any (λ (value : Signed). value.number == v + 1) values ≡ true
+
+-- Where an assignment satisfies the clauses that are written of a model, each text of an answer that has its values
+-- has a witness: so a right answer is never refused.
+abbrev pub RightAnswersHaveWitnesses : Type 0
+RightAnswersHaveWitnesses = (request : Reach) (asked : Circuit) (model : List ℕ) (a : ℕ → Bool)
+    (before : List (List ℕ)) (lines : List Line) (last : List Signed) (behind : List (List ℕ))
+    → (of_model : IsModelAsked request model asked) → Satisfies a (bad_clauses of_model.has_clauses.unrolled)
+    → AreComments before → AllByRecursion IsLine lines → AreValues last → AreComments behind
+    → AreValuesOf a (all_inputs asked request.frames) (all_values lines last)
+    → (text : List ℕ) × IsReachText request asked (answer_text before lines last behind) text
+
+-- What is written for a model and a solver's answer is a witness file: of the model it is confirmed, at one of the
+-- frames, and what it claims is that the bad state is reached that was asked for, if one was.
+abbrev pub SolverAnswersAreConfirmed : Type 0
+SolverAnswersAreConfirmed = (request : Reach) (judging : Sim) (asked : Circuit) (model answer text : List ℕ)
+    → judging.max_var ≡ request.max_var → IsModelAsked request model asked → IsReachText request asked answer text
+    → (step : ℕ) × (step < request.frames) × (confirmed : IsWitnessAnswer judging model text (Confirmed step))
+    × ((number : ℕ) → request.bad ≡ Some number → confirmed.claim.property ≡ number)
 
 -- A witness that is confirmed at a step sets the unrolled circuit of as many frames and one more. Where that is given
 -- the first values of the uninitialised latches and then the inputs of the witness's steps, it has exactly one trace,

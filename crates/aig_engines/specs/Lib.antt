@@ -1,7 +1,9 @@
 pub use Rattle.aig_binary.specs.File
+pub mod OutputsAsBad
 pub mod Conversion
 pub mod Simulation
 pub mod Unrolling
+pub mod Reaching
 pub mod Blame
 pub mod Reading
 pub mod Outcome

@@ -4,7 +4,9 @@ use Rattle.aig_io.specs.Devices.{Past, TookBeginning, took}
 use Rattle.aig_rows.specs.Messages.{cannot_read_text, cannot_write_text, fault_text, out_of_memory_text}
 use Rattle.aig_map.specs.Messages.{map_fault_text}
 use Rattle.aig_step.specs.Messages.{sim_fault_text}
-use Rattle.aig_unroll.specs.Messages.{unroll_fault_text}
+use Rattle.aig_unroll.specs.Messages.{clause_fault_text, unroll_fault_text}
+use Rattle.aig_search.specs.Messages.{answer_fault_text, asked_fault_text}
+use Rattle.aig_search.specs.declared.fault.AskedFault.TheVariants as asked_faults
 use Rattle.aig_engines.specs.declared.fault.ToolFault.{ToolFault}
 use Rattle.aig_engines.specs.declared.fault.ToolFault.TheVariants as faults
 use Rattle.aig_command.specs.Answer.{name_of}
@@ -34,8 +36,12 @@ memory_line = line_of [] out_of_memory_text
 abbrev pub error_text : ToolFault → List ℕ
 error_text (faults.Read fault) = fault_text fault
 error_text (faults.Map fault) = map_fault_text fault
+error_text faults.HasBad = codes "bad states are there already"
 error_text (faults.Sim fault) = sim_fault_text fault
+error_text (faults.NoBad number) = asked_fault_text (asked_faults.NoBad number)
 error_text (faults.Unroll fault) = unroll_fault_text fault
+error_text (faults.Clauses fault) = clause_fault_text fault
+error_text (faults.Answer fault) = answer_fault_text fault
 error_text faults.Source = cannot_read_text
 error_text faults.Sink = cannot_write_text
 error_text faults.OutOfMemory = out_of_memory_text

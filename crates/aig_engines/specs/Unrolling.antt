@@ -1,20 +1,52 @@
--- Which text an unrolling writes (this project's profile): a circuit is read, and its unrolled circuit is written.
-use Rattle.std.specs.Prelude.{◌≡◌, ◌⊎◌, ℕ, List, Bool, if◌then◌else◌}
+-- Which text an unrolling writes (this project's profile): a circuit is read, and what is written is its unrolled
+-- circuit, or the clauses by which a bad state of that is 1.
+use Rattle.std.specs.Prelude.{◌≡◌, ◌⊎◌, ◌≤◌, ℕ, List, Option, None, Some, length, ⊤}
 use Rattle.aig_circuit.specs.declared.circuit.Circuit.{Circuit}
 use Rattle.aig_text.specs.AsciiText.{ascii_text}
 use Rattle.aig_binary.specs.BinaryText.{binary_text}
-use Rattle.aig_unroll.specs.declared.fault.UnrollFault.{UnrollFault}
-use Rattle.aig_unroll.specs.Outcome.{NotUnrolled}
+use Rattle.aig_cnf.specs.ClauseText.{cnf_text}
+use Rattle.aig_unroll.specs.declared.fault.ClauseFault.{ClauseFault}
+use Rattle.aig_unroll.specs.Outcome.{HasClauses, NotInClauses, NotUnrolled}
 use Rattle.aig_unroll.specs.Unrolled.{IsTooLarge, IsUnrolled, IsUnsupported}
+use Rattle.aig_search.specs.Alone.{HasAsked, asked_of}
 use Rattle.aig_command.specs.declared.request.Unroll.{Unroll}
+use Rattle.aig_command.specs.declared.request.UnrolledForm.{UnrolledForm}
+use Rattle.aig_command.specs.declared.request.UnrolledForm.TheVariants.{Ascii, Binary, Clauses}
 use Rattle.aig_engines.specs.declared.fault.ToolFault.{ToolFault}
 use Rattle.aig_engines.specs.declared.fault.ToolFault.TheVariants as faults
 use Rattle.aig_engines.specs.File.{IsFileOf}
 use Rattle.aig_engines.specs.Reading.{IsUnreadable}
 
--- the canonical text of a circuit, in ASCII or in binary
-abbrev pub text_as : Bool → Circuit → List ℕ
-text_as ascii c = if ascii then ascii_text c else binary_text c
+-- how an unrolled circuit is written: its canonical text, in binary or in ASCII, or its clauses
+abbrev pub unrolled_text : UnrolledForm → Circuit → List ℕ
+unrolled_text Binary d = binary_text d
+unrolled_text Ascii d = ascii_text d
+unrolled_text (Clauses bad) d = cnf_text d
+
+-- the number of the bad state that the clauses alone speak of, if one is asked for
+abbrev pub bad_of : UnrolledForm → Option ℕ
+bad_of Binary = None
+bad_of Ascii = None
+bad_of (Clauses bad) = bad
+
+-- it can be written so: of clauses, they can be made of it
+abbrev pub IsWritable : UnrolledForm → Circuit → Type 0
+IsWritable Binary d = ⊤
+IsWritable Ascii d = ⊤
+IsWritable (Clauses bad) d = HasClauses d
+
+-- it cannot for this reason
+abbrev pub NotWritable : UnrolledForm → Circuit → ClauseFault → Type 0
+NotWritable Binary d reason = ⊥
+NotWritable Ascii d reason = ⊥
+NotWritable (Clauses bad) d reason = NotInClauses d reason
+
+-- The circuit d is a circuit c unrolled over so many frames, or c with this bad state alone.
+pub record IsUnrolledFor (bad : Option ℕ) (frames : ℕ) (c d : Circuit) : Type 0 where
+  pub has_bad : HasAsked bad c
+  pub supported : ¬ IsUnsupported (asked_of bad c)
+  pub fits : ¬ IsTooLarge (asked_of bad c) frames
+  pub is_unrolled : IsUnrolled (asked_of bad c) frames d
 
 -- The text that is written for these bytes: they are the file of a circuit that can be unrolled, and this is the
 -- text of the unrolled circuit.
@@ -22,10 +54,19 @@ pub record IsUnrollingText (request : Unroll) (bytes text : List ℕ) : Type 0 w
   pub found : Circuit
   pub unrolled : Circuit
   pub read : IsFileOf bytes request.max_var found
-  pub supported : ¬ IsUnsupported found
-  pub fits : ¬ IsTooLarge found request.frames
-  pub is_unrolled : IsUnrolled found request.frames unrolled
-  pub written_as : text ≡ text_as request.ascii unrolled
+  pub is_unrolled : IsUnrolledFor (bad_of request.form) request.frames found unrolled
+  pub is_writable : IsWritable request.form unrolled
+  pub written_as : text ≡ unrolled_text request.form unrolled
+
+-- A circuit is not unrolled so: it has not the bad state that is asked for; it cannot be unrolled; or no clauses can
+-- be made of what is unrolled.
+abbrev pub NotUnrolledAs : UnrolledForm → ℕ → Circuit → ToolFault → Type 0
+NotUnrolledAs form frames c (faults.NoBad number) = (bad_of form ≡ Some number) × (length c.bad ≤ number)
+NotUnrolledAs form frames c (faults.Unroll reason) =
+    HasAsked (bad_of form) c × NotUnrolled (asked_of (bad_of form) c) frames reason
+NotUnrolledAs form frames c (faults.Clauses reason) =
+    (d : Circuit) × IsUnrolledFor (bad_of form) frames c d × NotWritable form d reason
+NotUnrolledAs form frames c fault = ⊥
 
 -- The bytes have no unrolling text for this reason: they are no file of a circuit; or they are the file of one, and
 -- this is why it is not unrolled.
@@ -33,4 +74,4 @@ abbrev pub IsUnrollingRefused : Unroll → ToolFault → List ℕ → Type 0
 IsUnrollingRefused request fault bytes =
     IsUnreadable request.max_var fault bytes
     ⊎ ((found : Circuit) × IsFileOf bytes request.max_var found
-    × ((reason : UnrollFault) × (fault ≡ faults.Unroll reason) × NotUnrolled found request.frames reason))
+    × NotUnrolledAs request.form request.frames found fault)

@@ -23,7 +23,8 @@ WitnessDumpsAreUnambiguous = (request : Sim) (model witness : List ℕ) (verdict
 -- A file and its conversion, or what is undone from that, have the same dump of every witness file, where either has
 -- one and the symbols are kept.
 abbrev pub WitnessDumpsAreKept : Type 0
-WitnessDumpsAreKept = (request : ToAig) (before after : Sim) → request.strip ≡ false → request.max_var ≡ LARGEST
+WitnessDumpsAreKept = (request : ToAig) (before after : Sim) → request.outputs_as_bad ≡ false
+    → request.strip ≡ false → request.max_var ≡ LARGEST
     → before.max_var ≡ LARGEST → after.max_var ≡ LARGEST
     → (file converted witness text : List ℕ) (verdict : Verdict) → IsConversionText request file converted
     → IsWitnessDumpText before file witness verdict text ↔ IsWitnessDumpText after converted witness verdict text

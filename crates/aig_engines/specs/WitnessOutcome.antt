@@ -26,8 +26,8 @@ abbrev pub answer_line : Verdict → List ℕ
 answer_line (Confirmed step) = codes "confirmed " ++ (decimal step ++ codes "\n")
 answer_line NotConfirmed = codes "not confirmed\n"
 
--- The file was judged, and the line of the verdict was taken, or the sink failed on the way; or there is no verdict, and
--- nothing was sent.
+-- The file was judged, and the line of the verdict was taken, or the sink failed on the way; or there is no verdict,
+-- and nothing was sent.
 abbrev pub AnswerSays : Circuit → Result Verdict ToolFault → List ℕ → Ending → List ℕ → Taking → Type 0
 AnswerSays c (Ok verdict) bytes ending text taking =
     ConfirmSays c (Ok verdict) bytes ending × (text ≡ answer_line verdict) × (taking ≡ All)

@@ -1,16 +1,19 @@
 //! `aigtoaig`: conversion of AIGER files.
-ghost use Rattle.std.specs.Prelude.{◌≡◌, true, IfErr, IfOk};
+ghost use Rattle.std.specs.Prelude.{◌≡◌, ◌≢◌, ◌⊎◌, [], true, IfErr, IfOk, OnOk};
 ghost use Rattle.aig_io.specs.Devices.{CanFail};
 ghost use Rattle.aig_io.specs.Runs.{Ran};
 ghost use Rattle.aig_map.specs.Undone.{IsMapFault};
 ghost use Rattle.aig_command.specs.Answer.{IsKeptAlone, name_of};
-ghost use Rattle.aig_engines.specs.Conversion.{changed, IsConversionRefused, IsConversionText, IsImageAs, IsSource};
-ghost use Rattle.aig_engines.specs.Conversion.{IsTextAs, ready_text};
+ghost use Rattle.aig_engines.specs.Conversion.{CanTurn, IsConversionRefused, IsConversionText};
+ghost use Rattle.aig_engines.specs.Conversion.{IsImageAs, IsSource, IsTextAs, ready_text};
+ghost use Rattle.aig_engines.specs.Conversion.{stripped_if_asked, turned_if_asked};
+ghost use Rattle.aig_engines.specs.declared.fault.ToolFault.TheVariants as faults;
 ghost use Rattle.aig_engines.specs.Outcome.{Says};
 
 use crate::engine::{Engine, run};
 use crate::fault::ToolFault;
 use crate::file::read_circuit;
+use crate::outputs_as_bad::{symbols_if_free, with_outputs_as_bad};
 use aig_binary::{Ordered, write_binary};
 use aig_command::ToAig;
 use aig_core::{Checked, Circuit, Keep, OutOfMemory, Sink, Source, Symbols};
@@ -18,8 +21,8 @@ use aig_order::{MapFault, into_binary, into_binary_with_map, undo};
 use aig_text::{WriteFault, write_ascii};
 use std::alloc::Global;
 
-/// What is ready to be written. It is dropped by name, since a proof goes through all that goes out of scope by itself,
-/// wherever that is.
+/// What is ready to be written. It is dropped by name, since a proof goes through all that goes out
+/// of scope by itself, wherever that is.
 #[derive(Drop)]
 pub enum Ready {
     /// A circuit, in ASCII.
@@ -28,8 +31,8 @@ pub enum Ready {
     Binary(Ordered),
 }
 
-/// What is wanted of the check later: a binary image of the circuit that is read needs an order of its gates. ASCII
-/// needs none, and a circuit that is undone comes from gates in order.
+/// What is wanted of the check later: a binary image of the circuit that is read needs an order of
+/// its gates. ASCII needs none, and a circuit that is undone comes from gates in order.
 fn what_to_keep(request: &ToAig) -> Keep {
     if request.ascii || request.undo_map {
         Keep::Circuit
@@ -40,7 +43,7 @@ fn what_to_keep(request: &ToAig) -> Keep {
 
 /// The circuit without its symbols and its comment, where the request asks for that.
 fn strip_if_asked(alloc: Global, request: &ToAig, circuit: Checked) -> Checked
-    ensures { result ≡ changed request.now circuit }
+    ensures { result ≡ stripped_if_asked request.now circuit }
 {
     if !request.strip {
         return circuit;
@@ -53,6 +56,25 @@ fn strip_if_asked(alloc: Global, request: &ToAig, circuit: Checked) -> Checked
     })
 }
 
+/// The circuit with its outputs as bad states, where the request asks for that.
+fn turn_if_asked(alloc: Global, request: &ToAig, circuit: Checked) -> Result<Checked, ToolFault>
+    ensures can { OnOk result (CanTurn request.now circuit) }
+    ensures ok { IfOk result (λ turned. turned ≡ turned_if_asked request.now circuit) }
+    ensures err { IfErr result (λ e. (e ≡ faults.OutOfMemory)
+        ⊎ ((e ≡ faults.HasBad) × (request.now.outputs_as_bad ≡ true) × (circuit.bad ≢ []))) }
+{
+    if !request.outputs_as_bad {
+        return Ok(circuit);
+    }
+    match symbols_if_free(alloc, circuit.circuit()) {
+        Ok(symbols) => Ok(with_outputs_as_bad(circuit, symbols)),
+        Err(fault) => {
+            drop(circuit);
+            Err(fault)
+        }
+    }
+}
+
 /// The circuit whose mapped image was read, where the request asks to undo the map.
 fn undo_if_asked(alloc: Global, request: &ToAig, found: Checked) -> Result<Checked, MapFault>
     ensures ok { IfOk result (λ source. IsSource request.now.undo_map found source) }
@@ -62,7 +84,7 @@ fn undo_if_asked(alloc: Global, request: &ToAig, found: Checked) -> Result<Check
         return Ok(found);
     }
     let source = undo(alloc, &found);
-    drop(found);
+    drop(found); // for the proof
     source
 }
 
@@ -78,7 +100,7 @@ fn image(alloc: Global, request: &ToAig, circuit: Checked) -> Result<Ordered, Ou
 }
 
 /// The circuit in the form that the request asks for.
-fn make_ready(alloc: Global, request: &ToAig, circuit: Checked) -> Result<Ready, OutOfMemory>
+fn convert_as_asked(alloc: Global, request: &ToAig, circuit: Checked) -> Result<Ready, OutOfMemory>
     ensures { IfOk result (λ ready.
         IsTextAs request.now.ascii request.now.keep_map circuit (ready_text ready)) }
 {
@@ -88,9 +110,10 @@ fn make_ready(alloc: Global, request: &ToAig, circuit: Checked) -> Result<Ready,
     Ok(Ready::Binary(image(alloc, request, circuit)?))
 }
 
-/// Reads the source to its end, and writes what the request asks for. Nothing is sent before the whole source was read
-/// and found right. It fails if a device or an allocation fails, if the bytes are no file of a circuit, or if a map is
-/// to be undone and cannot be. Only a sink that fails may have taken a beginning of what is written.
+/// Reads the source to its end, and writes what the request asks for. Nothing is sent before the
+/// whole source was read and found right. It fails if a device or an allocation fails, if the bytes
+/// are no file of a circuit, or if a map is to be undone and cannot be. Only a sink that fails may
+/// have taken a beginning of what is written.
 pub fn run_toaig<R: Source, W: Sink>(
     alloc: Global,
     request: &ToAig,
@@ -132,20 +155,21 @@ impl Engine for ToAig {
     fn read<R: Source>(&self, alloc: Global, source: &mut R) -> Result<Ready, ToolFault> {
         let found = read_circuit(alloc, source, self.max_var, what_to_keep(self))?;
         let source_circuit = undo_if_asked(alloc, self, found)?;
-        let circuit = strip_if_asked(alloc, self, source_circuit);
-        Ok(make_ready(alloc, self, circuit)?)
+        let turned_circuit = turn_if_asked(alloc, self, source_circuit)?;
+        let circuit = strip_if_asked(alloc, self, turned_circuit);
+        Ok(convert_as_asked(alloc, self, circuit)?)
     }
 
     fn write<W: Sink>(&self, work: Ready, sink: &mut W) -> Result<(), WriteFault> {
         match work {
             Ready::Ascii(circuit) => {
                 let written = write_ascii(&circuit, sink);
-                drop(circuit);
+                drop(circuit); // for the proof
                 written
             }
             Ready::Binary(image) => {
                 let written = write_binary(&image, sink);
-                drop(image);
+                drop(image); // for the proof
                 written
             }
         }

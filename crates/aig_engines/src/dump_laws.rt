@@ -1,9 +1,12 @@
-//! Laws of dumps: facts about the definitions alone, each the contract of a function with an empty body.
-ghost use Rattle.aig_engines.specs.DumpLaws.{ConversionsAreDumpedAlike, DumpsAreKept, DumpsAreUnambiguous};
-ghost use Rattle.aig_engines.specs.DumpLaws.{DumpsTellTraces};
-ghost use Rattle.aig_engines.specs.WitnessDumpLaws.{VerdictsHaveDumps, WitnessDumpsAreKept, WitnessDumpsAreUnambiguous};
+//! Laws of dumps: facts about the definitions alone, each the contract of a function with an empty
+//! body.
+ghost use Rattle.aig_engines.specs.DumpLaws.{ConversionsAreDumpedAlike, DumpsAreKept};
+ghost use Rattle.aig_engines.specs.DumpLaws.{DumpsAreUnambiguous, DumpsTellTraces};
+ghost use Rattle.aig_engines.specs.WitnessDumpLaws.{VerdictsHaveDumps, WitnessDumpsAreKept};
+ghost use Rattle.aig_engines.specs.WitnessDumpLaws.{WitnessDumpsAreUnambiguous};
 
-/// A file and its conversion, or what is undone from it, have one dump of each trace text, where the symbols are kept.
+/// A file and its conversion, or what is undone from it, have one dump of each trace text, where
+/// the symbols are kept.
 pub fn conversions_are_dumped_alike()
     ensures { ConversionsAreDumpedAlike }
 {}
@@ -13,8 +16,8 @@ pub fn dumps_are_unambiguous()
     ensures { DumpsAreUnambiguous }
 {}
 
-/// A file and its conversion, or what is undone from it, have the same dump of every stimulus, where the symbols are
-/// kept.
+/// A file and its conversion, or what is undone from it, have the same dump of every stimulus,
+/// where the symbols are kept.
 pub fn dumps_are_kept()
     ensures { DumpsAreKept }
 {}
@@ -34,8 +37,8 @@ pub fn witness_dumps_are_unambiguous()
     ensures { WitnessDumpsAreUnambiguous }
 {}
 
-/// A file and its conversion, or what is undone from it, have the same dump of every witness file, where the symbols
-/// are kept.
+/// A file and its conversion, or what is undone from it, have the same dump of every witness file,
+/// where the symbols are kept.
 pub fn witness_dumps_are_kept()
     ensures { WitnessDumpsAreKept }
 {}

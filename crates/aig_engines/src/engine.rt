@@ -12,8 +12,8 @@ use aig_core::{Sink, Source};
 use aig_text::WriteFault;
 use std::alloc::Global;
 
-/// What a request asks for that names one source and one destination. All is read and found right before anything is
-/// written.
+/// What a request asks for that names one source and one destination. All is read and found right
+/// before anything is written.
 pub trait Engine {
     /// What was read and found right.
     type Work: Drop;
@@ -44,13 +44,15 @@ pub trait Engine {
     fn destination(&self) -> &Option<String>
         ensures { name_of result.now ≡ destination_name self.now };
 
-    /// Reads the source to its end, and makes of it what is to be written. It fails if the source or an allocation
-    /// fails, or if the bytes are refused.
+    /// Reads the source to its end, and makes of it what is to be written. It fails if the source
+    /// or an allocation fails, or if the bytes are refused; of a solver's answer that may be known
+    /// before the end.
     fn read<R: Source>(&self, alloc: Global, source: &mut R) -> Result<Self::Work, ToolFault>
         requires source { CanFail (R.past source.old) }
         requires can_do { can_do self.now }
         ensures read { Read
-            (ReadSays (λ work bytes. is_text self.now bytes (text self.now work)) (is_refused self.now) result)
+            (ReadSays (λ work bytes. is_text self.now bytes (text self.now work))
+            (is_refused self.now) result)
             (R.past source.old) (R.past source.new) }
         ensures some { IfOk result (λ work. 0 < length (text self.now work)) };
 
@@ -58,7 +60,8 @@ pub trait Engine {
     fn write<W: Sink>(&self, work: Self::Work, sink: &mut W) -> Result<(), WriteFault>
         requires { CanFail (W.past sink.old) }
         ensures ok { OnOk result (W.past sink.new ≡ took (text self.now work) (W.past sink.old)) }
-        ensures err { OnErr result (TookBeginning (text self.now work) (W.past sink.old) (W.past sink.new)) };
+        ensures err { OnErr result (TookBeginning (text self.now work)
+            (W.past sink.old) (W.past sink.new)) };
 }
 
 /// Does what a request asks for, from this source to this sink: it reads, then writes.

@@ -1,18 +1,23 @@
 //! Why a tool did not do what was asked.
 ghost use Rattle.std.specs.Prelude.{◌≡◌, ◌↔◌, IsTrue, Some};
 ghost use Rattle.aig_engines.specs.Messages.{error_text};
-ghost use Rattle.aig_engines.specs.declared.fault.ToolFault.TheVariants.{Map, OutOfMemory, Read, Sim, Sink, Unroll};
+ghost use Rattle.aig_engines.specs.declared.fault.ToolFault.TheVariants.{Clauses, Map, OutOfMemory};
+ghost use Rattle.aig_engines.specs.declared.fault.ToolFault.TheVariants.{Read, Sim, Sink, Unroll};
 ghost use Rattle.aig_engines.specs.Blame.{at_fault, Memory};
-ghost use Rattle.aig_engines.specs.Reading.{fault_of_source};
+ghost use Rattle.aig_engines.specs.Reading.{fault_of_answer, fault_of_asked, fault_of_source};
 
 use aig_binary::SourceFault;
 use aig_core::ReadError;
 use aig_order::MapFault;
+use aig_search::{AnswerFault, AskedFault};
 use aig_step::SimFault;
 use aig_text::{CANNOT_READ, CANNOT_WRITE, OUT_OF_MEMORY, ReadFault, ReadKind, WriteFault};
-use aig_unroll::UnrollFault;
+use aig_unroll::{ClauseFault, UnrollFault};
 use std::error::Error;
 use std::fmt;
+
+/// Why outputs do not become bad states.
+pub(crate) const HAS_BAD: &str = "bad states are there already";
 
 /// Why a tool did not do what was asked.
 #[derive(Debug, Drop, PartialEq)]
@@ -21,22 +26,30 @@ pub enum ToolFault {
     Read(ReadFault),
     /// The source is the file of a circuit that has no undone one.
     Map(MapFault),
+    /// Outputs were to become bad states, and the circuit has bad states.
+    HasBad,
     /// The simulation ended early, or a witness file got no verdict.
     Sim(SimFault),
+    /// The circuit has no bad state of this number.
+    NoBad(u32),
     /// The source is the file of a circuit that is not unrolled.
     Unroll(UnrollFault),
+    /// No clauses are made of the unrolled circuit.
+    Clauses(ClauseFault),
+    /// The solver's answer gives no witness.
+    Answer(AnswerFault),
     /// The source failed; of a simulation or a witness, the model's.
     Source,
     /// The sink failed.
     Sink,
-    /// An allocation failed. One that fails while a file or a map is checked, for a simulation or a witness, or while a
-    /// circuit is unrolled, is in `Read`, `Map`, `Sim` or `Unroll`.
+    /// An allocation failed. One that fails while a file or a map is checked, for a simulation or a
+    /// witness, or while a circuit is unrolled, is in `Read`, `Map`, `Sim` or `Unroll`.
     OutOfMemory,
 }
 
 impl ToolFault {
     /// Whether an allocation failed, in whichever variant.
-    pub fn is_want_of_memory(&self) -> bool
+    pub(crate) fn is_want_of_memory(&self) -> bool
         ensures { IsTrue result ↔ (at_fault self.now ≡ Memory) }
     {
         match self {
@@ -45,6 +58,8 @@ impl ToolFault {
             ToolFault::Map(fault) => matches!(fault, MapFault::OutOfMemory),
             ToolFault::Sim(fault) => matches!(fault, SimFault::OutOfMemory),
             ToolFault::Unroll(fault) => matches!(fault, UnrollFault::OutOfMemory),
+            ToolFault::Answer(fault) => matches!(fault, AnswerFault::OutOfMemory),
+            ToolFault::HasBad | ToolFault::NoBad(_) | ToolFault::Clauses(_) => false,
             ToolFault::Source | ToolFault::Sink => false,
         }
     }
@@ -57,8 +72,12 @@ impl fmt::Display for ToolFault {
         match self {
             ToolFault::Read(fault) => write!(f, "{fault}"),
             ToolFault::Map(fault) => write!(f, "{fault}"),
+            ToolFault::HasBad => write!(f, "{HAS_BAD}"),
             ToolFault::Sim(fault) => write!(f, "{fault}"),
+            ToolFault::NoBad(number) => write!(f, "{}", AskedFault::NoBad(*number)),
             ToolFault::Unroll(fault) => write!(f, "{fault}"),
+            ToolFault::Clauses(fault) => write!(f, "{fault}"),
+            ToolFault::Answer(fault) => write!(f, "{fault}"),
             ToolFault::Source => write!(f, "{CANNOT_READ}"),
             ToolFault::Sink => write!(f, "{CANNOT_WRITE}"),
             ToolFault::OutOfMemory => write!(f, "{OUT_OF_MEMORY}"),
@@ -117,6 +136,37 @@ impl From<UnrollFault> for ToolFault {
 
     fn from(fault: UnrollFault) -> ToolFault {
         ToolFault::Unroll(fault)
+    }
+}
+
+impl From<AskedFault> for ToolFault {
+    ghost from_gives = { λ error fault. fault ≡ fault_of_asked error };
+
+    fn from(error: AskedFault) -> ToolFault {
+        match error {
+            AskedFault::NoBad(number) => ToolFault::NoBad(number),
+            AskedFault::OutOfMemory => ToolFault::OutOfMemory,
+        }
+    }
+}
+
+impl From<ClauseFault> for ToolFault {
+    ghost from_gives = { λ fault error. error ≡ Clauses fault };
+
+    fn from(fault: ClauseFault) -> ToolFault {
+        ToolFault::Clauses(fault)
+    }
+}
+
+impl From<AnswerFault> for ToolFault {
+    ghost from_gives = { λ error fault. fault ≡ fault_of_answer error };
+
+    fn from(error: AnswerFault) -> ToolFault {
+        match error {
+            AnswerFault::OutOfMemory => ToolFault::OutOfMemory,
+            AnswerFault::ReadFailed => ToolFault::Source,
+            _ => ToolFault::Answer(error),
+        }
     }
 }
 

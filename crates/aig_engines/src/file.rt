@@ -10,8 +10,8 @@ use aig_core::{Checked, Keep, Source};
 use aig_text::Limits;
 use std::alloc::Global;
 
-/// Reads the source to its end, as a file of either kind within this limit, and keeps what is wanted of the check
-/// later. Only a part of it is held at a time.
+/// Reads the source to its end, as a file of either kind within this limit, and keeps what is
+/// wanted of the check later. Only a part of it is held at a time.
 pub fn read_circuit<R: Source>(
     alloc: Global,
     source: &mut R,
@@ -19,7 +19,8 @@ pub fn read_circuit<R: Source>(
     keep: Keep,
 ) -> Result<Checked, ToolFault>
     requires { CanFail (R.past source.old) }
-    ensures read { Read (ReadSays (λ found bytes. IsFileOf bytes max_var found) (IsUnreadable max_var) result)
+    ensures read { Read
+        (ReadSays (λ found bytes. IsFileOf bytes max_var found) (IsUnreadable max_var) result)
         (R.past source.old) (R.past source.new) }
 {
     Ok(read_source(alloc, source, Limits { max_var }, keep)?)

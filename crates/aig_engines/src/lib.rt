@@ -1,10 +1,13 @@
-//! The engines of the tools: what each does over a source and a sink, what it reports, and the laws of it all.
+//! The engines of the tools: what each does over a source and a sink, what it reports, and the laws
+//! of it all.
 //!
-//! Others call `run_toaig`, `run_witness` and `run_unroll`, which work over any source and sink; `read_circuit`; the
-//! trait `Engine`; and what is reported on standard error. The engine of `aigsim` stands above, in `aig_tools`, since
-//! it needs `aig_dump`, which stands beside this crate.
+//! Others call `run_toaig`, `run_witness` and `run_unroll`, which work over any source and sink;
+//! `read_circuit`; for a solver's answer `read_asked` and `AnswerFor`; the trait `Engine`; and what
+//! is reported on standard error. The engine of `aigsim` stands above, in `aig_tools`, since it
+//! needs `aig_dump`, which stands beside this crate.
 //!
-//! The definitions that matter most are `IsConversionText`, `IsSimulationText`, `IsUnrollingText` and `Headline`.
+//! The definitions that matter most are `IsConversionText`, `IsSimulationText`, `IsUnrollingText`,
+//! `IsReachText` and `Headline`.
 #![tactic(auto)]
 
 mod conversion;
@@ -14,6 +17,8 @@ mod fault;
 mod file;
 pub mod laws;
 mod message;
+mod outputs_as_bad;
+mod reaching;
 mod unrolling;
 mod witness;
 
@@ -22,8 +27,9 @@ pub use crate::engine::Engine;
 pub use crate::fault::ToolFault;
 pub use crate::file::read_circuit;
 pub use crate::message::{
-    report_error, report_memory, report_simulation_error, report_unwritten, report_usage,
-    report_words,
+    report_error, report_memory, report_simulation_error, report_source_error, report_unwritten,
+    report_usage, report_words,
 };
+pub use crate::reaching::{AnswerFor, read_asked};
 pub use crate::unrolling::run_unroll;
 pub use crate::witness::{judge, run_witness};

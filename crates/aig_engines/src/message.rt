@@ -1,18 +1,21 @@
-//! What is reported on standard error. Whether it could be sent changes nothing: there is no other place to report it.
-//! Formatting and sending take no memory, so that out of memory can be reported too.
+//! What is reported on standard error. Whether it could be sent changes nothing: there is no other
+//! place to report it. Formatting and sending take no memory, so that out of memory can be reported
+//! too.
 ghost use Rattle.std.specs.Prelude.{◌≡◌, [], codes};
 ghost use Rattle.aig_io.specs.Devices.{CanFail};
 ghost use Rattle.aig_io.specs.Output.{Put};
 ghost use Rattle.aig_command.specs.Answer.{name_of};
 ghost use Rattle.aig_engines.specs.Blame.{at_fault};
-ghost use Rattle.aig_engines.specs.Messages.{error_line, error_text, IsReported, line_naming, line_of, memory_line};
-ghost use Rattle.aig_engines.specs.Messages.{name_between, shown, simulation_error_line, simulation_name_at};
-ghost use Rattle.aig_engines.specs.Messages.{usage_text, words_line};
+ghost use Rattle.aig_engines.specs.Messages.{error_line, error_text, IsReported, line_naming};
+ghost use Rattle.aig_engines.specs.Messages.{line_of, memory_line, name_between, shown};
+ghost use Rattle.aig_engines.specs.Messages.{simulation_error_line, simulation_name_at, usage_text};
+ghost use Rattle.aig_engines.specs.Messages.{words_line};
 
 use crate::engine::Engine;
-use crate::fault::ToolFault;
+use crate::fault::{HAS_BAD, ToolFault};
 use aig_command::{Sim, Usage};
 use aig_core::{Output, Sink};
+use aig_search::AskedFault;
 use aig_step::SimFault;
 use aig_text::{CANNOT_READ, CANNOT_WRITE, OUT_OF_MEMORY};
 
@@ -27,7 +30,7 @@ fn name_or_dash(name: &Option<String>) -> &str
 }
 
 /// Sends a text.
-pub(crate) fn send<E: Sink>(errors: &mut E, text: &[u8])
+pub(crate) fn send_text<E: Sink>(errors: &mut E, text: &[u8])
     requires { CanFail (E.past errors.old) }
     ensures { IsReported (E.past errors.old) (E.past errors.new) text.now }
 {
@@ -67,7 +70,8 @@ pub fn report_words<E: Sink>(errors: &mut E)
 /// Reports that the standard output takes no help text.
 pub fn report_unwritten<E: Sink>(errors: &mut E)
     requires { CanFail (E.past errors.old) }
-    ensures { IsReported (E.past errors.old) (E.past errors.new) (line_of (codes "-: ") (codes "cannot write")) }
+    ensures { IsReported (E.past errors.old) (E.past errors.new)
+        (line_of (codes "-: ") (codes "cannot write")) }
 {
     send_line(errors, b"-: cannot write");
 }
@@ -78,7 +82,7 @@ pub fn report_usage<E: Sink>(errors: &mut E, usage: &Usage)
     ensures { IsReported (E.past errors.old) (E.past errors.new) (usage_text usage.now) }
 {
     match usage {
-        Usage::Words(text) => send(errors, text.as_bytes()),
+        Usage::Words(text) => send_text(errors, text.as_bytes()),
         _ => send_line(errors, usage.words().as_bytes()),
     }
 }
@@ -93,16 +97,20 @@ fn put_error<E: Sink>(output: &mut Output<E>, fault: &ToolFault)
             fault.kind.message().put(output);
         }
         ToolFault::Map(fault) => fault.message().put(output),
+        ToolFault::HasBad => output.put(HAS_BAD.as_bytes()),
         ToolFault::Sim(fault) => fault.message().put(output),
+        ToolFault::NoBad(number) => AskedFault::NoBad(*number).message().put(output),
         ToolFault::Unroll(fault) => fault.message().put(output),
+        ToolFault::Clauses(fault) => fault.message().put(output),
+        ToolFault::Answer(fault) => fault.message().put(output),
         ToolFault::Source => output.put(CANNOT_READ.as_bytes()),
         ToolFault::Sink => output.put(CANNOT_WRITE.as_bytes()),
         ToolFault::OutOfMemory => output.put(OUT_OF_MEMORY.as_bytes()),
     }
 }
 
-/// The name of the file or stream that is at fault where there is one source and one destination, unless memory ran
-/// out.
+/// The name of the file or stream that is at fault where there is one source and one destination,
+/// unless memory ran out.
 fn name_at_fault<'a, T: Engine>(request: &'a T, fault: &ToolFault) -> &'a str
     ensures { result.now ≡ name_between (T.source_name request.now) (T.destination_name request.now)
         (at_fault fault.now) }
@@ -145,6 +153,15 @@ fn report_naming<E: Sink>(errors: &mut E, name: &str, fault: &ToolFault)
     let (_sent, _errors) = output.finish();
 }
 
+/// Reports an error of a source of this name.
+pub fn report_source_error<E: Sink>(errors: &mut E, name: &Option<String>, fault: &ToolFault)
+    requires { CanFail (E.past errors.old) }
+    ensures { IsReported (E.past errors.old) (E.past errors.new)
+        (line_naming (shown (name_of name.now)) fault.now) }
+{
+    report_naming(errors, name_or_dash(name), fault);
+}
+
 /// Reports an error where there is one source and one destination.
 pub fn report_error<T: Engine, E: Sink>(errors: &mut E, request: &T, fault: &ToolFault)
     requires { CanFail (E.past errors.old) }
@@ -157,7 +174,8 @@ pub fn report_error<T: Engine, E: Sink>(errors: &mut E, request: &T, fault: &Too
 /// Reports the error of a simulation.
 pub fn report_simulation_error<E: Sink>(errors: &mut E, request: &Sim, fault: &ToolFault)
     requires { CanFail (E.past errors.old) }
-    ensures { IsReported (E.past errors.old) (E.past errors.new) (simulation_error_line request.now fault.now) }
+    ensures { IsReported (E.past errors.old) (E.past errors.new)
+        (simulation_error_line request.now fault.now) }
 {
     report_naming(errors, simulation_name_at_fault(request, fault), fault);
 }

@@ -25,11 +25,13 @@ fn answer_line(verdict: Verdict) -> Message
     }
 }
 
-/// Sends the line of a verdict. It fails only where the sink fails, which then took a beginning of the line.
+/// Sends the line of a verdict. It fails only where the sink fails, which then took a beginning of
+/// the line.
 fn send_answer<W: Sink>(verdict: Verdict, sink: &mut W) -> Result<(), WriteFault>
     requires { CanFail (W.past sink.old) }
     ensures ok { OnOk result (W.past sink.new ≡ took (answer_line verdict) (W.past sink.old)) }
-    ensures err { OnErr result (TookBeginning (answer_line verdict) (W.past sink.old) (W.past sink.new)) }
+    ensures err { OnErr result (TookBeginning (answer_line verdict)
+        (W.past sink.old) (W.past sink.new)) }
 {
     let mut output = Output::new(sink);
     answer_line(verdict).put(&mut output);
@@ -37,9 +39,9 @@ fn send_answer<W: Sink>(verdict: Verdict, sink: &mut W) -> Result<(), WriteFault
     Ok(sent?)
 }
 
-/// Judges a witness file for a circuit, and writes the verdict in a line. Nothing is sent before all of the file was
-/// judged. It fails if a device or an allocation fails, or at the first wrong line. Only an output that fails may have
-/// taken a beginning of the line.
+/// Judges a witness file for a circuit, and writes the verdict in a line. Nothing is sent before
+/// all of the file was judged. It fails if a device or an allocation fails, or at the first wrong
+/// line. Only an output that fails may have taken a beginning of the line.
 pub fn judge<R: Source, W: Sink>(
     alloc: Global,
     found: Checked,
@@ -52,16 +54,17 @@ pub fn judge<R: Source, W: Sink>(
         (R.past witness.old) (R.past witness.new) (W.past output.old) (W.past output.new) }
 {
     let judged = confirm(alloc, &found, witness);
-    drop(found);
+    drop(found); // for the proof
     let verdict = judged?;
     send_answer(verdict, output)?;
     Ok(verdict)
 }
 
-/// Reads the model to its end, then judges the witness file, and writes the verdict in a line. Nothing is fetched of
-/// the witness file before the whole model was read and found right, and nothing is sent before all of the witness file
-/// was judged. It fails if a device or an allocation fails, if the model is no file of a circuit, or at the first wrong
-/// line of the witness file. Only an output that fails may have taken a beginning of the line.
+/// Reads the model to its end, then judges the witness file, and writes the verdict in a line.
+/// Nothing is fetched of the witness file before the whole model was read and found right, and
+/// nothing is sent before all of the witness file was judged. It fails if a device or an allocation
+/// fails, if the model is no file of a circuit, or at the first wrong line of the witness file.
+/// Only an output that fails may have taken a beginning of the line.
 pub fn run_witness<M: Source, R: Source, W: Sink>(
     alloc: Global,
     request: &Sim,
@@ -74,7 +77,8 @@ pub fn run_witness<M: Source, R: Source, W: Sink>(
     requires output { CanFail (W.past output.old) }
     requires asked { request.now.witness ≡ true }
     requires alone { IsWitnessAlone request.now }
-    ensures ran { RanFor request.now (λ found. AnswerSays found result) result (M.past model.old) (M.past model.new)
+    ensures ran { RanFor request.now (λ found. AnswerSays found result) result
+        (M.past model.old) (M.past model.new)
         (R.past witness.old) (R.past witness.new) (W.past output.old) (W.past output.new) }
 {
     let found = read_circuit(alloc, model, request.max_var, Keep::Order)?;

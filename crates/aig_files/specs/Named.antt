@@ -92,8 +92,8 @@ is_failed stages.Ended = false
 is_failed stages.Failed = true
 
 -- what a device counted at this stage; once its file is open, it gave or took bytes
-abbrev pub IsCounted : Stage → List ℕ → ℕ → ℕ → Type 0
-IsCounted stage bytes ends failures = (is_ended stage ≡ not (ends == 0)) × (is_failed stage ≡ not (failures == 0))
+abbrev pub HasCounted : Stage → List ℕ → ℕ → ℕ → Type 0
+HasCounted stage bytes ends failures = (is_ended stage ≡ not (ends == 0)) × (is_failed stage ≡ not (failures == 0))
     × (is_open stage ≡ true → 0 < length bytes)
 
 -- the stage after a call that answered so, and the bytes that it moved

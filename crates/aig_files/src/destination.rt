@@ -21,14 +21,14 @@ pub struct NamedSink<'a, A: FileAccess> {
 impl<'a, A: FileAccess> Model for NamedSink<'a, A> {
     ghost use Rattle.std.specs.Prelude.{true};
     ghost use Rattle.aig_io.specs.Devices.{Past};
-    ghost use Rattle.aig_files.specs.Named.{bytes_at, IsAt, IsCounted, past_at};
+    ghost use Rattle.aig_files.specs.Named.{bytes_at, IsAt, HasCounted, past_at};
 
     ghost Value = { Past };
 
     ghost view = { λ s. past_at s.access.ghost_name s.name.now s.stage (A.files s.access.now) 0 s.failures };
 
     ghost invariant = { λ s. IsAt true s.name.now s.stage (A.files s.access.now)
-        × IsCounted s.stage (bytes_at s.stage (A.files s.access.now)) 0 s.failures };
+        × HasCounted s.stage (bytes_at s.stage (A.files s.access.now)) 0 s.failures };
 }
 
 impl<'a, A: FileAccess> NamedSink<'a, A> {

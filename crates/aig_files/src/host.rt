@@ -77,7 +77,7 @@ fn write<F: Write>(file: &mut Option<F>, bytes: &[u8]) -> usize
 
 /// Waits until the system keeps what was written. Closing a file of std loses its error, and this reports it. A pipe or
 /// a device keeps nothing, and would refuse this.
-fn keep<F: OpenFile>(file: &Option<F>) -> io::Result<()> {
+fn sync<F: OpenFile>(file: &Option<F>) -> io::Result<()> {
     match file {
         Some(file) if file.metadata()?.is_file() => file.sync_data(),
         _ => Ok(()),
@@ -145,7 +145,7 @@ impl<T: Files> FileAccess for HostFiles<'_, T> {
     }
 
     fn close(&mut self) -> Result<(), DeviceFault> {
-        let kept = keep(&self.file);
+        let kept = sync(&self.file);
         self.file = None;
         if kept.is_err() {
             self.log.note(&[NOT_CLOSED], &[]);

@@ -24,7 +24,7 @@ impl<'a, A: FileAccess> Model for NamedSource<'a, A> {
     ghost use Rattle.std.specs.Prelude.{◌≡◌, ◌+◌, ◌^◌, false, length};
     ghost use Rattle.aig_io.specs.Devices.{Past};
     ghost use Rattle.aig_io.specs.Notes.{sum_of};
-    ghost use Rattle.aig_files.specs.Named.{bytes_at, IsAt, IsCounted, past_at};
+    ghost use Rattle.aig_files.specs.Named.{bytes_at, IsAt, HasCounted, past_at};
 
     ghost Value = { Past };
 
@@ -32,7 +32,7 @@ impl<'a, A: FileAccess> Model for NamedSource<'a, A> {
         past_at s.access.ghost_name s.name.now s.stage (A.files s.access.now) (sum_of s.ends.notes) s.failures };
 
     ghost invariant = { λ s. IsAt false s.name.now s.stage (A.files s.access.now)
-        × IsCounted s.stage (bytes_at s.stage (A.files s.access.now)) (sum_of s.ends.notes) s.failures
+        × HasCounted s.stage (bytes_at s.stage (A.files s.access.now)) (sum_of s.ends.notes) s.failures
         × (s.left + length (bytes_at s.stage (A.files s.access.now)) ≡ 2 ^ 62) };
 }
 

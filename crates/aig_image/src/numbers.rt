@@ -7,7 +7,7 @@ ghost use Rattle.aig_circuit.specs.Literal.{variable_of};
 ghost use Rattle.aig_tables.specs.VarMap.{with_new};
 ghost use Rattle.aig_circuit.specs.declared.circuit.Gate.{Gate as GateRecord};
 ghost use Rattle.aig_image.specs.Parts.Numbers.{number_of, first_variables};
-ghost use Rattle.aig_image.specs.Parts.Numbers.{variables_with, AreNumbered};
+ghost use Rattle.aig_image.specs.Parts.Numbers.{variables_with, HaveNumbers};
 ghost use Rattle.aig_image.specs.Relabelled.{FitIntoLiterals};
 ghost use Rattle.aig_image.specs.Parts.InOrder.{StandInOrder};
 
@@ -125,8 +125,8 @@ impl Numbers {
         requires { self.old.noted + length items.now ≤ LARGEST }
         ensures count { OnOk result (self.new.noted ≡ self.old.noted + length items.now) }
         ensures numbers { OnOk result ((variables : List ℕ)
-            → AreNumbered self.old variables
-            → AreNumbered self.new (variables ++ map T.variable items.now)) }
+            → HaveNumbers self.old variables
+            → HaveNumbers self.new (variables ++ map T.variable items.now)) }
     {
         for item in items {
             self.note(item.variable())?;
@@ -147,8 +147,8 @@ impl Numbers {
     fn note_in_order(&mut self, gates: &[Gate]) -> Result<bool, AllocError>
         requires { self.old.noted + length gates.now ≤ LARGEST }
         ensures { IfOk result (λ all. IsTrue all → (variables : List ℕ)
-            → AreNumbered self.old variables
-            → AreNumbered self.new (variables ++ map (λ (g : GateRecord). g.var) gates.now)
+            → HaveNumbers self.old variables
+            → HaveNumbers self.new (variables ++ map (λ (g : GateRecord). g.var) gates.now)
             × StandInOrder variables gates.now) }
     {
         for gate in gates {
@@ -168,7 +168,7 @@ impl Numbers {
         requires { length circuit.now.inputs + length circuit.now.latches ≤ LARGEST }
         ensures count { IfOk result (λ n. n.noted
             ≡ length circuit.now.inputs + length circuit.now.latches) }
-        ensures numbers { IfOk result (λ n. AreNumbered n (first_variables circuit.now)) }
+        ensures numbers { IfOk result (λ n. HaveNumbers n (first_variables circuit.now)) }
     {
         let mut numbers = Numbers {
             noted: 0,
@@ -182,7 +182,7 @@ impl Numbers {
     pub(crate) fn new(alloc: Global, circuit: &Circuit, taken: &[Gate]) -> Result<Self, AllocError>
         requires { length circuit.now.inputs + length circuit.now.latches
             + length taken.now ≤ LARGEST }
-        ensures numbers { IfOk result (λ n. AreNumbered n (variables_with circuit.now taken.now)) }
+        ensures numbers { IfOk result (λ n. HaveNumbers n (variables_with circuit.now taken.now)) }
         ensures small { IfOk result (λ n. FitIntoLiterals (number_of n)) }
     {
         let mut numbers = Numbers::of_first(alloc, circuit)?;
@@ -195,7 +195,7 @@ impl Numbers {
     pub(crate) fn of_ordered(alloc: Global, circuit: &Circuit) -> Result<Option<Self>, AllocError>
         requires { length circuit.now.inputs + length circuit.now.latches
             + length circuit.now.gates ≤ LARGEST }
-        ensures numbers { IfOk result (λ some. IfSome some (λ n. AreNumbered n
+        ensures numbers { IfOk result (λ some. IfSome some (λ n. HaveNumbers n
             (first_variables circuit.now ++ map (λ (g : GateRecord). g.var) circuit.now.gates))) }
         ensures small { IfOk result (λ some. IfSome some (λ n. FitIntoLiterals (number_of n))) }
         ensures in_order { IfOk result (λ some. IfSome some (λ _.

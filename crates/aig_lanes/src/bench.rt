@@ -3,15 +3,13 @@ ghost use Rattle.std.specs.Prelude.{◌≡◌, ◌+◌, ◌*◌, ◌<◌, ◌≤
 ghost use Rattle.std.specs.Prelude.{IfOk, IsTrue, length, slice_index_or};
 ghost use Rattle.std.specs.List.{All};
 ghost use Rattle.aig_lanes.specs.declared.run.Run.{Run as RunRecord};
-ghost use Rattle.aig_lanes.specs.Parts.InputBits.{AreBlocks, HoldsLane, one_step};
-ghost use Rattle.aig_lanes.specs.Parts.Groups.{IsTable, IsWhole};
-ghost use Rattle.aig_lanes.specs.Parts.LaneTexts.{HoldsRun, KeepsRun, LaneStands};
-ghost use Rattle.aig_lanes.specs.Parts.LaneTexts.{ShowsRows, shown_size};
+ghost use Rattle.aig_lanes.specs.Parts.InputBits.{one_step};
+ghost use Rattle.aig_lanes.specs.Parts.Groups.{IsWhole};
+ghost use Rattle.aig_lanes.specs.Parts.LaneTexts.{AreTables, HasLane, KeepsRun, LaneStands};
+ghost use Rattle.aig_lanes.specs.Parts.LaneTexts.{shown_size};
 ghost use Rattle.aig_lanes.specs.Parts.Sheets.{SameRoom};
 ghost use Rattle.aig_lanes.specs.Runs.{IsRunOf};
 ghost use Rattle.aig_step.specs.Parts.Lines.{line_size};
-ghost use Rattle.aig_lanes.specs.Parts.Benches.{Fits, HasRoomFor, HasRoomForSteps};
-ghost use Rattle.aig_lanes.specs.Parts.Benches.{HasSameRoom, IsBench};
 
 use crate::input_bits::{BlockBits, fill_across, fill_bits, new_bits};
 use crate::input_planes::put_vectors;
@@ -20,31 +18,10 @@ use crate::lanes::assign_lanes;
 use crate::planes::Plane;
 use crate::sheets::Sheet;
 use crate::tables::new_table;
-use crate::vectors::{RunGroup, Vectors, longest};
+use crate::vectors::{RunGroup, Vectors, longest_run};
 use aig_circuit::OutOfMemory;
 use aig_step::{Columns, Machine};
 use std::alloc::Global;
-
-/// Before the first step of a group: the state is that by the resets.
-fn begin_steps(
-    machine: &Machine,
-    shown: &LaneColumns,
-    is_whole: bool,
-    table: &mut [Plane],
-    state: &mut [Plane],
-    sheet: &mut Sheet,
-)
-    requires whole { IsTrue is_whole → IsWhole table.old }
-    requires table { length table.old ≡ 2 * (1 + machine.now.max_var) }
-    requires state { length state.old ≡ 2 * length machine.now.latches }
-    requires shows { ShowsRows machine.now shown.now }
-    ensures stands { (j : ℕ) (run : RunRecord) → j < 256 → HoldsRun j run shown.now sheet.old
-        → LaneStands machine.now run 0 j table.new state.new shown.now sheet.new }
-    ensures same { SameRoom sheet.old sheet.new }
-{
-    let _parts = machine.parts(); // for the proof
-    shown.begin(is_whole, table, state, sheet);
-}
 
 /// A step of each run that has it. What it shows is kept, and the state behind it.
 fn take_step(
@@ -56,15 +33,12 @@ fn take_step(
     state: &mut [Plane],
     sheet: &mut Sheet,
 )
-    requires blocks { AreBlocks (length machine.now.inputs) (length bits.now) }
-    requires table { length table.old ≡ 2 * (1 + machine.now.max_var) }
-    requires state { length state.old ≡ 2 * length machine.now.latches }
-    requires shows { ShowsRows machine.now shown.now }
+    requires tables { AreTables machine.now shown.now
+        (length bits.now) (length table.old) (length state.old) }
     requires fits { (step + 1) * shown_size shown.now < 2 ^ 64 }
     ensures same { SameRoom sheet.old sheet.new }
-    ensures stands { (j : ℕ) (run : RunRecord) → j < 256 → IsRunOf machine.now run
-        → HoldsLane j run bits.now
-        → HoldsRun j run shown.now sheet.old
+    ensures stands { (j : ℕ) (run : RunRecord)
+        → HasLane machine.now bits.now shown.now sheet.old j run
         → LaneStands machine.now run step j table.old state.old shown.now sheet.old
         → LaneStands machine.now run (step + 1) j table.new state.new shown.now sheet.new }
 {
@@ -83,15 +57,12 @@ fn take_steps(
     state: &mut [Plane],
     sheet: &mut Sheet,
 )
-    requires blocks { AreBlocks (length machine.now.inputs) (length bits.now) }
-    requires table { length table.old ≡ 2 * (1 + machine.now.max_var) }
-    requires state { length state.old ≡ 2 * length machine.now.latches }
-    requires shows { ShowsRows machine.now shown.now }
+    requires tables { AreTables machine.now shown.now
+        (length bits.now) (length table.old) (length state.old) }
     requires fits { steps * shown_size shown.now < 2 ^ 64 }
     ensures same { SameRoom sheet.old sheet.new }
-    ensures stands { (j : ℕ) (run : RunRecord) → j < 256 → IsRunOf machine.now run
-        → HoldsLane j run bits.now
-        → HoldsRun j run shown.now sheet.old
+    ensures stands { (j : ℕ) (run : RunRecord)
+        → HasLane machine.now bits.now shown.now sheet.old j run
         → LaneStands machine.now run 0 j table.old state.old shown.now sheet.old
         → LaneStands machine.now run steps j table.new state.new shown.now sheet.new }
 {
@@ -106,7 +77,7 @@ fn longest_of(groups: &[RunGroup]) -> usize
 {
     let mut most = 0;
     for group in groups {
-        let steps = longest(group.as_slice());
+        let steps = longest_run(group.as_slice());
         if steps > most {
             most = steps;
         }
@@ -146,9 +117,13 @@ pub struct Bench {
     pub sheet: Sheet,
     /// As long as a line may be.
     pub line: Vec<u8>,
+    ghost whole: { IsTrue is_whole → IsWhole table.items },
 }
 
 impl Bench {
+    ghost use Rattle.aig_lanes.specs.Parts.Benches.{EndsIn, HasRoomFor, HasRoomForSteps};
+    ghost use Rattle.aig_lanes.specs.Parts.Benches.{HasSameRoom, HeldIn, IsBench};
+
     /// Room for these groups, where the line of a step may be so long.
     pub fn new(
         alloc: Global,
@@ -161,8 +136,7 @@ impl Bench {
         requires lanes { All (λ (runs : List RunRecord). length runs ≤ 256) groups.now }
         ensures is { IfOk result (λ bench. IsBench machine.now bench) }
         ensures asks { IfOk result (λ bench. bench.shown.columns ≡ columns) }
-        ensures fits { IfOk result (λ _. All (All (Fits machine.now)) groups.now) }
-        ensures room { IfOk result (λ bench. All (HasRoomFor bench) groups.now) }
+        ensures room { IfOk result (λ bench. All (HasRoomFor machine.now bench) groups.now) }
     {
         if !can_count(groups, line_room) {
             return Err(OutOfMemory);
@@ -193,9 +167,8 @@ impl Bench {
         line_room: usize,
     ) -> Result<Self, OutOfMemory>
         requires { line_room ≡ line_size machine.now }
-        ensures is { IfOk result (λ bench. IsBench machine.now bench) }
         ensures asks { IfOk result (λ bench. bench.shown.columns ≡ columns) }
-        ensures room { IfOk result (λ bench. HasRoomForSteps bench) }
+        ensures room { IfOk result (λ bench. HasRoomForSteps machine.now bench) }
     {
         let groups = [one_step_each(alloc)?];
         Bench::new(alloc, machine, columns, line_room, &groups)
@@ -205,17 +178,13 @@ impl Bench {
     fn step_lanes(&mut self, machine: &Machine, steps: usize)
         requires is { IsBench machine.now self.old }
         requires fits { steps * shown_size self.old.shown < 2 ^ 64 }
-        ensures is { IsBench machine.now self.new }
         ensures same { HasSameRoom self.old self.new }
-        ensures lanes { (j : ℕ) (run : RunRecord) → j < 256 → IsRunOf machine.now run
-            → HoldsLane j run self.old.bits.items → HoldsRun j run self.old.shown self.old.sheet
-            → (length run.steps ≤ steps → KeepsRun machine.now run j self.new.shown self.new.sheet)
-            × (steps ≤ length run.steps
-            → IsTable j (1 + machine.now.max_var) self.new.table.items) }
+        ensures ends { (j : ℕ) (run : RunRecord) → HeldIn machine.now self.old j run
+            → EndsIn machine.now steps self.new j run }
     {
-        begin_steps(
-            machine,
-            &self.shown,
+        let _parts = machine.parts(); // for the proof
+        let shown = &self.shown;
+        shown.put_resets(
             self.is_whole,
             &mut self.table,
             &mut self.state,
@@ -224,7 +193,7 @@ impl Bench {
         self.is_whole = false;
         take_steps(
             machine,
-            &self.shown,
+            shown,
             steps,
             &self.bits,
             &mut self.table,
@@ -235,27 +204,21 @@ impl Bench {
 
     /// Steps the runs of a group.
     pub fn step(&mut self, machine: &Machine, runs: &[Vectors])
-        requires lanes { length runs.now ≤ 256 }
         requires runs { All (IsRunOf machine.now) runs.now }
-        requires fits { All (Fits machine.now) runs.now }
-        requires is { IsBench machine.now self.old }
-        requires room { HasRoomFor self.old runs.now }
-        ensures is { IsBench machine.now self.new }
+        requires room { HasRoomFor machine.now self.old runs.now }
         ensures same { HasSameRoom self.old self.new }
         ensures keeps { (j : ℕ) (d : RunRecord) → j < length runs.now
             → KeepsRun machine.now (slice_index_or runs.now j d) j self.new.shown self.new.sheet }
     {
         fill_bits(&mut self.bits, runs, machine.parts().inputs.len());
-        self.step_lanes(machine, longest(runs));
+        self.step_lanes(machine, longest_run(runs));
     }
 
     /// Takes a step from the reset state in a lane for each of these vectors of inputs.
     pub fn step_across(&mut self, machine: &Machine, vectors: &Vectors)
         requires lanes { length vectors.now.steps ≤ 256 }
         requires inputs { IsRunOf machine.now vectors.now }
-        requires is { IsBench machine.now self.old }
-        requires room { HasRoomForSteps self.old }
-        ensures is { IsBench machine.now self.new }
+        requires room { HasRoomForSteps machine.now self.old }
         ensures same { HasSameRoom self.old self.new }
         ensures keeps { (j : ℕ) → j < length vectors.now.steps
             → KeepsRun machine.now (one_step (slice_index_or vectors.now.steps j [])) j

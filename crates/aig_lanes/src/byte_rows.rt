@@ -28,7 +28,7 @@ impl Model for ByteRows {
 
 /// The character of a lane by the bytes of a literal. The lane has this bit.
 #[inline(always)]
-fn character(ones: u8, zeros: u8, bit: u8) -> u8
+fn lane_character(ones: u8, zeros: u8, bit: u8) -> u8
     ensures { (place : ℕ) → bit ≡ 2 ^ place
         → result ≡ character_by (bit_at ones place) (bit_at zeros place) }
 {
@@ -51,7 +51,7 @@ fn write_bits(line: &mut [u8], at: usize, ones: &[u8], zeros: &[u8], place: usiz
 {
     let bit = 1u8 << place;
     for i in 0..ones.len() {
-        line[at + i] = character(ones[i], zeros[i], bit);
+        line[at + i] = lane_character(ones[i], zeros[i], bit);
     }
 }
 
@@ -93,7 +93,7 @@ impl ByteRows {
 
     /// Puts the bytes of literals, from a place on, as far as there are places.
     #[inline(always)]
-    #[tactic(auto, using(crate::proofs::Side::Eights::text_size, crate::proofs::Side::Sheets::rows_with, std::proofs::lemmas::List::with_items_is, crate::proofs::Side::Eights::overwritten_size, crate::proofs::Side::Eights::texts_overwritten))]
+    #[tactic(auto, using(crate::proofs::Side::Eights::put_rows))]
     pub(crate) fn put(&mut self, at: usize, ones: &[u8], zeros: &[u8])
         requires { length ones.now ≡ length zeros.now }
         ensures { (place : ℕ) → bytes_text place self.new
@@ -110,7 +110,7 @@ impl ByteRows {
     }
 
     #[inline(always)]
-    #[tactic(auto, using(crate::proofs::Side::Sheets::text_long, crate::proofs::Side::Sheets::rows_with, crate::proofs::Side::Sheets::zip_take, crate::proofs::Side::Sheets::zip_drop))]
+    #[tactic(auto, using(crate::proofs::Side::Sheets::written_rows))]
     pub(crate) fn write(&self, line: &mut [u8], at: usize, from: usize, count: usize, place: usize)
         requires lane { place < 8 }
         requires has { from + count ≤ length (bytes_text place self.now) }

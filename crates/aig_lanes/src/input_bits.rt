@@ -5,7 +5,7 @@ ghost use Rattle.std.specs.Prelude.{length, slice_index_or, slice_set};
 ghost use Rattle.std.specs.List.{All};
 ghost use Rattle.aig_circuit.specs.declared.value.Val.{Val as Value};
 ghost use Rattle.aig_lanes.specs.declared.run.Run.{Run as RunRecord};
-ghost use Rattle.aig_lanes.specs.Parts.InputBits.{AreBlocks, HasRoom, HasStep};
+ghost use Rattle.aig_lanes.specs.Parts.InputBits.{AreBlocks, HasLaneRoom, HasStep};
 ghost use Rattle.aig_lanes.specs.Parts.InputBits.{HoldsBlock, HoldsBlocks, HoldsInputs};
 ghost use Rattle.aig_lanes.specs.Parts.InputBits.{HoldsLane, IsWord, SameRooms, TellsOther};
 ghost use Rattle.aig_lanes.specs.Parts.InputBits.{one_step, step_of, word_at};
@@ -102,7 +102,7 @@ impl LaneBits {
         fill_words(&mut self.words, run, first);
     }
 
-    fn put_first(&mut self, word: InputWord)
+    fn put_first_word(&mut self, word: InputWord)
         requires { 0 < length self.old }
         ensures { self.new ≡ slice_set self.old 0 word }
     {
@@ -115,7 +115,7 @@ fn fill_lanes(lanes: &mut [LaneBits], runs: &[Vectors], first: usize)
     requires lanes { length runs.now ≤ 256 × length lanes.old ≡ 256 }
     requires inputs { All (λ (run : RunRecord).
         All (λ (vector : List Value). first ≤ length vector) run.steps) runs.now }
-    requires room { HasRoom runs.now lanes.old }
+    requires room { HasLaneRoom runs.now lanes.old }
     ensures holds { HoldsBlock first runs.now lanes.new }
     ensures count { length lanes.new ≡ length lanes.old }
     ensures sizes { (l : ℕ) → length (slice_index_or lanes.new l [])
@@ -140,7 +140,7 @@ fn fill_firsts(lanes: &mut [LaneBits], run: &Vectors, first: usize)
 {
     let last = run.len() - 1;
     for lane in 0..lanes.len() {
-        lanes[lane].put_first(word_of(run.text(lane.min(last)), first));
+        lanes[lane].put_first_word(word_of(run.text(lane.min(last)), first));
     }
 }
 
@@ -164,7 +164,7 @@ impl Model for BlockBits {
 fn new_lanes(alloc: Global, groups: &[RunGroup]) -> Result<Vec<LaneBits>, OutOfMemory>
     ensures count { IfOk result (λ lanes. length lanes.items ≡ 256) }
     ensures room { IfOk result (λ lanes.
-        All (λ (runs : List RunRecord). HasRoom runs lanes.items) groups.now) }
+        All (λ (runs : List RunRecord). HasLaneRoom runs lanes.items) groups.now) }
 {
     let mut lanes = Vec::with_capacity(alloc, 256)?;
     for lane in 0..256usize {
@@ -179,7 +179,7 @@ fn new_lanes(alloc: Global, groups: &[RunGroup]) -> Result<Vec<LaneBits>, OutOfM
 impl BlockBits {
     fn new(alloc: Global, groups: &[RunGroup]) -> Result<Self, OutOfMemory>
         ensures { IfOk result (λ bits. All
-            (λ (runs : List RunRecord). HasRoom runs bits) groups.now) }
+            (λ (runs : List RunRecord). HasLaneRoom runs bits) groups.now) }
     {
         Ok(BlockBits {
             lanes: new_lanes(alloc, groups)?,
@@ -190,7 +190,7 @@ impl BlockBits {
         requires lanes { length runs.now ≤ 256 }
         requires inputs { All (λ (run : RunRecord).
             All (λ (vector : List Value). first ≤ length vector) run.steps) runs.now }
-        requires room { HasRoom runs.now self.old }
+        requires room { HasLaneRoom runs.now self.old }
         ensures holds { HoldsBlock first runs.now self.new }
         ensures sizes { (l : ℕ) → length (slice_index_or self.new l [])
             ≡ length (slice_index_or self.old l []) }
@@ -232,7 +232,7 @@ pub fn new_bits(
 ) -> Result<Vec<BlockBits>, OutOfMemory>
     ensures count { IfOk result (λ bits. AreBlocks inputs (length bits.items)) }
     ensures room { IfOk result (λ bits. All
-        (λ (runs : List RunRecord). All (HasRoom runs) bits.items) groups.now) }
+        (λ (runs : List RunRecord). All (HasLaneRoom runs) bits.items) groups.now) }
 {
     let blocks = inputs.div_ceil(64);
     let mut bits = Vec::with_capacity(alloc, blocks)?;
@@ -248,7 +248,7 @@ pub fn fill_bits(bits: &mut [BlockBits], runs: &[Vectors], inputs: usize)
     requires inputs { All (λ (run : RunRecord).
         All (λ (vector : List Value). length vector ≡ inputs) run.steps) runs.now }
     requires blocks { AreBlocks inputs (length bits.old) }
-    requires room { All (HasRoom runs.now) bits.old }
+    requires room { All (HasLaneRoom runs.now) bits.old }
     ensures holds { HoldsBlocks runs.now bits.new }
     ensures same { SameRooms bits.old bits.new }
 {

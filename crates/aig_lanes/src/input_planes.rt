@@ -14,7 +14,7 @@ ghost use Rattle.aig_step.specs.Parts.Tables.{placed};
 ghost use Rattle.aig_step.specs.TraceText.{values_text};
 
 use crate::input_bits::BlockBits;
-use crate::lanes::{put_all, put_pair};
+use crate::lanes::{put_in_all_lanes, put_pair};
 use crate::planes::Plane;
 use aig_circuit::Val;
 use std::simd::Simd;
@@ -45,7 +45,7 @@ fn rows_at(bits: &BlockBits, step: usize, lane: usize) -> ([u64; 8], [u64; 8])
 
 /// Eight rows of eight bytes by columns: the first byte of each row, then the second, and so on.
 #[inline(always)]
-fn columns_of(rows: &[u64; 8]) -> [u8; 64]
+fn bytes_by_columns(rows: &[u64; 8]) -> [u8; 64]
     requires { All (λ (row : ℕ). row < 2 ^ 64) rows.now }
     ensures { (r k : ℕ) → r < 8 → k < 8
         → slice_index_or result (8 * k + r) 0 ≡ slice_index_or rows.now r 0 / 256 ^ k % 256 }
@@ -69,7 +69,7 @@ fn put_square(rows: &[u64; 8], eights: &mut [Eight], lane: usize)
     ensures lanes { (k l : ℕ) → l < lane → byte_in k l eights.new ≡ byte_in k l eights.old }
     ensures size { length eights.new ≡ 8 }
 {
-    let columns = columns_of(rows);
+    let columns = bytes_by_columns(rows);
     for k in 0..8 {
         eights[k][lane..lane + 8].copy_from_slice(&columns[8 * k..8 * k + 8]);
     }
@@ -157,7 +157,7 @@ pub fn put_vectors(bits: &[BlockBits], inputs: usize, step: usize, planes: &mut 
         → AreWords l step vector bits.now → IsLane l planes.old values
         → IsLane l planes.new (placed 1 vector (slice_set values 0 Zero)) }
 {
-    put_all(planes, 0, Val::Zero);
+    put_in_all_lanes(planes, 0, Val::Zero);
     for block in 0..bits.len() {
         let first = 64 * block;
         let left = inputs - first;

@@ -15,14 +15,14 @@ ghost use Rattle.aig_lanes.specs.Runs.{row_of};
 ghost use Rattle.aig_step.specs.Parts.Tables.{IsLiteralBelow, read_from};
 ghost use Rattle.aig_step.specs.TraceText.{values_text};
 
-use crate::lanes::{planes_of, put_literals};
+use crate::lanes::{planes_of, put_literal_planes};
 use crate::planes::{Plane, plane_of};
 use crate::run::FullRow;
 use crate::sheets::Sheet;
 use crate::tables::{begin_table, fill_table};
 use crate::vectors::RunGroup;
 use aig_circuit::{Circuit, Latch, Listing, Lit, OutOfMemory, Reset, Val};
-use aig_step::{Columns, write_text};
+use aig_step::{Columns, write_text_column};
 use std::alloc::{AllocError, Global};
 
 /// What steps show. In the lanes of a sheet it stands step behind step: the state, the outputs, and
@@ -170,7 +170,13 @@ impl LaneColumns {
     /// Before the first step the state by the resets is put. In a table that has values in each
     /// lane, the variables but the constant and the first keep them: those of inputs, latches and
     /// gates are put at each step.
-    pub fn begin(&self, is_whole: bool, table: &mut [Plane], state: &mut [Plane], sheet: &mut Sheet)
+    pub fn put_resets(
+        &self,
+        is_whole: bool,
+        table: &mut [Plane],
+        state: &mut [Plane],
+        sheet: &mut Sheet,
+    )
         requires whole { IsTrue is_whole → IsWhole table.old }
         requires constant { 2 ≤ length table.old }
         requires state { length state.old ≡ 2 * length self.now.resets.items }
@@ -188,7 +194,7 @@ impl LaneColumns {
         begin_table(table, is_whole);
         show_literals(&self.resets, table, sheet, 0);
         fill_table(state);
-        put_literals(&self.resets, table, state);
+        put_literal_planes(&self.resets, table, state);
     }
 
     /// Puts what a step shows beside its state, and the state behind it.
@@ -216,7 +222,7 @@ impl LaneColumns {
         let (_, next) = self
             .literals
             .split_at(self.literals.len() - self.resets.len());
-        put_literals(next, table, state);
+        put_literal_planes(next, table, state);
     }
 
     /// Writes the columns of bad states and constraints of a step in a lane, where they are asked
@@ -274,7 +280,7 @@ impl LaneColumns {
         let next = (step + 1) * self.literals.len();
         let behind = from + latches;
         let end = sheet.write(line, at, from, latches, lane);
-        let end = write_text(line, end, given);
+        let end = write_text_column(line, end, given);
         let end = sheet.write_column(line, end, behind, self.outputs, lane);
         let end = sheet.write_column(line, end, next, latches, lane);
         let end = self.write_properties(sheet, line, end, behind + self.outputs, lane);

@@ -49,7 +49,7 @@ pub(crate) fn put_pair(planes: &mut [Plane], variable: usize, one: Plane, zero: 
     planes[2 * variable + 1] = zero;
 }
 
-pub(crate) fn put_all(planes: &mut [Plane], variable: usize, value: Val)
+pub(crate) fn put_in_all_lanes(planes: &mut [Plane], variable: usize, value: Val)
     requires { 2 * variable + 1 < length planes.old }
     ensures { (l : ℕ) (values : List Value) → l < 256 → IsLane l planes.old values
         → IsLane l planes.new (slice_set values variable value) }
@@ -70,7 +70,7 @@ pub(crate) fn place_lanes(planes: &mut [Plane], first: usize, given: &[Plane])
     }
 }
 
-pub(crate) fn put_literals(literals: &[Lit], planes: &[Plane], state: &mut [Plane])
+pub(crate) fn put_literal_planes(literals: &[Lit], planes: &[Plane], state: &mut [Plane])
     requires room { length state.old ≡ 2 * length literals.now }
     requires below { All (IsLiteralBelow (length planes.now / 2)) literals.now }
     ensures { (l : ℕ) (values before : List Value) → IsLane l planes.now values

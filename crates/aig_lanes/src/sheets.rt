@@ -72,7 +72,7 @@ fn new_byte_rows(
 
 /// Puts the bytes of eight literals for each eight of lanes, as far as there are places.
 #[inline(always)]
-fn put_bytes(byte_rows: &mut [ByteRows], at: usize, ones: &[u8; 256], zeros: &[u8; 256])
+fn put_lane_bytes(byte_rows: &mut [ByteRows], at: usize, ones: &[u8; 256], zeros: &[u8; 256])
     requires { length byte_rows.old ≡ 32 }
     ensures text { (k j : ℕ) (d : BytesText) → k < 32
         → bytes_text j (slice_index_or byte_rows.new k d)
@@ -152,7 +152,7 @@ impl Sheet {
             → take at (text_in l self.new) ≡ take at (text_in l self.old) }
         ensures long { (l : ℕ) → length (text_in l self.new) ≡ length (text_in l self.old) }
     {
-        put_bytes(
+        put_lane_bytes(
             &mut self.byte_rows,
             at,
             &transpose(planes, 0),

@@ -4,7 +4,7 @@ ghost use Rattle.aig_circuit.specs.declared.value.Val.TheVariants.{X};
 ghost use Rattle.aig_lanes.specs.Parts.Groups.{Begun, IsWhole};
 ghost use Rattle.aig_lanes.specs.Parts.Lanes.{IsLane};
 
-use crate::lanes::put_all;
+use crate::lanes::put_in_all_lanes;
 use crate::planes::{Plane, plane_of};
 use aig_circuit::{OutOfMemory, Val};
 use std::alloc::Global;
@@ -50,8 +50,8 @@ pub(crate) fn begin_table(table: &mut [Plane], is_whole: bool)
         → Begun l variables table.new }
 {
     make_whole(table, is_whole);
-    put_all(table, 0, Val::Zero);
+    put_in_all_lanes(table, 0, Val::Zero);
     if table.len() > 3 {
-        put_all(table, 1, Val::X);
+        put_in_all_lanes(table, 1, Val::X);
     }
 }

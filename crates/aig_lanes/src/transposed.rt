@@ -10,7 +10,7 @@ use crate::planes::Plane;
 use std::simd::prelude::*;
 
 #[inline(always)]
-fn bytes_of(plane: Plane) -> u8x32
+fn plane_bytes(plane: Plane) -> u8x32
     ensures { (octet j : ℕ) → octet < 32 → j < 8
         → bit_at (slice_index_or result octet 0) j ≡ bit_in (8 * octet + j) plane }
 {
@@ -27,7 +27,7 @@ fn rows_of(planes: &[Plane; 16], first: usize) -> [u8x32; 8]
 {
     let mut rows = [u8x32::splat(0); 8];
     for r in 0..8 {
-        rows[r] = bytes_of(planes[2 * r + first]);
+        rows[r] = plane_bytes(planes[2 * r + first]);
     }
     rows
 }

@@ -64,7 +64,7 @@ impl<'a> Vectors<'a> {
 }
 
 /// How many steps the longest run has.
-pub fn longest(runs: &[Vectors]) -> usize
+pub fn longest_run(runs: &[Vectors]) -> usize
     ensures most { (j : ℕ) (d : RunRecord) → j < length runs.now
         → length (slice_index_or runs.now j d).steps ≤ result }
     ensures least { (size bound : ℕ) → 0 < bound

@@ -1,9 +1,10 @@
 -- What came of the bytes of a caller, once a call is over.
-use Rattle.std.proofs.Common.{◌≡◌, ◌⊎◌, ◌∙◌, ℕ, List, None, inl, inr, ap, refl, subst, true}
+use Rattle.std.proofs.Common.{◌≡◌, ◌⊎◌, ◌∙◌, ◌++◌, ℕ, List, None, inl, inr, ap, drop, length, refl, subst, true}
 use Rattle.std.proofs.Common.{Err, IfErr, IfOk, Ok, OnOk, Result}
+use Rattle.std.proofs.lemmas.List.{take-append-drop}
 use Rattle.aig_io.specs.Devices.{Origin, Past, unused}
 use Rattle.aig_io.specs.Lent.{HasGiven, lent}
-use Rattle.aig_io.specs.Runs.{Ran, Read}
+use Rattle.aig_io.specs.Runs.{AtEnd, Broken, Ending, Open, Ran, Read, came}
 use Rattle.aig_circuit.specs.declared.circuit.Circuit.{Circuit}
 use Rattle.aig_step.specs.declared.fault.SimFault.{SimFault}
 use Rattle.aig_step.specs.declared.fault.SimFault.TheVariants as sim_faults
@@ -15,7 +16,7 @@ use Rattle.aig_dump.specs.InMemory.{IsBadStimulus, WantsMemory}
 use Rattle.aig_dump.proofs.Lents as lents
 use Rattle.aig_engines.specs.declared.fault.ToolFault.{ToolFault}
 use Rattle.aig_engines.specs.declared.fault.ToolFault.TheVariants as faults
-use Rattle.aig_engines.specs.Reading.{ReadSays}
+use Rattle.aig_engines.specs.Reading.{IsRefusedAt, ReadSays}
 use Rattle.aig_library.specs.Answers.{Answers}
 use Rattle.aig_library.specs.Outcome.{IsPlaced, fault_outcome, out_of_memory, sim_outcome}
 use Rattle.aig_library.specs.declared.outcome.Outcome.{Outcome}
@@ -29,6 +30,17 @@ module _ (input : List ℕ) (now : Past) (given : HasGiven now) where
       subst (Holds made) (lents.all_read input now given read.bytes (rw read.says.0 at read.came)) read.says.1
   whole Holds IsRefused (Err fault) read = tt
 
+  -- what refuses a beginning, whatever comes behind, refuses all of it
+  refused : (IsRefused : List ℕ → Type 0) (bytes : List ℕ) (ending : Ending)
+      → now ≡ came bytes ending (unused (lent input)) → IsRefusedAt IsRefused bytes ending → IsRefused input
+  refused IsRefused bytes AtEnd is says = subst IsRefused (lents.all_read input now given bytes is) says
+  refused IsRefused bytes Open is says =
+      let front = lents.part_read input now given bytes is in
+      subst IsRefused
+      (ap (λ (bs : List ℕ). bs ++ drop (length bytes) input) front ∙ take-append-drop (length bytes) input)
+      (says (drop (length bytes) input))
+  refused IsRefused bytes Broken is says = absurd says
+
   -- nothing was made of it: it is refused, or memory was
   pub not_read : {A : Type 0} (Holds : A → List ℕ → Type 0) (IsRefused : ToolFault → List ℕ → Type 0)
       (r : Result A ToolFault) → Read (ReadSays Holds IsRefused r) (unused (lent input)) now
@@ -37,6 +49,8 @@ module _ (input : List ℕ) (now : Past) (given : HasGiven now) where
   not_read Holds IsRefused (Err faults.Source) read = inr refl
   not_read Holds IsRefused (Err faults.Sink) read = absurd read.says
   not_read Holds IsRefused (Err faults.OutOfMemory) read = inr refl
+  not_read Holds IsRefused (Err (faults.Answer fault)) read =
+      inl (refused (IsRefused (faults.Answer fault)) read.bytes read.ending read.came read.says)
   not_read Holds IsRefused (Err fault) read =
       let bytes = lents.all_read input now given read.bytes (rw read.says.0 at read.came) in
       inl (subst (IsRefused fault) bytes read.says.1)

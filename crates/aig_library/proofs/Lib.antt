@@ -1,3 +1,4 @@
 pub mod Dumps
 pub mod Lents
 pub mod Messages
+pub mod Witnesses

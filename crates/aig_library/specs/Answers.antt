@@ -2,6 +2,7 @@
 use Rattle.std.specs.Prelude.{◌≡◌, ◌≤◌, ◌⊎◌, ℕ, List}
 use Rattle.aig_circuit.specs.declared.circuit.Circuit.{Circuit}
 use Rattle.aig_command.specs.Aiger.{largest_index}
+use Rattle.aig_command.specs.declared.request.Reach.{Reach}
 use Rattle.aig_command.specs.declared.request.Sim.{Sim}
 use Rattle.aig_step.specs.declared.fault.SimFault.{SimFault}
 use Rattle.aig_witness.specs.declared.verdict.Verdict.{Verdict}
@@ -10,6 +11,7 @@ use Rattle.aig_dump.specs.InMemory.{IsBadStimulus, IsBadWitness}
 use Rattle.aig_engines.specs.declared.fault.ToolFault.{ToolFault}
 use Rattle.aig_engines.specs.declared.fault.ToolFault.TheVariants as faults
 use Rattle.aig_engines.specs.File.{IsFileOf}
+use Rattle.aig_engines.specs.Reaching.{IsModelAsked, IsModelRefused, IsReachRefused, IsReachText}
 use Rattle.aig_engines.specs.Reading.{IsUnreadable}
 use Rattle.aig_engines.specs.WitnessDump.{IsWitnessDumpText}
 use Rattle.aig_engines.specs.WitnessOutcome.{IsWitnessAnswer}
@@ -56,6 +58,18 @@ abbrev pub IsWitnessRefused : Sim → (model witness : List ℕ) → ToolFault �
 IsWitnessRefused request model witness fault =
     IsUnreadable request.max_var fault model
     ⊎ ((found : Circuit) × IsFileOf model request.max_var found × StepsFault (IsBadWitness found witness) fault)
+
+-- The witness that is written for a model and a solver's answer.
+pub record IsAnswerText (request : Reach) (model answer text : List ℕ) : Type 0 where
+  pub asked : Circuit
+  pub is_model : IsModelAsked request model asked
+  pub is_text : IsReachText request asked answer text
+
+-- There is no witness for this reason: the model has no clauses, or the answer gives none.
+abbrev pub IsAnswerRefused : Reach → (model answer : List ℕ) → ToolFault → Type 0
+IsAnswerRefused request model answer fault =
+    IsModelRefused request fault model
+    ⊎ ((asked : Circuit) × IsModelAsked request model asked × IsReachRefused request asked fault answer)
 
 -- the outcome of a verdict, with a text of so many bytes
 abbrev pub verdict_outcome : Verdict → (length : ℕ) → Outcome

@@ -1,10 +1,13 @@
 -- What the numbers ask for that a call is given (this project's interface for C). Each option is a bit.
-use Rattle.std.specs.Prelude.{◌≡◌, ◌≤◌, ◌==◌, ◌+◌, ℕ, Bool, true, false, not, None, bit_and, bit_or}
-use Rattle.aig_command.specs.Aiger.{largest_index}
-use Rattle.aig_command.specs.Answer.{HasFrames, IsDumpAlone, IsKeptAlone}
+use Rattle.std.specs.Prelude.{◌≡◌, ◌≤◌, ◌==◌, ◌+◌, ℕ, Bool, true, false, not, Option, None, Some, bit_and, bit_or}
+use Rattle.std.specs.Prelude.{if◌then◌else◌}
+use Rattle.aig_command.specs.Aiger.{largest_index, most_frames}
+use Rattle.aig_command.specs.Answer.{HasFrames, IsDumpAlone, IsKeptAlone, IsWithoutMap}
+use Rattle.aig_command.specs.declared.request.Reach.{Reach}
 use Rattle.aig_command.specs.declared.request.Sim.{Sim}
 use Rattle.aig_command.specs.declared.request.ToAig.{ToAig}
 use Rattle.aig_command.specs.declared.request.Unroll.{Unroll}
+use Rattle.aig_command.specs.declared.request.UnrolledForm.TheVariants.{Ascii, Binary, Clauses}
 use Rattle.aig_library.specs.Numbers as numbers
 
 -- the option is among the options
@@ -21,6 +24,7 @@ conversion options max_var = record {
   strip = has options numbers.strip;
   keep_map = has options numbers.keep_map;
   undo_map = has options numbers.undo_map;
+  outputs_as_bad = has options numbers.outputs_as_bad;
   max_var = max_var;
   source = None;
   destination = None;
@@ -29,9 +33,32 @@ conversion options max_var = record {
 abbrev pub unrolling : (options frames max_var : ℕ) → Unroll
 unrolling options frames max_var = record {
   frames = frames;
-  ascii = has options numbers.ascii;
+  form = if has options numbers.ascii then Ascii else Binary;
   max_var = max_var;
   source = None;
+  destination = None;
+}
+
+-- the number of the bad state that is asked for alone, unless it is all of them
+abbrev pub bad_asked : ℕ → Option ℕ
+bad_asked bad = if bad == numbers.all_bad then None else Some bad
+
+abbrev pub clauses : (bad frames max_var : ℕ) → Unroll
+clauses bad frames max_var = record {
+  frames = frames;
+  form = Clauses (bad_asked bad);
+  max_var = max_var;
+  source = None;
+  destination = None;
+}
+
+abbrev pub reaching : (bad frames max_var : ℕ) → Reach
+reaching bad frames max_var = record {
+  frames = frames;
+  bad = bad_asked bad;
+  max_var = max_var;
+  model = None;
+  answer = None;
   destination = None;
 }
 
@@ -47,15 +74,19 @@ simulation options max_var = record {
 }
 
 -- Which numbers can be met: only known options are given, the limit is at most the largest index, a map is kept in
--- binary and alone, there are as many frames as can be unrolled, and a dump is asked for without the properties.
+-- binary and alone, outputs become bad states without a map, there are as many frames as can be unrolled, also for
+-- clauses and answers on them, and a dump is asked for without the properties.
 abbrev pub CanConvert : (options max_var : ℕ) → Type 0
 CanConvert options max_var =
-    OnlyHas options (numbers.ascii + numbers.strip + numbers.keep_map + numbers.undo_map) × (max_var ≤ largest_index)
-    × IsKeptAlone (conversion options max_var)
+    OnlyHas options (numbers.ascii + numbers.strip + numbers.keep_map + numbers.undo_map + numbers.outputs_as_bad)
+    × (max_var ≤ largest_index) × IsKeptAlone (conversion options max_var) × IsWithoutMap (conversion options max_var)
 
 abbrev pub CanUnroll : (options frames max_var : ℕ) → Type 0
 CanUnroll options frames max_var =
     OnlyHas options numbers.ascii × (max_var ≤ largest_index) × HasFrames (unrolling options frames max_var)
+
+abbrev pub CanReach : (frames max_var : ℕ) → Type 0
+CanReach frames max_var = (1 ≤ frames) × (frames ≤ most_frames) × (max_var ≤ largest_index)
 
 abbrev pub CanSimulate : (options max_var : ℕ) → Type 0
 CanSimulate options max_var =

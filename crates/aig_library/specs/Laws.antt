@@ -14,3 +14,4 @@ ConstantsAreTheNumbers =
     × (outcomes.MAP_LINE ≡ numbers.map_line)
     × (options.ASCII ≡ numbers.ascii) × (options.STRIP ≡ numbers.strip) × (options.KEEP_MAP ≡ numbers.keep_map)
     × (options.UNDO_MAP ≡ numbers.undo_map) × (options.PROPERTIES ≡ numbers.properties) × (options.VCD ≡ numbers.vcd)
+    × (options.OUTPUTS_AS_BAD ≡ numbers.outputs_as_bad) × (options.ALL_BAD ≡ numbers.all_bad)

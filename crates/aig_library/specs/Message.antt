@@ -44,11 +44,18 @@ kind_words kind subject =
     if kind == 21 then codes "justice or fairness cannot be unrolled" else
     if kind == 22 then codes "too large to unroll" else
     if kind == 23 then codes "bad stimulus line" else
-    if kind == 24 then codes "bad witness line" else []
+    if kind == 24 then codes "bad witness line" else
+    if kind == 25 then codes "bad states are there already" else
+    if kind == 26 then codes "no bad states" else
+    if kind == 27 then around (codes "no bad state ") subject [] else
+    if kind == 28 then codes "bad answer line" else
+    if kind == 29 then codes "unsatisfiable" else
+    if kind == 30 then codes "unknown" else
+    if kind == 31 then codes "no bad state is reached" else []
 
 -- the words for an outcome: none where nothing is wrong with the input and memory was not refused
-abbrev pub message_text : Outcome → List ℕ
-message_text o =
+abbrev pub outcome_text : Outcome → List ℕ
+outcome_text o =
     if o.status == numbers.out_of_memory then codes "out of memory"
     else if o.status == numbers.refused then place_words o.place o.number ++ kind_words o.kind o.subject else []
 
@@ -61,7 +68,7 @@ words_for party text = codes "out of memory"
 -- the words for the outcome of a fault are those in which the program reports it
 abbrev pub MessagesTellFaults : Type 0
 MessagesTellFaults =
-    (fault : ToolFault) → message_text (fault_outcome fault) ≡ words_for (at_fault fault) (error_text fault)
+    (fault : ToolFault) → outcome_text (fault_outcome fault) ≡ words_for (at_fault fault) (error_text fault)
 
 -- The text is at the front of the output, where there is room for it, and else the output is as it was. Its length is
 -- answered.

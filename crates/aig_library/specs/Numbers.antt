@@ -1,4 +1,4 @@
--- The numbers of include/aigtools.h (this project's interface for C), but those of the kinds, which `kind_of` has.
+-- The numbers of include/aigtools.h (this project's interface for C), but those of the kinds, which `kind_number` has.
 use Rattle.std.specs.Prelude.{ℕ}
 
 -- how a call ended
@@ -51,3 +51,10 @@ properties = 16
 
 abbrev pub vcd : ℕ
 vcd = 32
+
+abbrev pub outputs_as_bad : ℕ
+outputs_as_bad = 64
+
+-- in the place of the number of a bad state: all of them
+abbrev pub all_bad : ℕ
+all_bad = 4294967295

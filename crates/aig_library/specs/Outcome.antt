@@ -9,6 +9,10 @@ use Rattle.aig_map.specs.declared.fault.MapFault.{MapFault}
 use Rattle.aig_map.specs.declared.fault.MapFault.TheVariants as map_faults
 use Rattle.aig_step.specs.declared.fault.SimFault.{SimFault}
 use Rattle.aig_step.specs.declared.fault.SimFault.TheVariants as sim_faults
+use Rattle.aig_search.specs.declared.fault.AnswerFault.{AnswerFault}
+use Rattle.aig_search.specs.declared.fault.AnswerFault.TheVariants as answer_faults
+use Rattle.aig_unroll.specs.declared.fault.ClauseFault.{ClauseFault}
+use Rattle.aig_unroll.specs.declared.fault.ClauseFault.TheVariants as clause_faults
 use Rattle.aig_unroll.specs.declared.fault.UnrollFault.{UnrollFault}
 use Rattle.aig_unroll.specs.declared.fault.UnrollFault.TheVariants as unroll_faults
 use Rattle.aig_engines.specs.declared.fault.ToolFault.{ToolFault}
@@ -31,23 +35,23 @@ refusal kind place number subject =
     record { status = numbers.refused; kind = kind; place = place; subject = subject; number = number; length = 0 }
 
 -- what is wrong, by the number of the header
-abbrev pub kind_of : ReadKind → ℕ
-kind_of kinds.NotAiger = 1
-kind_of kinds.BadHeader = 2
-kind_of kinds.TooLarge = 3
-kind_of kinds.BadLine = 4
-kind_of kinds.NotVariable = 5
-kind_of kinds.LiteralRange = 6
-kind_of kinds.BadReset = 7
-kind_of kinds.Truncated = 8
-kind_of kinds.BadDelta = 9
-kind_of kinds.BadSymbol = 10
-kind_of kinds.SymbolRange = 11
-kind_of kinds.SymbolTwice = 12
-kind_of (kinds.Redefined variable) = 13
-kind_of (kinds.Undefined literal) = 14
-kind_of (kinds.Cyclic literal) = 15
-kind_of kinds.OutOfMemory = 0
+abbrev pub kind_number : ReadKind → ℕ
+kind_number kinds.NotAiger = 1
+kind_number kinds.BadHeader = 2
+kind_number kinds.TooLarge = 3
+kind_number kinds.BadLine = 4
+kind_number kinds.NotVariable = 5
+kind_number kinds.LiteralRange = 6
+kind_number kinds.BadReset = 7
+kind_number kinds.Truncated = 8
+kind_number kinds.BadDelta = 9
+kind_number kinds.BadSymbol = 10
+kind_number kinds.SymbolRange = 11
+kind_number kinds.SymbolTwice = 12
+kind_number (kinds.Redefined variable) = 13
+kind_number (kinds.Undefined literal) = 14
+kind_number (kinds.Cyclic literal) = 15
+kind_number kinds.OutOfMemory = 0
 
 abbrev pub subject_of : ReadKind → ℕ
 subject_of (kinds.Redefined variable) = variable
@@ -55,10 +59,10 @@ subject_of (kinds.Undefined literal) = literal
 subject_of (kinds.Cyclic literal) = literal
 subject_of _ = 0
 
-abbrev pub place_of : Place → ℕ
-place_of places.Whole = numbers.whole
-place_of (places.Line number) = numbers.line
-place_of (places.Gate number) = numbers.gate
+abbrev pub place_kind : Place → ℕ
+place_kind places.Whole = numbers.whole
+place_kind (places.Line number) = numbers.line
+place_kind (places.Gate number) = numbers.gate
 
 abbrev pub place_number : Place → ℕ
 place_number places.Whole = 0
@@ -68,7 +72,7 @@ place_number (places.Gate number) = number
 -- want of memory says nothing of the text
 abbrev pub outcome_at : Place → ReadKind → Outcome
 outcome_at place kinds.OutOfMemory = out_of_memory
-outcome_at place kind = refusal (kind_of kind) (place_of place) (place_number place) (subject_of kind)
+outcome_at place kind = refusal (kind_number kind) (place_kind place) (place_number place) (subject_of kind)
 
 abbrev pub read_outcome : ReadFault → Outcome
 read_outcome fault = outcome_at fault.place fault.kind
@@ -86,7 +90,20 @@ unroll_outcome unroll_faults.Unsupported = refusal 21 numbers.whole 0 0
 unroll_outcome unroll_faults.TooLarge = refusal 22 numbers.whole 0 0
 unroll_outcome unroll_faults.OutOfMemory = out_of_memory
 
+-- clauses that are too large are those of what is too large to unroll
+abbrev pub clause_outcome : ClauseFault → Outcome
+clause_outcome clause_faults.NoBadStates = refusal 26 numbers.whole 0 0
+clause_outcome clause_faults.TooLarge = refusal 22 numbers.whole 0 0
+
 -- a source in memory does not fail, and a sink in memory fails where memory is refused
+abbrev pub answer_outcome : AnswerFault → Outcome
+answer_outcome (answer_faults.BadLine fault) = refusal 28 numbers.line fault.line 0
+answer_outcome answer_faults.Unsatisfiable = refusal 29 numbers.whole 0 0
+answer_outcome answer_faults.Unknown = refusal 30 numbers.whole 0 0
+answer_outcome answer_faults.NotReached = refusal 31 numbers.whole 0 0
+answer_outcome answer_faults.OutOfMemory = out_of_memory
+answer_outcome answer_faults.ReadFailed = out_of_memory
+
 abbrev pub sim_outcome : SimFault → Outcome
 sim_outcome (sim_faults.BadStimulus line) = refusal 23 numbers.line line 0
 sim_outcome (sim_faults.BadWitness line) = refusal 24 numbers.line line 0
@@ -97,8 +114,12 @@ sim_outcome sim_faults.WriteFailed = out_of_memory
 abbrev pub fault_outcome : ToolFault → Outcome
 fault_outcome (faults.Read fault) = read_outcome fault
 fault_outcome (faults.Map fault) = map_outcome fault
+fault_outcome faults.HasBad = refusal 25 numbers.whole 0 0
 fault_outcome (faults.Sim fault) = sim_outcome fault
+fault_outcome (faults.NoBad number) = refusal 27 numbers.whole 0 number
 fault_outcome (faults.Unroll fault) = unroll_outcome fault
+fault_outcome (faults.Clauses fault) = clause_outcome fault
+fault_outcome (faults.Answer fault) = answer_outcome fault
 fault_outcome faults.Source = out_of_memory
 fault_outcome faults.Sink = out_of_memory
 fault_outcome faults.OutOfMemory = out_of_memory

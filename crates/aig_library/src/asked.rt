@@ -1,8 +1,9 @@
 //! What is asked for, by numbers: each option is a bit.
 ghost use Rattle.std.specs.Prelude.{◌≡◌, ◌↔◌, IsTrue};
-ghost use Rattle.aig_library.specs.Asked.{conversion, has, OnlyHas, unrolling};
+ghost use Rattle.aig_library.specs.Asked.{bad_asked, clauses, conversion, has, OnlyHas, reaching};
+ghost use Rattle.aig_library.specs.Asked.{unrolling};
 
-use aig_command::{ToAig, Unroll};
+use aig_command::{Reach, ToAig, Unroll, UnrolledForm};
 
 /// ASCII is written, and not binary.
 pub const ASCII: u32 = 1;
@@ -21,6 +22,12 @@ pub const PROPERTIES: u32 = 16;
 
 /// The dump of a trace is written, which shows bad states and constraints too.
 pub const VCD: u32 = 32;
+
+/// Outputs become bad states.
+pub const OUTPUTS_AS_BAD: u32 = 64;
+
+/// All bad states, in the place of the number of one.
+pub const ALL_BAD: u32 = 0xFFFF_FFFF;
 
 /// Whether this option is among the options.
 pub(crate) fn has(options: u32, option: u32) -> bool
@@ -45,6 +52,7 @@ pub(crate) fn conversion(options: u32, max_var: u32) -> ToAig
         strip: has(options, STRIP),
         keep_map: has(options, KEEP_MAP),
         undo_map: has(options, UNDO_MAP),
+        outputs_as_bad: has(options, OUTPUTS_AS_BAD),
         max_var,
         source: None,
         destination: None,
@@ -55,11 +63,52 @@ pub(crate) fn conversion(options: u32, max_var: u32) -> ToAig
 pub(crate) fn unrolling(options: u32, frames: u32, max_var: u32) -> Unroll
     ensures { result ≡ unrolling options frames max_var }
 {
+    let form = if has(options, ASCII) {
+        UnrolledForm::Ascii
+    } else {
+        UnrolledForm::Binary
+    };
     Unroll {
         frames,
-        ascii: has(options, ASCII),
+        form,
         max_var,
         source: None,
+        destination: None,
+    }
+}
+
+/// The bad state that is asked for alone.
+fn bad_asked(bad: u32) -> Option<u32>
+    ensures { result ≡ bad_asked bad }
+{
+    if bad == ALL_BAD { None } else { Some(bad) }
+}
+
+/// The clauses that are asked for.
+pub(crate) fn clauses(bad: u32, frames: u32, max_var: u32) -> Unroll
+    ensures { result ≡ clauses bad frames max_var }
+{
+    Unroll {
+        frames,
+        form: UnrolledForm::Clauses {
+            bad: bad_asked(bad),
+        },
+        max_var,
+        source: None,
+        destination: None,
+    }
+}
+
+/// The request for the witness in an answer on these clauses.
+pub(crate) fn reaching(bad: u32, frames: u32, max_var: u32) -> Reach
+    ensures { result ≡ reaching bad frames max_var }
+{
+    Reach {
+        frames,
+        bad: bad_asked(bad),
+        max_var,
+        model: None,
+        answer: None,
         destination: None,
     }
 }

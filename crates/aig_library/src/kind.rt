@@ -1,4 +1,5 @@
-//! What is wrong with an input, in numbers. Their names and order are those of the faults of each crate.
+//! What is wrong with an input, in numbers: in the order of the faults of each crate, by the names
+//! of include/aigtools.h.
 
 pub const NOT_AIGER: u32 = 1;
 
@@ -47,3 +48,17 @@ pub const TOO_LARGE_UNROLLED: u32 = 22;
 pub const BAD_STIMULUS: u32 = 23;
 
 pub const BAD_WITNESS: u32 = 24;
+
+pub const HAS_BAD: u32 = 25;
+
+pub const NO_BAD_STATES: u32 = 26;
+
+pub const NO_SUCH_BAD_STATE: u32 = 27;
+
+pub const BAD_ANSWER: u32 = 28;
+
+pub const UNSATISFIABLE: u32 = 29;
+
+pub const UNKNOWN: u32 = 30;
+
+pub const NOT_REACHED: u32 = 31;

@@ -1,14 +1,17 @@
 //! What came of a call, in numbers.
 ghost use Rattle.std.specs.Prelude.{◌≡◌, IfErr, IfOk};
-ghost use Rattle.aig_library.specs.Outcome.{ending, fault_outcome, map_outcome, place_number, place_of, read_outcome};
-ghost use Rattle.aig_library.specs.Outcome.{IsPlaced, kind_of, refusal, sim_outcome, subject_of, unroll_outcome};
+ghost use Rattle.aig_library.specs.Outcome.{answer_outcome, clause_outcome, ending, fault_outcome};
+ghost use Rattle.aig_library.specs.Outcome.{map_outcome, place_number};
+ghost use Rattle.aig_library.specs.Outcome.{place_kind, read_outcome, IsPlaced, kind_number};
+ghost use Rattle.aig_library.specs.Outcome.{refusal, sim_outcome, subject_of, unroll_outcome};
 
 use crate::kind;
 use aig_engines::ToolFault;
 use aig_order::MapFault;
+use aig_search::AnswerFault;
 use aig_step::SimFault;
 use aig_text::{Place, ReadFault, ReadKind};
-use aig_unroll::UnrollFault;
+use aig_unroll::{ClauseFault, UnrollFault};
 
 /// The text was written, or the witness is confirmed.
 pub const DONE: u32 = 0;
@@ -25,7 +28,8 @@ pub const OUT_OF_MEMORY: u32 = 3;
 /// The options exclude each other, or are not known, or a number is out of its range.
 pub const BAD_OPTIONS: u32 = 4;
 
-/// The witness file is right, and no step shows what it claims. If its run is dumped, the text was written.
+/// The witness file is right, and no step shows what it claims. If its run is dumped, the text was
+/// written.
 pub const NOT_CONFIRMED: u32 = 5;
 
 /// The fault has no one place.
@@ -52,7 +56,8 @@ pub struct Outcome {
     pub place: u32,
     /// The variable or the literal that the fault names.
     pub subject: u32,
-    /// The number of the line or of the gate, counted from 1; or the step at which a witness is confirmed, from 0.
+    /// The number of the line or of the gate, counted from 1; or the step at which a witness is
+    /// confirmed, from 0.
     pub number: u64,
     /// How many bytes the text has, where the status is `DONE`, `TOO_SHORT` or `NOT_CONFIRMED`.
     pub length: u64,
@@ -86,8 +91,8 @@ fn refusal(kind: u32, place: u32, number: u64, subject: u32) -> Outcome
     }
 }
 
-fn kind_of(kind: ReadKind) -> u32
-    ensures { result ≡ kind_of kind }
+fn kind_number(kind: ReadKind) -> u32
+    ensures { result ≡ kind_number kind }
 {
     match kind {
         ReadKind::NotAiger => kind::NOT_AIGER,
@@ -119,8 +124,8 @@ fn subject_of(kind: ReadKind) -> u32
     }
 }
 
-fn place_of(place: Place) -> (u32, u64)
-    ensures place { result.0 ≡ place_of place }
+fn numbers_of_place(place: Place) -> (u32, u64)
+    ensures place { result.0 ≡ place_kind place }
     ensures number { result.1 ≡ place_number place }
 {
     match place {
@@ -136,8 +141,13 @@ fn read_outcome(fault: &ReadFault) -> Outcome
     if matches!(fault.kind, ReadKind::OutOfMemory) {
         return ending(OUT_OF_MEMORY, 0, 0);
     }
-    let (place, number) = place_of(fault.place);
-    refusal(kind_of(fault.kind), place, number, subject_of(fault.kind))
+    let (place, number) = numbers_of_place(fault.place);
+    refusal(
+        kind_number(fault.kind),
+        place,
+        number,
+        subject_of(fault.kind),
+    )
 }
 
 fn map_outcome(fault: &MapFault) -> Outcome
@@ -163,6 +173,27 @@ fn unroll_outcome(fault: &UnrollFault) -> Outcome
     }
 }
 
+fn clause_outcome(fault: &ClauseFault) -> Outcome
+    ensures { result ≡ clause_outcome fault.now }
+{
+    match fault {
+        ClauseFault::NoBadStates => refusal(kind::NO_BAD_STATES, WHOLE, 0, 0),
+        ClauseFault::TooLarge => refusal(kind::TOO_LARGE_UNROLLED, WHOLE, 0, 0),
+    }
+}
+
+fn answer_outcome(fault: &AnswerFault) -> Outcome
+    ensures { result ≡ answer_outcome fault.now }
+{
+    match fault {
+        AnswerFault::BadLine(fault) => refusal(kind::BAD_ANSWER, LINE, fault.line, 0),
+        AnswerFault::Unsatisfiable => refusal(kind::UNSATISFIABLE, WHOLE, 0, 0),
+        AnswerFault::Unknown => refusal(kind::UNKNOWN, WHOLE, 0, 0),
+        AnswerFault::NotReached => refusal(kind::NOT_REACHED, WHOLE, 0, 0),
+        AnswerFault::OutOfMemory | AnswerFault::ReadFailed => ending(OUT_OF_MEMORY, 0, 0),
+    }
+}
+
 fn sim_outcome(fault: &SimFault) -> Outcome
     ensures { result ≡ sim_outcome fault.now }
 {
@@ -175,14 +206,19 @@ fn sim_outcome(fault: &SimFault) -> Outcome
     }
 }
 
-/// What a fault comes to. A source in memory does not fail, and a sink in memory fails where memory is refused.
+/// What a fault comes to. A source in memory does not fail, and a sink in memory fails where memory
+/// is refused.
 pub(crate) fn fault_outcome(fault: &ToolFault) -> Outcome
     ensures { result ≡ fault_outcome fault.now }
 {
     match fault {
         ToolFault::Read(fault) => read_outcome(fault),
         ToolFault::Map(fault) => map_outcome(fault),
+        ToolFault::HasBad => refusal(kind::HAS_BAD, WHOLE, 0, 0),
+        ToolFault::NoBad(number) => refusal(kind::NO_SUCH_BAD_STATE, WHOLE, 0, *number),
         ToolFault::Unroll(fault) => unroll_outcome(fault),
+        ToolFault::Clauses(fault) => clause_outcome(fault),
+        ToolFault::Answer(fault) => answer_outcome(fault),
         ToolFault::Sim(fault) => sim_outcome(fault),
         ToolFault::Source | ToolFault::Sink | ToolFault::OutOfMemory => {
             ending(OUT_OF_MEMORY, 0, 0)
@@ -205,7 +241,8 @@ fn place_text(text: &[u8], output: &mut [u8]) -> Outcome
 /// Answers a call that makes a text. Without a text the output is left alone.
 pub(crate) fn answer(made: Result<Vec<u8>, ToolFault>, output: &mut [u8]) -> Outcome
     ensures text { IfOk made (λ text. IsPlaced text.items output.old output.new result) }
-    ensures fault { IfErr made (λ fault. (output.new ≡ output.old) × (result ≡ fault_outcome fault)) }
+    ensures fault { IfErr made (λ fault. (output.new ≡ output.old)
+        × (result ≡ fault_outcome fault)) }
 {
     match made {
         Ok(text) => place_text(text.as_slice(), output),

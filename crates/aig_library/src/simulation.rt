@@ -41,7 +41,8 @@ fn trace(
     stimulus: &[u8],
 ) -> Result<Vec<u8>, SimFault>
     ensures none_bad { IfOk result (λ _. first_bad_line found.now stimulus.now true ≡ None) }
-    ensures text { IfOk result (λ text. IsTraceText found.now columns stimulus.now true text.items) }
+    ensures text { IfOk result (λ text.
+        IsTraceText found.now columns stimulus.now true text.items) }
     ensures err { IfErr result (λ fault.
         IsBadStimulus found.now stimulus.now fault ⊎ (sim_outcome fault ≡ out_of_memory)) }
 {
@@ -64,7 +65,8 @@ fn columns_of(options: u32) -> Columns
     }
 }
 
-/// What the options ask for of a stimulus, for the circuit of a model: its trace text, or the dump of that.
+/// What the options ask for of a stimulus, for the circuit of a model: its trace text, or the dump
+/// of that.
 fn trace_or_dump(
     alloc: Global,
     options: u32,
@@ -74,7 +76,8 @@ fn trace_or_dump(
 ) -> Result<Vec<u8>, ToolFault>
     ensures ok { IfOk result (λ text.
         IsWrittenText (simulation options max_var) model.now stimulus.now text.items) }
-    ensures err { IfErr result (λ fault. IsSimulationRefused (simulation options max_var) model.now stimulus.now fault
+    ensures err { IfErr result (λ fault.
+        IsSimulationRefused (simulation options max_var) model.now stimulus.now fault
         ⊎ (fault_outcome fault ≡ out_of_memory)) }
 {
     let found = circuit_of(alloc, max_var, model)?;
@@ -83,7 +86,7 @@ fn trace_or_dump(
     } else {
         trace(alloc, columns_of(options), &found, stimulus)
     };
-    drop(found);
+    drop(found); // for the proof
     Ok(text?)
 }
 
@@ -96,8 +99,9 @@ fn can_simulate(options: u32, max_var: u32) -> bool
         && !(has(options, VCD) && has(options, PROPERTIES))
 }
 
-/// Simulates the circuit of an AIGER file over a stimulus. The text is the trace, or with `VCD` the dump of that; the
-/// options are `PROPERTIES` or `VCD`, not both. The largest index and the counts of the model are at most `max_var`.
+/// Simulates the circuit of an AIGER file over a stimulus. The text is the trace, or with `VCD` the
+/// dump of that; the options are `PROPERTIES` or `VCD`, not both. The largest index and the counts
+/// of the model are at most `max_var`.
 pub fn simulate(
     alloc: Global,
     options: u32,

@@ -3,10 +3,13 @@ ghost use Rattle.std.specs.Prelude.{◌≡◌, ◌≤◌, ◌⊎◌, ◌^◌, �
 ghost use Rattle.aig_engines.specs.Conversion.{IsConversionRefused, IsConversionText};
 ghost use Rattle.aig_engines.specs.Unrolling.{IsUnrollingRefused, IsUnrollingText};
 ghost use Rattle.aig_library.specs.Answers.{Answers};
-ghost use Rattle.aig_library.specs.Asked.{CanConvert, CanUnroll, conversion, unrolling};
+ghost use Rattle.aig_library.specs.Asked.{CanConvert, CanReach, CanUnroll, clauses, conversion};
+ghost use Rattle.aig_library.specs.Asked.{unrolling};
 ghost use Rattle.aig_library.specs.Outcome.{fault_outcome, out_of_memory};
 
-use crate::asked::{ASCII, KEEP_MAP, STRIP, UNDO_MAP, conversion, only_has, unrolling};
+use crate::asked::{
+    ASCII, KEEP_MAP, OUTPUTS_AS_BAD, STRIP, UNDO_MAP, clauses, conversion, only_has, unrolling,
+};
 use crate::outcome::{BAD_OPTIONS, Outcome, answer, ending};
 use aig_command::ToAig;
 use aig_core::{LARGEST, SliceSource, VecSink};
@@ -15,7 +18,11 @@ use std::alloc::Global;
 
 /// The text that an engine makes of the bytes of its source.
 #[tactic(auto, using(crate::proofs::Lents::whole, crate::proofs::Lents::not_read))]
-fn text<T: Engine>(alloc: Global, request: &T, input: &[u8]) -> Result<Vec<u8>, ToolFault>
+pub(crate) fn engine_text<T: Engine>(
+    alloc: Global,
+    request: &T,
+    input: &[u8],
+) -> Result<Vec<u8>, ToolFault>
     requires can_do { T.can_do request.now }
     ensures ok { IfOk result (λ text. T.is_text request.now input.now text.items) }
     ensures err { IfErr result (λ fault.
@@ -37,13 +44,17 @@ fn can_convert(options: u32, max_var: u32, request: &ToAig) -> bool
     requires { request.now ≡ conversion options max_var }
     ensures { IsTrue result ↔ CanConvert options max_var }
 {
-    only_has(options, ASCII + STRIP + KEEP_MAP + UNDO_MAP)
-        && max_var <= LARGEST
+    only_has(
+        options,
+        ASCII + STRIP + KEEP_MAP + UNDO_MAP + OUTPUTS_AS_BAD,
+    ) && max_var <= LARGEST
         && !(request.keep_map && (request.ascii || request.strip || request.undo_map))
+        && !(request.outputs_as_bad && (request.keep_map || request.undo_map))
 }
 
-/// Converts the bytes of an AIGER file as the options ask: any of `ASCII`, `STRIP`, `KEEP_MAP` and `UNDO_MAP`, but
-/// `KEEP_MAP` alone. The largest index and the counts of the input are at most `max_var`.
+/// Converts the bytes of an AIGER file as the options ask: any of `ASCII`, `STRIP`, `KEEP_MAP`,
+/// `UNDO_MAP` and `OUTPUTS_AS_BAD`, but `KEEP_MAP` alone, and `OUTPUTS_AS_BAD` without `UNDO_MAP`.
+/// The largest index and the counts of the input are at most `max_var`.
 pub fn convert(
     alloc: Global,
     options: u32,
@@ -59,7 +70,7 @@ pub fn convert(
     if !can_convert(options, max_var, &request) {
         return ending(BAD_OPTIONS, 0, 0);
     }
-    answer(text(alloc, &request, input), output)
+    answer(engine_text(alloc, &request, input), output)
 }
 
 /// Whether the numbers can be met that ask for this unrolling.
@@ -69,7 +80,8 @@ fn can_unroll(options: u32, frames: u32, max_var: u32) -> bool
     only_has(options, ASCII) && max_var <= LARGEST && 1 <= frames && frames <= 1_000_000
 }
 
-/// Unrolls the circuit of an AIGER file over so many frames, from 1 to 1000000. The only option is `ASCII`.
+/// Unrolls the circuit of an AIGER file over so many frames, from 1 to 1000000. The only option is
+/// `ASCII`.
 pub fn unroll(
     alloc: Global,
     options: u32,
@@ -85,6 +97,36 @@ pub fn unroll(
     if !can_unroll(options, frames, max_var) {
         return ending(BAD_OPTIONS, 0, 0);
     }
-    let made = text(alloc, &unrolling(options, frames, max_var), input);
+    let made = engine_text(alloc, &unrolling(options, frames, max_var), input);
     answer(made, output)
+}
+
+/// Whether the numbers can be met that ask for clauses, or for the witness in an answer on them.
+pub(crate) fn can_reach(frames: u32, max_var: u32) -> bool
+    ensures { IsTrue result ↔ CanReach frames max_var }
+{
+    1 <= frames && frames <= 1_000_000 && max_var <= LARGEST
+}
+
+/// Writes the clauses by which a bad state of the circuit of an AIGER file is 1, unrolled over so
+/// many frames: that of this number, or any of them for `ALL_BAD`.
+pub fn write_clauses(
+    alloc: Global,
+    bad: u32,
+    frames: u32,
+    max_var: u32,
+    input: &[u8],
+    output: &mut [u8],
+) -> Outcome
+    ensures { let request = clauses bad frames max_var in
+        Answers (CanReach frames max_var) (IsUnrollingText request input.now)
+        (λ fault. IsUnrollingRefused request fault input.now) output.old output.new result }
+{
+    if !can_reach(frames, max_var) {
+        return ending(BAD_OPTIONS, 0, 0);
+    }
+    answer(
+        engine_text(alloc, &clauses(bad, frames, max_var), input),
+        output,
+    )
 }

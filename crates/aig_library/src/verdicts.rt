@@ -16,12 +16,13 @@ use std::alloc::Global;
 /// The verdict on a witness file for the circuit of a model.
 fn verdict(alloc: Global, max_var: u32, model: &[u8], witness: &[u8]) -> Result<Verdict, ToolFault>
     ensures ok { IfOk result (IsWitnessAnswer (simulation 0 max_var) model.now witness.now) }
-    ensures err { IfErr result (λ fault. IsWitnessRefused (simulation 0 max_var) model.now witness.now fault
+    ensures err { IfErr result (λ fault.
+        IsWitnessRefused (simulation 0 max_var) model.now witness.now fault
         ⊎ (fault_outcome fault ≡ out_of_memory)) }
 {
     let found = circuit_of(alloc, max_var, model)?;
     let judged = verdict_on(alloc, &found, witness);
-    drop(found);
+    drop(found); // for the proof
     Ok(judged?)
 }
 
@@ -35,8 +36,9 @@ pub(crate) fn verdict_outcome(verdict: Verdict, length: u64) -> Outcome
     }
 }
 
-/// Judges a witness file for the circuit of an AIGER file. The status is `DONE`, with the step, or `NOT_CONFIRMED`,
-/// where all of it is right. The largest index and the counts of the model are at most `max_var`.
+/// Judges a witness file for the circuit of an AIGER file. The status is `DONE`, with the step, or
+/// `NOT_CONFIRMED`, where all of it is right. The largest index and the counts of the model are at
+/// most `max_var`.
 pub fn witness(alloc: Global, max_var: u32, model: &[u8], witness: &[u8]) -> Outcome
     ensures { WitnessAnswers max_var model.now witness.now result }
 {

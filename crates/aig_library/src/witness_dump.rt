@@ -14,16 +14,19 @@ use aig_engines::ToolFault;
 use aig_witness::Verdict;
 use std::alloc::Global;
 
-/// The verdict on a witness file for the circuit of a model, the same as a comment, and the dump of the run.
+/// The verdict on a witness file for the circuit of a model, the same as a comment, and the dump of
+/// the run.
 fn verdict_and_dump(
     alloc: Global,
     max_var: u32,
     model: &[u8],
     witness: &[u8],
 ) -> Result<(Verdict, String, Vec<u8>), ToolFault>
-    ensures ok { IfOk result (λ made. IsWitnessDumpText (simulation 0 max_var) model.now witness.now made.0
+    ensures ok { IfOk result (λ made.
+        IsWitnessDumpText (simulation 0 max_var) model.now witness.now made.0
         (string_bytes made.1 ++ made.2.items)) }
-    ensures err { IfErr result (λ fault. IsWitnessRefused (simulation 0 max_var) model.now witness.now fault
+    ensures err { IfErr result (λ fault.
+        IsWitnessRefused (simulation 0 max_var) model.now witness.now fault
         ⊎ (fault_outcome fault ≡ out_of_memory)) }
 {
     let found = circuit_of(alloc, max_var, model)?;
@@ -31,7 +34,7 @@ fn verdict_and_dump(
     match comment_line(verdict).to_string(alloc) {
         Ok(comment) => Ok((verdict, comment, run)),
         Err(_refused) => {
-            drop(run);
+            drop(run); // for the proof
             Err(ToolFault::OutOfMemory)
         }
     }
@@ -39,7 +42,8 @@ fn verdict_and_dump(
 
 /// Puts a comment and a run behind it at the front of the output, where there is room for both.
 fn place_texts(verdict: Verdict, comment: &[u8], run: &[u8], output: &mut [u8]) -> Outcome
-    ensures { IsPlacedAs (verdict_outcome verdict) (comment.now ++ run.now) output.old output.new result }
+    ensures { IsPlacedAs (verdict_outcome verdict) (comment.now ++ run.now)
+        output.old output.new result }
 {
     let length = comment.len() + run.len();
     if length > output.len() {
@@ -50,9 +54,10 @@ fn place_texts(verdict: Verdict, comment: &[u8], run: &[u8], output: &mut [u8]) 
     verdict_outcome(verdict, length as u64)
 }
 
-/// Judges a witness file for the circuit of an AIGER file, and makes the dump of the run that it claims, with the
-/// verdict in the first line. The status is `DONE`, with the step, or `NOT_CONFIRMED`; the text is there in both cases.
-/// The largest index and the counts of the model are at most `max_var`.
+/// Judges a witness file for the circuit of an AIGER file, and makes the dump of the run that it
+/// claims, with the verdict in the first line. The status is `DONE`, with the step, or
+/// `NOT_CONFIRMED`; the text is there in both cases. The largest index and the counts of the model
+/// are at most `max_var`.
 pub fn dump_witness(
     alloc: Global,
     max_var: u32,

@@ -1,7 +1,8 @@
 //! The words for an outcome. They need no memory: a block has room for all of them.
 ghost use Rattle.std.specs.Prelude.{◌≡◌, ◌≤◌, ◌+◌, ◌++◌, [], length};
 ghost use Rattle.aig_io.specs.declared.block.TheConstants.{ROOM};
-ghost use Rattle.aig_library.specs.Message.{IsWritten, around, kind_words, message_text, place_words};
+ghost use Rattle.aig_library.specs.Message.{IsWritten, around, kind_words};
+ghost use Rattle.aig_library.specs.Message.{outcome_text, place_words};
 
 use crate::kind;
 use crate::outcome::{GATE, LINE, MAP_LINE, OUT_OF_MEMORY, Outcome, REFUSED};
@@ -22,7 +23,8 @@ fn put(words: &mut Block, text: &str)
 fn put_around(words: &mut Block, before: &str, number: u64, behind: &str)
     requires { length words.old + length before.now + length behind.now + 20 ≤ ROOM }
     ensures value { words.new ≡ words.old ++ around before.now number behind.now }
-    ensures short { length words.new ≤ length words.old + length before.now + length behind.now + 20 }
+    ensures short { length words.new
+        ≤ length words.old + length before.now + length behind.now + 20 }
 {
     let mut digits = Buffer::new();
     put(words, before);
@@ -74,6 +76,13 @@ fn put_kind(words: &mut Block, kind: u32, subject: u64)
         kind::TOO_LARGE_UNROLLED => put(words, "too large to unroll"),
         kind::BAD_STIMULUS => put(words, "bad stimulus line"),
         kind::BAD_WITNESS => put(words, "bad witness line"),
+        kind::HAS_BAD => put(words, "bad states are there already"),
+        kind::NO_BAD_STATES => put(words, "no bad states"),
+        kind::NO_SUCH_BAD_STATE => put_around(words, "no bad state ", subject, ""),
+        kind::BAD_ANSWER => put(words, "bad answer line"),
+        kind::UNSATISFIABLE => put(words, "unsatisfiable"),
+        kind::UNKNOWN => put(words, "unknown"),
+        kind::NOT_REACHED => put(words, "no bad state is reached"),
         _ => {}
     }
 }
@@ -81,7 +90,7 @@ fn put_kind(words: &mut Block, kind: u32, subject: u64)
 /// Puts the words for an outcome.
 fn put_words(words: &mut Block, outcome: &Outcome)
     requires { words.old ≡ [] }
-    ensures value { words.new ≡ message_text outcome.now }
+    ensures value { words.new ≡ outcome_text outcome.now }
     ensures short { length words.new ≤ 80 }
 {
     match outcome.status {
@@ -94,10 +103,11 @@ fn put_words(words: &mut Block, outcome: &Outcome)
     }
 }
 
-/// Puts the words for an outcome at the front of the output, where there is room for them, and answers how many bytes
-/// they have. There are none, and the answer is 0, where the status tells of no fault.
+/// Puts the words for an outcome at the front of the output, where there is room for them, and
+/// answers how many bytes they have. There are none, and the answer is 0, where the status tells of
+/// no fault.
 pub fn message(outcome: &Outcome, output: &mut [u8]) -> usize
-    ensures written { IsWritten (message_text outcome.now) output.old output.new result }
+    ensures written { IsWritten (outcome_text outcome.now) output.old output.new result }
     ensures short { result ≤ 80 }
 {
     let mut words = Block::new();

@@ -13,8 +13,8 @@ use Rattle.aig_topo.proofs.Ordering.Ranked.{at, no_gate}
 use Rattle.aig_text.specs.AsciiText.{numbers_text}
 use Rattle.aig_image.specs.Relabelled.{relabelled, relabelled_gate, relabelled_latch}
 use Rattle.aig_map.specs.declared.map_block.MappedGate.{MappedGate}
-use Rattle.aig_map.specs.MapBlock.{first_row, variable_row, gate_row, rows_of, first_line_text, last_line, block_by}
-use Rattle.aig_map.specs.MapBlock.{block_text, mapped_gate, one_if}
+use Rattle.aig_map.specs.MapBlock.{first_row, variable_row, mapped_row, block_rows, first_line_text, last_line}
+use Rattle.aig_map.specs.MapBlock.{block_by, block_text, mapped_gate, one_if}
 use Rattle.aig_map.specs.Parts.Recorded.{counted_row}
 use Rattle.aig_map.specs.Parts.Kept.{AreRelabelled, recorded_by}
 
@@ -30,7 +30,7 @@ module _ (number : ℕ → ℕ) (c : Circuit) where
   of_latch l = of_variable l.var
 
   abbrev of_gate : ℕ → Gate → List ℕ
-  of_gate first g = numbers_text (gate_row (mapped_gate number first g))
+  of_gate first g = numbers_text (mapped_row (mapped_gate number first g))
 
   abbrev first_gate : ℕ
   first_gate = 1 + length c.inputs + length c.latches
@@ -52,12 +52,12 @@ module _ (number : ℕ → ℕ) (c : Circuit) where
   latches_text : flat_map numbers_text (map variable_row latch_variables) ≡ flat_map of_latch c.latches
   latches_text = search (rules, flat_map-map)
 
-  gates_text : flat_map numbers_text (map gate_row recorded_gates) ≡ flat_map (of_gate first_gate) c.gates
+  gates_text : flat_map numbers_text (map mapped_row recorded_gates) ≡ flat_map (of_gate first_gate) c.gates
   gates_text = search (rules, flat_map-map)
 
   -- the lines between the first and the last
   rows_text : (flat_map of_variable c.inputs ++ flat_map of_latch c.latches) ++ flat_map (of_gate first_gate) c.gates
-      ≡ flat_map numbers_text (rows_of (block_by number c))
+      ≡ flat_map numbers_text (block_rows (block_by number c))
   rows_text = search (rules, flat_map-append, inputs_text, latches_text, gates_text)
 
   parts_text : first_line_text (counted_row c)

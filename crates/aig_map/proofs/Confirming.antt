@@ -139,8 +139,8 @@ pub one_more_clear : (first : ℕ) (gates : List Gate) (places : List ℕ) (k at
 one_more_clear first gates places k at ready g there is ready_is before clear all q low =
     search (rules, no_gate, get_or_default, cases_lt)
 
--- The gates of the source, by their positions and their places. Where the gates of an image are taken in turn, the places
--- that a block tells are the least ready order of its source, and the other way round.
+-- The gates of the source, by their positions and their places. Where the gates of an image are taken in turn, the
+-- places that a block tells are the least ready order of its source, and the other way round.
 abbrev Uses : ℕ → Gate → Type 0
 Uses variable h = IsAmong variable (map variable_of (operands h))
 

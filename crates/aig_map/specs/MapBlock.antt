@@ -29,11 +29,11 @@ abbrev pub variable_row : ℕ → List ℕ
 variable_row v = v ∷ []
 
 -- the line of a gate: its variable, its place, and whether its operands are exchanged
-abbrev pub gate_row : MappedGate → List ℕ
-gate_row g = g.var ∷ g.place ∷ one_if g.exchanged ∷ []
+abbrev pub mapped_row : MappedGate → List ℕ
+mapped_row g = g.var ∷ g.place ∷ one_if g.exchanged ∷ []
 
-abbrev pub rows_of : MapBlock → List (List ℕ)
-rows_of b = map variable_row b.inputs ++ map variable_row b.latches ++ map gate_row b.gates
+abbrev pub block_rows : MapBlock → List (List ℕ)
+block_rows b = map variable_row b.inputs ++ map variable_row b.latches ++ map mapped_row b.gates
 
 abbrev pub map_word : List ℕ
 map_word = codes "aigmap"
@@ -47,7 +47,7 @@ first_line_text ns = map_word ++ more_numbers_text ns
 
 -- the text of a block, in canonical numbers and single spaces
 unfoldable pub block_text : MapBlock → List ℕ
-block_text b = first_line_text (first_row b) ++ (flat_map numbers_text (rows_of b) ++ last_line)
+block_text b = first_line_text (first_row b) ++ (flat_map numbers_text (block_rows b) ++ last_line)
 
 -- What is recorded of a gate whose variables become others by f. Its place is how far its new variable is from that of
 -- the first gate, and its operands are exchanged where the smaller one would come first.

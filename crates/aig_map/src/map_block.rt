@@ -14,7 +14,7 @@ pub struct MappedGate {
 
 /// What the first line of a map block tells behind its word and its version.
 #[derive(Clone, Copy)]
-pub struct FirstLine {
+pub(crate) struct FirstLine {
     /// The largest variable index of the source.
     pub max_var: u64,
     /// How many inputs the source has.

@@ -7,7 +7,7 @@ ghost use Rattle.aig_text.specs.AsciiText.{numbers_text};
 ghost use Rattle.aig_circuit.specs.declared.circuit.Circuit.{Circuit as CircuitRecord};
 ghost use Rattle.aig_circuit.specs.declared.circuit.Gate.{Gate as GateRecord};
 ghost use Rattle.aig_image.specs.Relabelled.{FitIntoLiterals, relabelled};
-ghost use Rattle.aig_map.specs.MapBlock.{block_by, block_text, first_line_text, gate_row};
+ghost use Rattle.aig_map.specs.MapBlock.{block_by, block_text, first_line_text, mapped_row};
 ghost use Rattle.aig_map.specs.MapBlock.{mapped_comment, mapped_gate, variable_row};
 ghost use Rattle.aig_map.specs.Parts.Kept.{AreRelabelled, AreVariablesOf, recorded_by};
 ghost use Rattle.aig_map.specs.Parts.Recorded.{counted_row};
@@ -77,24 +77,24 @@ fn mapped_gate<L: Labels>(labels: &L, first: u32, gate: &Gate) -> MappedGate
 
 #[inline(always)]
 fn put_gate<W: Sink>(output: &mut Output<W>, gate: MappedGate)
-    ensures { Put output.old output.new (numbers_text (gate_row gate)) }
+    ensures { Put output.old output.new (numbers_text (mapped_row gate)) }
 {
     let others = [u64::from(gate.place), u64::from(gate.exchanged)];
     put_numbers(output, u64::from(gate.var.0), &others);
 }
 
 #[inline(never)]
-fn put_gates<L: Labels, W: Sink>(output: &mut Output<W>, labels: &L, first: u32, gates: &[Gate])
+fn put_gate_rows<L: Labels, W: Sink>(output: &mut Output<W>, labels: &L, first: u32, gates: &[Gate])
     requires { FitIntoLiterals (L.label labels.now) }
     ensures { Put output.old output.new (flat_map (λ g. numbers_text
-        (gate_row (mapped_gate (L.label labels.now) first g))) gates.now) }
+        (mapped_row (mapped_gate (L.label labels.now) first g))) gates.now) }
 {
     for gate in gates {
         put_gate(output, mapped_gate(labels, first, gate));
     }
 }
 
-fn put_block<L: Labels, W: Sink>(output: &mut Output<W>, labels: &L, circuit: &Circuit)
+fn put_map_block<L: Labels, W: Sink>(output: &mut Output<W>, labels: &L, circuit: &Circuit)
     requires small { FitIntoLiterals (L.label labels.now) }
     requires fits { length circuit.now.inputs + length circuit.now.latches ≤ LARGEST }
     ensures { Put output.old output.new (block_text (block_by (L.label labels.now) circuit.now)) }
@@ -103,19 +103,19 @@ fn put_block<L: Labels, W: Sink>(output: &mut Output<W>, labels: &L, circuit: &C
     put_first_line(output, circuit);
     put_variables(output, circuit.inputs.as_slice());
     put_variables(output, circuit.latches.as_slice());
-    put_gates(output, labels, first_gate, circuit.gates.as_slice());
+    put_gate_rows(output, labels, first_gate, circuit.gates.as_slice());
     output.put(b"aigmap end\n");
 }
 
 /// Puts the comment of the mapped image of such a circuit: the map block, and then what its own
 /// comment holds.
-fn put_comment<L: Labels, W: Sink>(output: &mut Output<W>, labels: &L, circuit: &Circuit)
+fn put_map_comment<L: Labels, W: Sink>(output: &mut Output<W>, labels: &L, circuit: &Circuit)
     requires small { FitIntoLiterals (L.label labels.now) }
     requires fits { length circuit.now.inputs + length circuit.now.latches ≤ LARGEST }
     ensures { Put output.old output.new (mapped_comment
         (block_by (L.label labels.now) circuit.now) circuit.now) }
 {
-    put_block(output, labels, circuit);
+    put_map_block(output, labels, circuit);
     if let Some(comment) = &circuit.comment {
         output.put(comment.as_slice());
     }
@@ -134,7 +134,7 @@ fn write_comment<L: Labels, W: Sink>(
         (W.past sink.old)) }
 {
     let mut output = Output::new(sink);
-    put_comment(&mut output, labels, circuit);
+    put_map_comment(&mut output, labels, circuit);
     let (sent, _sink) = output.finish();
     sent
 }
@@ -176,7 +176,7 @@ fn put_new_gates<W: Sink>(output: &mut Output<W>, first: u32, variables: &[Var],
     requires { length variables.now ≡ length gates.now }
     ensures { (f : ℕ → ℕ) (old : List GateRecord) → AreRelabelled f old variables.now gates.now
         → Put output.old output.new (flat_map
-        (λ g. numbers_text (gate_row (mapped_gate f first g))) old) }
+        (λ g. numbers_text (mapped_row (mapped_gate f first g))) old) }
 {
     for (at, gate) in gates.iter().enumerate() {
         put_gate(output, record_of(first, variables[at], gate));

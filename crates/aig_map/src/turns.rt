@@ -42,7 +42,7 @@ fn ready_from(first: u32, gate: Gate) -> u32
 /// The link of the place behind those that have one. There is none where a position is above the
 /// one there, from the first place on that its gate may have. Going back by links passes over
 /// positions that were compared before.
-fn link(places: &[u32], links: &[u32], ready: u32) -> Option<u32>
+fn next_link(places: &[u32], links: &[u32], ready: u32) -> Option<u32>
     requires few { length places.now ≤ LARGEST }
     requires there { length links.now < length places.now }
     requires are { AreLinks places.now links.now }
@@ -77,7 +77,7 @@ pub(crate) fn are_taken_in_turn(
 {
     let mut links = Vec::with_capacity(alloc, gates.len())?;
     for gate in gates {
-        match link(places, links.as_slice(), ready_from(first, *gate)) {
+        match next_link(places, links.as_slice(), ready_from(first, *gate)) {
             Some(at) => links.push(at)?,
             None => return Ok(false),
         }

@@ -124,7 +124,7 @@ fn put_at_positions(found: &mut [Gate], variables: &SourceVariables, gates: &[Ga
 }
 
 #[inline(always)]
-fn exchanged_if(exchanged: bool, gate: Gate) -> Gate
+fn exchange_if(exchanged: bool, gate: Gate) -> Gate
     ensures { result ≡ exchanged_if exchanged gate }
 {
     Gate {
@@ -154,7 +154,7 @@ fn exchange_recorded(found: &mut [Gate], exchanged: &[bool]) -> bool
         if exchanges_equal(*is_exchanged, &there) {
             return false;
         }
-        found[position] = exchanged_if(*is_exchanged, there);
+        found[position] = exchange_if(*is_exchanged, there);
     }
     true
 }

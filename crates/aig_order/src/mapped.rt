@@ -61,7 +61,7 @@ fn by_numbers(renumbering: Renumbering, circuit: Circuit) -> Circuit
     relabel(renumbering.numbers(), circuit)
 }
 
-fn sorted_with(circuit: Circuit, comment: Listing<u8>) -> Circuit
+fn sort_with_comment(circuit: Circuit, comment: Listing<u8>) -> Circuit
     requires { length circuit.inputs + length circuit.latches + length circuit.gates ≤ LARGEST }
     ensures { result ≡ record (with_operands_sorted circuit) {
       max_var = length circuit.inputs + length circuit.latches + length circuit.gates;
@@ -95,7 +95,7 @@ fn image_in_order(
         drop(new); // for the proof
         return Err(OutOfMemory);
     };
-    Ok(Ordered::from_well_ordered(sorted_with(new, comment)))
+    Ok(Ordered::from_well_ordered(sort_with_comment(new, comment)))
 }
 
 /// The mapped image of a circuit whose gates stand in order; its variables are kept meanwhile.

@@ -4,7 +4,7 @@ ghost use Rattle.std.specs.List.{All, AllZip};
 ghost use Rattle.aig_meaning.specs.Meaning.{Row as RowRecord};
 ghost use Rattle.aig_lanes.specs.Parts.Groups.{Added};
 ghost use Rattle.aig_lanes.specs.Runs.{IsRunOf, IsTraceOf, row_of};
-ghost use Rattle.aig_step.specs.Showing.{IsShown};
+ghost use Rattle.aig_step.specs.Showing.{IsRowShown};
 
 use aig_circuit::{Listing, OutOfMemory, Val};
 use aig_lanes::{FullRow, Run, Trace};
@@ -19,7 +19,7 @@ fn list_of(alloc: Global, values: &[Val]) -> Result<Listing<Val>, AllocError>
 
 /// What a simulator shows, with the inputs of the step, in lists of their own.
 fn full_row(alloc: Global, shown: Row<'_>, given: &Listing<Val>) -> Result<FullRow, AllocError>
-    ensures { IfOk result (λ full. (row : RowRecord) → IsShown shown.entry row
+    ensures { IfOk result (λ full. (row : RowRecord) → IsRowShown shown.entry row
         → row.inputs ≡ given.now
         → row_of full ≡ row) }
 {

@@ -40,7 +40,8 @@ fn trace_group(
 {
     let texts = texts_of(alloc, runs)?;
     let groups = [group_of(alloc, machine.parts().inputs.len(), runs, &texts)?];
-    let mut bench = Bench::new(alloc, machine, Columns::Properties, line_room, &groups)?;
+    let mut lanes = Bench::new(alloc, machine, Columns::Properties, line_room, &groups)?;
+    let bench = &mut lanes;
     bench.step(machine, groups[0].as_slice());
     take_traces(alloc, runs, &bench.shown, &bench.sheet, &mut bench.line)
 }

@@ -29,7 +29,7 @@ fn add_values(text: &mut Listing<u8>, values: &[Val]) -> Result<(), OutOfMemory>
 }
 
 /// The inputs of all steps of a run.
-fn text_of(alloc: Global, run: &Run) -> Result<Listing<u8>, OutOfMemory>
+fn text_of_run(alloc: Global, run: &Run) -> Result<Listing<u8>, OutOfMemory>
     ensures { IfOk result (λ text. text ≡ flat_map values_text run.now.steps) }
 {
     let mut text = Listing::new(alloc);
@@ -45,7 +45,7 @@ pub(crate) fn texts_of(alloc: Global, runs: &[Run]) -> Result<Vec<Listing<u8>>, 
 {
     let mut texts = Vec::with_capacity(alloc, runs.len())?;
     for run in runs {
-        texts.push(text_of(alloc, run)?)?;
+        texts.push(text_of_run(alloc, run)?)?;
     }
     Ok(texts)
 }

@@ -1,6 +1,7 @@
-//! A table of values as bytes: each value with its negation behind it, so that a literal is the place of its own value.
-ghost use Rattle.std.specs.Prelude.{◌≡◌, ◌+◌, ◌-◌, ◌*◌, ◌<◌, ◌≤◌, ◌^◌, [], ◌∷◌, length, slice_set, IfOk};
-ghost use Rattle.std.specs.Prelude.{List, Some, None, false, option_map, true};
+//! A table of values as bytes: each value with its negation behind it, so that a literal is the
+//! place of its own value.
+ghost use Rattle.std.specs.Prelude.{◌≡◌, ◌+◌, ◌-◌, ◌*◌, ◌<◌, ◌≤◌, ◌^◌, [], ◌∷◌, length, slice_set};
+ghost use Rattle.std.specs.Prelude.{IfOk, List, Some, None, false, option_map, true};
 ghost use Rattle.std.specs.List.{All};
 ghost use Rattle.aig_circuit.specs.declared.value.Val.{Val as Value};
 ghost use Rattle.aig_circuit.specs.Values.{value_and};
@@ -8,14 +9,16 @@ ghost use Rattle.aig_meaning.specs.Meaning.{literal_value};
 ghost use Rattle.aig_step.specs.Stimulus.{value_of, values_of};
 ghost use Rattle.aig_step.specs.TraceText.{character_of};
 ghost use Rattle.aig_step.specs.Parts.Cells.{AreCodes, bytes_of_values, values_of_bytes};
-ghost use Rattle.aig_step.specs.Parts.Tables.{IsLiteralBelow, IsPairBelow, evaluated, placed, read_from};
+ghost use Rattle.aig_step.specs.Parts.Tables.{IsLiteralBelow, IsPairBelow, evaluated};
+ghost use Rattle.aig_step.specs.Parts.Tables.{placed, read_from};
 
 use crate::evaluate::Pair;
 use aig_circuit::{Lit, Val};
 use std::alloc::{AllocError, Global};
 use std::marker::Model;
 
-/// A value as a byte, so that the bitwise and of two is the byte of their `and`: 0 for 0, 1 for x, 3 for 1.
+/// A value as a byte, so that the bitwise and of two is the byte of their `and`: 0 for 0, 1 for x,
+/// 3 for 1.
 #[derive(Clone, Copy)]
 pub struct Code {
     byte: u8,
@@ -137,7 +140,7 @@ impl Code {
 /// The value of a literal.
 #[inline(always)]
 #[tactic(auto, using(crate::proofs::Running::Cells::codes_length, crate::proofs::Running::Cells::is_code_at, crate::proofs::Running::Cells::value_at))]
-pub(crate) fn look_up(codes: &[u8], literal: Lit) -> Code
+pub(crate) fn literal_code(codes: &[u8], literal: Lit) -> Code
     requires coded { AreCodes codes.now }
     requires below { IsLiteralBelow (length (values_of_bytes codes.now)) literal }
     ensures { result ≡ literal_value (read_from (values_of_bytes codes.now)) literal }
@@ -147,8 +150,9 @@ pub(crate) fn look_up(codes: &[u8], literal: Lit) -> Code
     }
 }
 
-/// The byte of the value that a character stands for and that of its negation, if it stands for one. Characters come in
-/// no order that could be foreseen, so there is one branch alone, which is the same for all that stand for one.
+/// The byte of the value that a character stands for and that of its negation, if it stands for
+/// one. Characters come in no order that could be foreseen, so there is one branch alone, which is
+/// the same for all that stand for one.
 #[inline(always)]
 fn bytes_of_character(character: u8) -> Option<[u8; 2]>
     ensures { result ≡ option_map (λ v. bytes_of_values (v ∷ [])) (value_of character) }
@@ -160,8 +164,8 @@ fn bytes_of_character(character: u8) -> Option<[u8; 2]>
     Some(STOOD_FOR[place])
 }
 
-/// Puts a value by its byte and that of its negation at the place of a variable. Both are at hand before one is
-/// written, so that they can be written as one.
+/// Puts a value by its byte and that of its negation at the place of a variable. Both are at hand
+/// before one is written, so that they can be written as one.
 #[inline(always)]
 fn put_bytes(codes: &mut [u8], variable: usize, bytes: [u8; 2])
     requires coded { AreCodes codes.old }
@@ -202,7 +206,7 @@ impl Table {
         requires { IsLiteralBelow (length self.now) literal }
         ensures { result ≡ literal_value (read_from self.now) literal }
     {
-        look_up(&self.codes, literal).value()
+        literal_code(&self.codes, literal).value()
     }
 
     /// The byte of the value of a literal.
@@ -211,7 +215,7 @@ impl Table {
         requires { IsLiteralBelow (length self.now) literal }
         ensures { result ≡ literal_value (read_from self.now) literal }
     {
-        look_up(&self.codes, literal)
+        literal_code(&self.codes, literal)
     }
 
     /// Puts a value at the place of a variable.
@@ -237,9 +241,9 @@ impl Table {
         }
     }
 
-    /// Puts the values that characters stand for, from this place on, and answers whether each character stands for
-    /// one.
-    pub(crate) fn place_text(&mut self, first: usize, text: &[u8]) -> bool
+    /// Puts the values that characters stand for, from this place on, and answers whether each
+    /// character stands for one.
+    pub(crate) fn put_characters(&mut self, first: usize, text: &[u8]) -> bool
         requires { first + length text.now ≤ length self.old }
         ensures good { result ≡ true → (given : List Value) × (values_of text.now ≡ Some given)
             × (self.new ≡ placed first given self.old) }
@@ -276,8 +280,8 @@ impl Table {
         let codes: &mut [u8] = &mut self.codes;
         let mut variable = codes.len() / 2 - pairs.len();
         for pair in pairs {
-            let left = look_up(codes, pair.left);
-            let right = look_up(codes, pair.right);
+            let left = literal_code(codes, pair.left);
+            let right = literal_code(codes, pair.right);
             put(codes, variable, left.and(right));
             variable += 1;
         }

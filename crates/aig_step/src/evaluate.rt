@@ -59,8 +59,10 @@ pub(crate) fn show(literals: &[Lit], values: &Table, shown: &mut [Val])
 /// Writes the values of the latches' next literals.
 pub(crate) fn show_next(latches: &[Latch], values: &Table, next: &mut [Code])
     requires room { length next.old ≡ length latches.now }
-    requires below { All (λ (l : LatchRecord). IsLiteralBelow (length values.now) l.next) latches.now }
-    ensures { next.new ≡ map (literal_value (read_from values.now)) (map (λ (l : LatchRecord). l.next) latches.now) }
+    requires below { All (λ (l : LatchRecord). IsLiteralBelow (length values.now) l.next)
+        latches.now }
+    ensures { next.new ≡ map (literal_value (read_from values.now))
+        (map (λ (l : LatchRecord). l.next) latches.now) }
 {
     for i in 0..latches.len() {
         next[i] = values.code(latches[i].next);

@@ -17,8 +17,8 @@ pub enum SimFault {
     OutOfMemory,
     /// The line of this number, counted from 1, is no line of a stimulus of this circuit.
     BadStimulus(u64),
-    /// The line of this number, counted from 1, is not the line that is due in a witness file of this circuit, or it is
-    /// due and missing, or it comes after the last line.
+    /// The line of this number, counted from 1, is not the line that is due in a witness file of
+    /// this circuit, or it is due and missing, or it comes after the last line.
     BadWitness(u64),
     /// The source of the stimulus or of the witness file failed.
     ReadFailed,

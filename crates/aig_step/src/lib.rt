@@ -1,7 +1,8 @@
-//! Single steps of a circuit, and what they are made of: lines of a stimulus, and the line that shows a step.
+//! Single steps of a circuit, and what they are made of: lines of a stimulus, and the line that
+//! shows a step.
 //!
-//! Others call `Simulator` for single steps. The crates of the simulator above this one call `Stepper`, `Machine`,
-//! `Table` and `RowLine`.
+//! Others call `Simulator` for single steps. The crates of the simulator above this one call
+//! `Stepper`, `Machine`, `Table` and `RowLine`.
 //!
 //! The definitions that matter most are `stimulus`, `IsTraceText`, `TraceSays` and `Stepped`.
 #![tactic(auto)]
@@ -23,4 +24,4 @@ pub use crate::machine::Machine;
 pub use crate::simulator::{Row, Simulator, StepError};
 pub use crate::stepper::Stepper;
 pub use crate::stimulus::is_stop;
-pub use crate::trace::{Columns, RowLine, write_text};
+pub use crate::trace::{Columns, RowLine, write_text_column};

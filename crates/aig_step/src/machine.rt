@@ -63,13 +63,14 @@ impl Machine {
     {
         let parts = copy_parts(alloc, circuit)?;
         let Ok(pairs) = pairs_of(alloc, circuit.gates.as_slice()) else {
-            drop(parts);
+            drop(parts); // for the proof
             return Err(OutOfMemory);
         };
         Ok(Machine { parts, pairs })
     }
 
-    /// What runs a circuit: the circuit itself where it is in binary order, and else its binary image.
+    /// What runs a circuit: the circuit itself where it is in binary order, and else its binary
+    /// image.
     pub fn new(alloc: Global, checked: &Checked) -> Result<Self, OutOfMemory>
         ensures { IfOk result (λ m. MeansTheSame checked.now m) }
     {
@@ -79,7 +80,7 @@ impl Machine {
         }
         let image = binary_image(alloc, checked)?;
         let made = Machine::of_ordered(alloc, image.as_checked().circuit());
-        drop(image);
+        drop(image); // for the proof
         made
     }
 

@@ -104,7 +104,7 @@ impl Simulator {
     {
         let stepper = Stepper::new(alloc, checked)?;
         let Ok(shown) = Shown::new(alloc, stepper.machine().parts()) else {
-            drop(stepper);
+            drop(stepper); // for the proof
             return Err(OutOfMemory);
         };
         Ok(Simulator {
@@ -134,7 +134,7 @@ impl Simulator {
     }
 
     /// How many inputs the circuit has.
-    pub fn inputs(&self) -> usize
+    pub fn count_inputs(&self) -> usize
         ensures { result ≡ length self.now.circuit.inputs }
     {
         self.machine().parts().inputs.len()
@@ -171,8 +171,8 @@ impl Simulator {
         self.is_stepped = true;
     }
 
-    /// Takes a step with these inputs, one value for each in the circuit's order. Where the number of values does not
-    /// fit, it takes none, and stays as it was.
+    /// Takes a step with these inputs, one value for each in the circuit's order. Where the number
+    /// of values does not fit, it takes none, and stays as it was.
     pub fn try_step(&mut self, given: &[Val]) -> Result<(), StepError>
         ensures fits { IsOk result ↔ (length given.now ≡ length self.old.circuit.inputs) }
         ensures ok { OnOk result (Stepped self.old self.new given.now) }
@@ -180,7 +180,7 @@ impl Simulator {
             (length self.old.circuit.inputs)) }
         ensures stays { OnErr result (self.new ≡ self.old) }
     {
-        let inputs = self.inputs();
+        let inputs = self.count_inputs();
         if given.len() != inputs {
             return Err(StepError::WrongInputCount {
                 given: given.len(),

@@ -1,5 +1,6 @@
 //! A circuit that is run step by step.
-ghost use Rattle.std.specs.Prelude.{◌≡◌, ◌+◌, List, None, Some, false, length, slice_set, true, IfOk};
+ghost use Rattle.std.specs.Prelude.{◌≡◌, ◌+◌, List, None, Some, false, length, slice_set};
+ghost use Rattle.std.specs.Prelude.{true, IfOk};
 ghost use Rattle.aig_circuit.specs.declared.value.Val.{Val as Value};
 ghost use Rattle.aig_circuit.specs.declared.value.Val.TheVariants.{Zero};
 ghost use Rattle.aig_meaning.specs.Meaning.{IsStepAssignment, MeansTheSame};
@@ -39,7 +40,7 @@ impl Model for Stepper {
 }
 
 /// Places for the value of each variable, and for the state.
-fn make_room(alloc: Global, parts: &Circuit) -> Result<(Table, Vec<Code>), OutOfMemory>
+fn new_values_and_state(alloc: Global, parts: &Circuit) -> Result<(Table, Vec<Code>), OutOfMemory>
     ensures values { IfOk result (λ made. length made.0 ≡ 1 + parts.now.max_var) }
     ensures state { IfOk result (λ made. length made.1.items ≡ length parts.now.latches) }
 {
@@ -55,8 +56,8 @@ impl Stepper {
         ensures reset { IfOk result (λ s. s.state ≡ reset_state s.circuit) }
     {
         let machine = Machine::new(alloc, checked)?;
-        let Ok((values, state)) = make_room(alloc, machine.parts()) else {
-            drop(machine);
+        let Ok((values, state)) = new_values_and_state(alloc, machine.parts()) else {
+            drop(machine); // for the proof
             return Err(OutOfMemory);
         };
         let mut stepper = Stepper {
@@ -103,7 +104,8 @@ impl Stepper {
 
     /// Reads a state, and answers whether the text says one.
     pub fn read_state(&mut self, text: &[u8]) -> bool
-        ensures good { result ≡ true → vector_in (length self.old.circuit.latches) text.now ≡ Some self.new.state }
+        ensures good { result ≡ true
+            → vector_in (length self.old.circuit.latches) text.now ≡ Some self.new.state }
         ensures bad { result ≡ false → vector_in (length self.old.circuit.latches) text.now ≡ None }
         ensures stays { self.new ≡ record self.old { state = self.new.state } }
     {
@@ -113,14 +115,15 @@ impl Stepper {
     /// Evaluates a step, where the table has the values of the constant and of the inputs.
     #[inline(always)]
     fn evaluate_rest(&mut self)
-        ensures assigned { (given table : List Value) → length given ≡ length self.old.circuit.inputs
+        ensures assigned { (given table : List Value)
+            → length given ≡ length self.old.circuit.inputs
             → self.old.values ≡ placed 1 given (slice_set table 0 Zero)
             → IsStepAssignment self.old.circuit self.old.state given (read_from self.new.values) }
         ensures stays { self.new ≡ record self.old { values = self.new.values } }
     {
         let parts = self.machine.parts();
         // That there are not too many inputs to count one more is known by this read.
-        let _largest = parts.max_var;
+        let _largest = parts.max_var; // for the proof
         self.values.put_codes(1 + parts.inputs.len(), &self.state);
         self.values.evaluate(self.machine.pairs());
     }
@@ -131,7 +134,7 @@ impl Stepper {
         ensures { Evaluated self.old self.new given.now }
     {
         // That the table has room for the inputs is known by this call.
-        let _parts = self.machine.parts();
+        let _parts = self.machine.parts(); // for the proof
         self.values.put(0, Val::Zero);
         put_values(1, given, &mut self.values);
         self.evaluate_rest();
@@ -141,7 +144,8 @@ impl Stepper {
     #[inline(always)]
     pub fn evaluate_text(&mut self, text: &[u8]) -> bool
         ensures good { result ≡ true → (given : List Value)
-            × (vector_in (length self.old.circuit.inputs) text.now ≡ Some given) × Evaluated self.old self.new given }
+            × (vector_in (length self.old.circuit.inputs) text.now ≡ Some given)
+            × Evaluated self.old self.new given }
         ensures bad { result ≡ false → vector_in (length self.old.circuit.inputs) text.now ≡ None }
         ensures stays { self.new ≡ record self.old { values = self.new.values } }
     {
@@ -149,7 +153,7 @@ impl Stepper {
             return false;
         }
         self.values.put(0, Val::Zero);
-        if !self.values.place_text(1, text) {
+        if !self.values.put_characters(1, text) {
             return false;
         }
         self.evaluate_rest();

@@ -8,7 +8,7 @@ ghost use Rattle.aig_step.specs.Parts.Lines.{line_size, row_read};
 ghost use Rattle.aig_step.specs.Parts.Stepping.{in_next_state, row_of};
 ghost use Rattle.aig_step.specs.Parts.Tables.{IsLiteralBelow, read_from};
 
-use crate::cells::{Code, Table, look_up};
+use crate::cells::{Code, Table, literal_code};
 use crate::stepper::Stepper;
 use aig_circuit::Lit;
 use aig_io::Line;
@@ -42,23 +42,26 @@ fn write_literals(line: &mut [u8], at: usize, values: &Table, literals: &[Lit]) 
     requires below { All (IsLiteralBelow (length values.now)) literals.now }
     ensures end { result ≡ at + length literals.now }
     ensures text { take result line.new
-        ≡ take at line.old ++ values_text (map (literal_value (read_from values.now)) literals.now) }
+        ≡ take at line.old
+        ++ values_text (map (literal_value (read_from values.now)) literals.now) }
 {
     let codes = values.codes();
     for i in 0..literals.len() {
-        line[at + i] = look_up(codes, literals[i]).character();
+        line[at + i] = literal_code(codes, literals[i]).character();
     }
     at + literals.len()
 }
 
-/// Writes a space and the characters of the values of literals, as `write_values` writes those of values.
+/// Writes a space and the characters of the values of literals, as `write_values` writes those of
+/// values.
 #[inline(always)]
 fn write_column(line: &mut [u8], at: usize, values: &Table, literals: &[Lit]) -> usize
     requires room { at + 1 + length literals.now ≤ length line.old }
     requires below { All (IsLiteralBelow (length values.now)) literals.now }
     ensures end { result ≡ at + 1 + length literals.now }
     ensures text { take result line.new
-        ≡ take at line.old ++ (codes " " ++ values_text (map (literal_value (read_from values.now)) literals.now)) }
+        ≡ take at line.old
+        ++ (codes " " ++ values_text (map (literal_value (read_from values.now)) literals.now)) }
 {
     line[at] = b' ';
     write_literals(line, at + 1, values, literals)
@@ -66,7 +69,7 @@ fn write_column(line: &mut [u8], at: usize, values: &Table, literals: &[Lit]) ->
 
 /// Writes a space and a text, as `write_values` writes values.
 #[inline(always)]
-pub fn write_text(line: &mut [u8], at: usize, text: &[u8]) -> usize
+pub fn write_text_column(line: &mut [u8], at: usize, text: &[u8]) -> usize
     requires { at + 1 + length text.now ≤ length line.old }
     ensures end { result ≡ at + 1 + length text.now }
     ensures text { take result line.new ≡ take at line.old ++ (codes " " ++ text.now) }
@@ -77,12 +80,16 @@ pub fn write_text(line: &mut [u8], at: usize, text: &[u8]) -> usize
     end
 }
 
-/// Writes the columns of bad states and constraints, where they are asked for, as `write_values` writes values.
+/// Writes the columns of bad states and constraints, where they are asked for, as `write_values`
+/// writes values.
 #[inline(always)]
 fn write_properties(line: &mut [u8], at: usize, columns: Columns, stepper: &Stepper) -> usize
-    requires room { at + length stepper.now.circuit.bad + length stepper.now.circuit.constraints + 2 ≤ length line.old }
-    ensures end { result ≤ at + length stepper.now.circuit.bad + length stepper.now.circuit.constraints + 2 }
-    ensures text { (state inputs : List Value) → take result line.new ≡ take at line.old ++ properties_text columns
+    requires room { at + length stepper.now.circuit.bad + length stepper.now.circuit.constraints + 2
+        ≤ length line.old }
+    ensures end { result
+        ≤ at + length stepper.now.circuit.bad + length stepper.now.circuit.constraints + 2 }
+    ensures text { (state inputs : List Value)
+        → take result line.new ≡ take at line.old ++ properties_text columns
         (row_read stepper.now.circuit state inputs (read_from stepper.now.values)) }
 {
     let values = stepper.values();
@@ -118,7 +125,7 @@ impl<'a> Line for RowLine<'a> {
     #[inline(always)]
     fn write(&self, stepper: &mut Stepper, line: &mut [u8], at: usize) -> usize {
         let end = write_values(line, at, stepper.state());
-        let end = write_text(line, end, self.inputs);
+        let end = write_text_column(line, end, self.inputs);
         let outputs = stepper.machine().parts().outputs.as_slice();
         let end = write_column(line, end, stepper.values(), outputs);
         stepper.enter_next_state();

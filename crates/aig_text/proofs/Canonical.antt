@@ -177,8 +177,8 @@ rows_are_good (r ∷ rows) h = (number_line_is_good r.form.least r.numbers h.0.s
 -- The canonical text of a well-formed circuit is its file.
 
 -- a row of entries, each of which a file can tell
-pub entries_full : {X : Type 0} (P : X → Type 0) (form : Form) (of : X → List ℕ) → ((x : X) → P x → IsFullRow (row form (of x)))
-    → (xs : List X) → AllByRecursion P xs → AllByRecursion IsFullRow (map (row form) (map of xs))
+pub entries_full : {X : Type 0} (P : X → Type 0) (form : Form) (of : X → List ℕ)
+    → ((x : X) → P x → IsFullRow (row form (of x))) → (xs : List X) → AllByRecursion P xs → AllByRecursion IsFullRow (map (row form) (map of xs))
 entries_full P form of full [] h = tt
 entries_full P form of full (x ∷ xs) h = (full x h.0, entries_full P form of full xs h.1)
 
@@ -210,13 +210,9 @@ module _ (c : Circuit) (form : IsInForm c) where
   section_full : (s : Section) → AllByRecursion IsFullRow (map (row (in_ascii s).form) ((in_ascii s).rows c))
   section_full Inputs = search (rules, entries_full, inputs_up_to)
   section_full Latches = search (rules, entries_full, latches_up_to, small_reset)
-  section_full Outputs = literals_full c.outputs (in_range c form).literals.0
-  section_full Bad = literals_full c.bad (in_range c form).literals.1.0
-  section_full Constraints = literals_full c.constraints (in_range c form).literals.1.1.0
   section_full JusticeSizes = search (rules, entries_full, full_size, each_in_sum, sizes_are_small)
-  section_full JusticeLiterals = literals_full c.justice.literals (in_range c form).literals.1.1.1.0
-  section_full Fairness = literals_full c.fairness (in_range c form).literals.1.1.1.1.0
   section_full Gates = search (rules, entries_full, gates_up_to)
+  section_full s = let literals = (in_range c form).literals in search (rules, literals_full)
 
   -- the rows of these sections, as an ASCII file lists them
   sections_full : (ss : List Section) → AllByRecursion IsFullRow (rows_in in_ascii ss c)

@@ -104,6 +104,8 @@ no_less least end ns low high is = search (rules, last_is_left)
 pub all_needed : (least end : ℕ) (ns : List ℕ) → end ≤ least → shortened least (take end ns) ≡ take end ns
 all_needed least end ns low = needed_are_left least (take end ns) (simp length-take (omega arith))
 
+pub ruleset shortening = (one_less, no_less, all_needed)
+
 -- The parts of a text, one after another.
 
 -- numbers after spaces, and the line feed

@@ -51,7 +51,7 @@ abbrev pub IsMissing : Progress → Ahead → Type 0
 IsMissing p at = (0 < p.due.count) × (at.lines ≡ [])
 
 -- it stands at a section, and what it holds is within the limits of the header
-pub record IsWithin (h : Header) (p : Progress) : Type 0 where
+pub record IsWithinHeader (h : Header) (p : Progress) : Type 0 where
   pub place : p.section < length sections
   pub small : p.due.carried + 2 * p.due.count ≤ 2 ^ 34
   pub sizes : sum p.circuit.justice.sizes ≤ h.limit
@@ -76,7 +76,7 @@ rest_of r ls = do
 
 -- the header is within the limits, and what is held is within those of the header
 abbrev pub IsValid : Result Header ReadFault → Progress → Type 0
-IsValid (Ok h) p = (h.max_var ≤ largest_index) × (h.limit ≤ largest_index) × IsWithin h p
+IsValid (Ok h) p = (h.max_var ≤ largest_index) × (h.limit ≤ largest_index) × IsWithinHeader h p
 IsValid (Err fault) p = ⊤
 
 -- what was to be read is what is to be read, unless memory was refused

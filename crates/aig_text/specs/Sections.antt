@@ -47,58 +47,43 @@ with_sizes sizes c = record c { justice = record { sizes = sizes; literals = c.j
 abbrev pub with_justice_literals : List ℕ → Circuit → Circuit
 with_justice_literals literals c = record c { justice = record { sizes = c.justice.sizes; literals = literals } }
 
--- a section of literals, one on each line, where a circuit has this list of them and another one makes it this circuit
-abbrev pub literals_listed : (Header → Circuit → ℕ) → (Circuit → List ℕ) → (List ℕ → Circuit → Circuit) → Listed
-literals_listed count list with_list = record {
-  form = literal_form;
+-- a section of entries, where these are the row of each and what a row tells, and a circuit has this list of them and
+-- another one makes it this circuit
+abbrev pub entries_listed : {X : Type 0} → Form → (X → List ℕ) → (List ℕ → X) → (Header → Circuit → ℕ)
+    → (Circuit → List X) → (List X → Circuit → Circuit) → Listed
+entries_listed form row_of_entry entry_of count list with_list = record {
+  form = form;
   bound = λ h. h.max_var;
   start = λ h c. 0;
   count = count;
-  rows = λ c. map literal_row (list c);
-  with_rows = λ h rows c. with_list (list c ++ map literal_in rows) c;
+  rows = λ c. map row_of_entry (list c);
+  with_rows = λ h rows c. with_list (list c ++ map entry_of rows) c;
 }
+
+-- a section of literals, one on each line
+abbrev pub literals_listed : (Header → Circuit → ℕ) → (Circuit → List ℕ) → (List ℕ → Circuit → Circuit) → Listed
+literals_listed = entries_listed literal_form literal_row literal_in
 
 -- each section in an ASCII file
 abbrev pub in_ascii : Section → Listed
-in_ascii Inputs = record {
-  form = input_form;
-  bound = λ h. h.max_var;
-  start = λ h c. 0;
-  count = λ h c. h.inputs;
-  rows = λ c. map input_row c.inputs;
-  with_rows = λ h rows c. record c { inputs = c.inputs ++ map input_of rows };
-}
-in_ascii Latches = record {
-  form = latch_form;
-  bound = λ h. h.max_var;
-  start = λ h c. 0;
-  count = λ h c. h.latches;
-  rows = λ c. map latch_row c.latches;
-  with_rows = λ h rows c. record c { latches = c.latches ++ map latch_of rows };
-}
+in_ascii Inputs =
+    entries_listed input_form input_row input_of (λ h c. h.inputs) (λ c. c.inputs) (λ vs c. record c { inputs = vs })
+in_ascii Latches =
+    entries_listed latch_form latch_row latch_of (λ h c. h.latches) (λ c. c.latches) (λ ls c. record c { latches = ls })
 in_ascii Outputs = literals_listed (λ h c. h.outputs) (λ c. c.outputs) (λ ls c. record c { outputs = ls })
 in_ascii Bad = literals_listed (λ h c. h.bad) (λ c. c.bad) (λ ls c. record c { bad = ls })
 in_ascii Constraints =
     literals_listed (λ h c. h.constraints) (λ c. c.constraints) (λ ls c. record c { constraints = ls })
-in_ascii JusticeSizes = record {
-  form = size_form;
-  bound = λ h. h.limit;
-  start = λ h c. sum c.justice.sizes;
-  count = λ h c. h.justice;
-  rows = λ c. map size_row c.justice.sizes;
-  with_rows = λ h rows c. with_sizes (c.justice.sizes ++ map size_of rows) c;
-}
+in_ascii JusticeSizes =
+    record (entries_listed size_form size_row size_of (λ h c. h.justice) (λ c. c.justice.sizes) with_sizes) {
+      bound = λ h. h.limit;
+      start = λ h c. sum c.justice.sizes;
+    }
 in_ascii JusticeLiterals =
     literals_listed (λ h c. sum c.justice.sizes) (λ c. c.justice.literals) with_justice_literals
 in_ascii Fairness = literals_listed (λ h c. h.fairness) (λ c. c.fairness) (λ ls c. record c { fairness = ls })
-in_ascii Gates = record {
-  form = gate_form;
-  bound = λ h. h.max_var;
-  start = λ h c. 0;
-  count = λ h c. h.gates;
-  rows = λ c. map gate_row c.gates;
-  with_rows = λ h rows c. record c { gates = c.gates ++ map gate_of rows };
-}
+in_ascii Gates =
+    entries_listed gate_form gate_row gate_of (λ h c. h.gates) (λ c. c.gates) (λ gs c. record c { gates = gs })
 
 -- a section without lines
 abbrev pub no_lines : Listed

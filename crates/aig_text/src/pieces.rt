@@ -9,7 +9,7 @@ ghost use Rattle.aig_lines.specs.Lines.{ahead, lines_of, with_lines};
 ghost use Rattle.aig_rows.specs.Outcomes.{GivesOrMemory};
 ghost use Rattle.aig_rows.specs.Reading.{want_of_memory};
 ghost use Rattle.aig_text.specs.Sections.{in_ascii, sections};
-ghost use Rattle.aig_text.specs.Begun.{IsDone, IsMissing, IsValid, IsWithin};
+ghost use Rattle.aig_text.specs.Begun.{IsDone, IsMissing, IsValid, IsWithinHeader};
 ghost use Rattle.aig_text.specs.Begun.{ReadsOn, header_then, rest_of};
 ghost use Rattle.aig_text.specs.Begun.{sections_from};
 ghost use Rattle.aig_text.specs.Reading.{circuit_at, empty_circuit, sections_at};
@@ -38,7 +38,7 @@ impl Progress {
     pub(crate) fn new(alloc: Global, header: &Header) -> Self
         ensures from { (at : Ahead) → sections_from header.now result at
             ≡ sections_at in_ascii header.now sections (empty_circuit header.now.max_var) at }
-        ensures within { IsWithin header.now result }
+        ensures within { IsWithinHeader header.now result }
     {
         let circuit = empty_circuit(alloc, header.max_var);
         let due = section_rows(SECTIONS[0], header, &circuit);
@@ -74,8 +74,8 @@ impl Progress {
     pub(crate) fn read_lines(&mut self, header: &Header, at: &mut Cursor) -> Result<(), ReadFault>
         requires max_var { header.now.max_var ≤ largest_index }
         requires limit { header.now.limit ≤ largest_index }
-        requires within { IsWithin header.now self.old }
-        ensures within { OnOk result (IsWithin header.now self.new) }
+        requires within { IsWithinHeader header.now self.old }
+        ensures within { OnOk result (IsWithinHeader header.now self.new) }
         ensures on { OnOk result ((more : List Line)
             → sections_from header.now self.old (with_lines at.old more)
             ≡ sections_from header.now self.new (with_lines at.new more)) }
@@ -103,7 +103,7 @@ impl Progress {
     pub(crate) fn finish(self, header: &Header, at: &mut Cursor) -> Result<Circuit, ReadFault>
         requires max_var { header.now.max_var ≤ largest_index }
         requires limit { header.now.limit ≤ largest_index }
-        requires within { IsWithin header.now self }
+        requires within { IsWithinHeader header.now self }
         ensures { GivesOrMemory (λ c. (c, at.new)) result (sections_from header.now self at.old) }
     {
         let mut progress = self;

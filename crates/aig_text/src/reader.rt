@@ -43,7 +43,7 @@ pub fn empty_circuit(alloc: Global, max_var: u32) -> Circuit
 }
 
 /// Definitions and uses are not checked here.
-fn read_circuit(alloc: Global, bytes: &[u8], limits: Limits) -> Result<Circuit, ReadFault>
+fn read_unchecked(alloc: Global, bytes: &[u8], limits: Limits) -> Result<Circuit, ReadFault>
     ensures { GivesOrMemory (λ c. c) result (circuit_at limits.max_var (lines_of bytes.now)) }
 {
     let mut at = Cursor::new(bytes);
@@ -109,6 +109,6 @@ pub fn read_ascii_keeping(
     ensures fault { IfErr result (λ e. IsFirstFault e
         (first_ascii_fault limits.max_var bytes.now)) }
 {
-    let circuit = read_circuit(alloc, bytes, limits)?;
+    let circuit = read_unchecked(alloc, bytes, limits)?;
     check_read(alloc, circuit, keep)
 }

@@ -146,7 +146,7 @@ fn read_symbol<'a>(
     })
 }
 
-fn put_comment(alloc: Global, circuit: &mut Circuit, bytes: &[u8]) -> Result<(), ReadFault>
+fn add_comment(alloc: Global, circuit: &mut Circuit, bytes: &[u8]) -> Result<(), ReadFault>
     ensures ok { OnOk result (circuit.new ≡ with_comment circuit.old bytes.now) }
     ensures err { IfErr result (λ e. e ≡ want_of_memory) }
 {
@@ -155,7 +155,7 @@ fn put_comment(alloc: Global, circuit: &mut Circuit, bytes: &[u8]) -> Result<(),
 }
 
 #[inline(always)]
-fn is_padded(text: &[u8]) -> bool
+fn is_position_padded(text: &[u8]) -> bool
     ensures { result ≡ is_padded (drop 1 text.now) }
 {
     match text {
@@ -177,7 +177,7 @@ fn put_symbol(
     ensures ok { OnOk result (circuit.new ≡ with_symbol circuit.old symbol.now) }
     ensures err { IfErr result (λ e. e ≡ want_of_memory) }
 {
-    if line.ended && !is_padded(line.text) {
+    if line.ended && !is_position_padded(line.text) {
         circuit.symbols.push_line(symbol, bytes)?;
     } else {
         circuit.symbols.push(symbol)?;
@@ -200,7 +200,7 @@ fn read_tail_lines(
     let mut number = at.number;
     while let Some((line, after)) = split_line(rest) {
         if is_comment_line(line) {
-            return put_comment(alloc, circuit, after);
+            return add_comment(alloc, circuit, after);
         }
         let symbol = read_symbol(header, names, line, number)?;
         let (bytes, _) = rest.split_at(rest.len() - after.len());

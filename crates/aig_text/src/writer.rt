@@ -75,7 +75,7 @@ pub fn put_numbers<W: Sink>(output: &mut Output<W>, first: u64, others: &[u64])
 
 /// The numbers that are written of these: all up to the last that is not 0, and at least so many.
 #[inline(always)]
-#[tactic(auto, using(crate::proofs::Written::one_less, crate::proofs::Written::no_less, crate::proofs::Written::all_needed))]
+#[tactic(auto, using(crate::proofs::Written::shortening))]
 fn shorten(numbers: &[u64], least: usize) -> &[u64]
     ensures { result.now ≡ shortened least numbers.now }
 {

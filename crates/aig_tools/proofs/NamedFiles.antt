@@ -37,8 +37,11 @@ module _ (name : List ℕ) (lender : ℕ) (files files_now : Files) (past : Past
       rw is at (used_is name lender files files_now past Left idle (rw is refl)
       (shown.used (rw is refl) (rw is refl) (rw is (omega arith))))
   read_as bytes Broken is =
-      let failed = shown.failed (rw is (omega arith)) in
-      (failed.0, rw is at failed.1, rw is at (used_is name lender files files_now past failed.0 idle (rw is refl) failed.2))
+      let failed = shown.failed (rw is (omega arith)) in (
+        failed.0,
+        rw is at failed.1,
+        rw is at (used_is name lender files files_now past failed.0 idle (rw is refl) failed.2),
+      )
 
 module _ (Says : List ℕ → Ending → Type 0) (source : Option (List ℕ)) (files : Files) (input output : Past) where
   pub of_stream : (input_now : Past) → source ≡ None → Read Says input input_now
@@ -230,8 +233,12 @@ module _ (IsText : List ℕ → List ℕ → Type 0) (IsRefused : ToolFault → 
       → Says IsText IsRefused (Err fault) bytes ending [] NotSent
   says_unsent (faults.Read f) bytes ending none = (none, refl)
   says_unsent (faults.Map f) bytes ending none = (none, refl)
+  says_unsent faults.HasBad bytes ending none = (none, refl)
   says_unsent (faults.Sim f) bytes ending none = (none, refl)
+  says_unsent (faults.NoBad number) bytes ending none = (none, refl)
   says_unsent (faults.Unroll f) bytes ending none = (none, refl)
+  says_unsent (faults.Clauses f) bytes ending none = (none, refl)
+  says_unsent (faults.Answer f) bytes ending none = (none, refl)
   says_unsent faults.Source bytes ending none = (none, refl)
   says_unsent faults.Sink bytes ending none = absurd none
   says_unsent faults.OutOfMemory bytes ending none = (none, refl)

@@ -1,5 +1,6 @@
 -- What is written where a simulation is done.
-use Rattle.std.proofs.Common.{◌≡◌, ℕ, List, Bool, true, false, Option, None, Some, Ok, MatchBool, ap, if◌then◌else◌, refl, ◌∙◌, ◌++◌}
+use Rattle.std.proofs.Common.{◌≡◌, ℕ, List, Bool, true, false, Option, None, Some, Ok, MatchBool, ap, if◌then◌else◌}
+use Rattle.std.proofs.Common.{refl, ◌∙◌, ◌++◌}
 use Rattle.aig_io.specs.Devices.{Past, took}
 use Rattle.aig_io.specs.Runs.{All, AtEnd, Ending, Ran, Read, Taking}
 use Rattle.aig_io.proofs.Runs.{read_weaker}

@@ -1,10 +1,12 @@
 -- How a call of the program ends: its status, and what it did with files and streams (this project's profile).
 use Rattle.std.specs.Prelude.{◌≡◌, ◌⊎◌, ℕ, List, Option, None, Some, Result, Ok, Err, codes, string_bytes}
 use Rattle.aig_io.specs.Devices.{Past, TookBeginning, took}
-use Rattle.aig_io.specs.Runs.{Ending, Taking}
+use Rattle.aig_io.specs.Runs.{AtEnd, Ending, Taking}
+use Rattle.aig_circuit.specs.declared.circuit.Circuit.{Circuit}
 use Rattle.aig_command.specs.Answer.{IsCommand, IsUsage, name_of}
 use Rattle.aig_command.specs.declared.request.Command.{Command}
 use Rattle.aig_command.specs.declared.request.Command.TheVariants as commands
+use Rattle.aig_command.specs.declared.request.Reach.{Reach}
 use Rattle.aig_command.specs.declared.request.Sim.{Sim}
 use Rattle.aig_command.specs.declared.usage.Usage.{Usage}
 use Rattle.aig_command.specs.declared.usage.Usage.TheVariants as usages
@@ -14,8 +16,11 @@ use Rattle.aig_engines.specs.declared.fault.ToolFault.{ToolFault}
 use Rattle.aig_engines.specs.Outcome.{Says}
 use Rattle.aig_engines.specs.Conversion.{IsConversionRefused, IsConversionText}
 use Rattle.aig_engines.specs.Unrolling.{IsUnrollingRefused, IsUnrollingText}
-use Rattle.aig_engines.specs.Messages.{error_line, line_of, IsReported, simulation_error_line, usage_text}
-use Rattle.aig_tools.specs.Named.{RanBetween, World}
+use Rattle.aig_engines.specs.Messages.{error_line, line_naming, line_of, IsReported, shown, simulation_error_line}
+use Rattle.aig_engines.specs.Messages.{usage_text}
+use Rattle.aig_engines.specs.Reaching.{IsModelAsked, IsModelRefused, IsReachRefused, IsReachText}
+use Rattle.aig_engines.specs.Reading.{NotRead}
+use Rattle.aig_tools.specs.Named.{RanBetween, ReadIn, World}
 use Rattle.aig_tools.specs.SimulationOutcome.{RanForIn, TaskSays, task_of}
 
 -- what is answered to the words
@@ -48,6 +53,17 @@ abbrev pub EndsBetween : (Result (Unit {0}) ToolFault → List ℕ → Ending �
 EndsBetween Says source destination before after errors errors_now status =
     (answer : Result (Unit {0}) ToolFault) × RanBetween (Says answer) source destination before after
     × AnswerEnds (λ done. 0) (error_line source destination) answer errors errors_now status
+
+-- A witness was asked for: the model was not read or has no clauses, which is reported, and nothing else was called; or
+-- this circuit was asked of it, and an answer on its clauses was read.
+abbrev pub ReachEnds : Reach → (before after : World) (errors errors_now : Past) → ℕ → Type 0
+ReachEnds request before after errors errors_now status =
+    ((fault : ToolFault) × ReadIn (NotRead (IsModelRefused request) fault) (name_of request.model) before after
+    × (status ≡ 1) × IsReported errors errors_now (line_naming (shown (name_of request.model)) fault))
+    ⊎ ((asked : Circuit) × (read : World)
+    × ReadIn (λ bytes ending. (ending ≡ AtEnd) × IsModelAsked request bytes asked) (name_of request.model) before read
+    × EndsBetween (Says (IsReachText request asked) (IsReachRefused request asked)) (name_of request.answer)
+    (name_of request.destination) read after errors errors_now status)
 
 -- a simulation was asked for, or a verdict on a witness file
 abbrev pub SimulationEnds : Sim → (before after : World) (errors errors_now : Past) → ℕ → Type 0
@@ -82,6 +98,8 @@ EndsAs (Ok (commands.ToAig request)) before after errors errors_now status =
 EndsAs (Ok (commands.Unroll request)) before after errors errors_now status =
     EndsBetween (Says (IsUnrollingText request) (IsUnrollingRefused request)) (name_of request.source)
     (name_of request.destination) before after errors errors_now status
+EndsAs (Ok (commands.Reach request)) before after errors errors_now status =
+    ReachEnds request before after errors errors_now status
 EndsAs (Ok (commands.Sim request)) before after errors errors_now status =
     SimulationEnds request before after errors errors_now status
 EndsAs (Ok (commands.Help text)) before after errors errors_now status =

@@ -15,10 +15,6 @@ pub record World : Type 0 where
 abbrev pub world : Files → Past → Past → World
 world files input output = record { files = files; input = input; output = output }
 
--- nothing was done with files yet
-abbrev pub no_files : Files
-no_files = record { uses = []; current = None }
-
 -- the files after one more use of them
 abbrev pub with_use : List ℕ → List ℕ → End → Files → Files
 with_use name bytes end files = record files { uses = used name bytes end ∷ files.uses }

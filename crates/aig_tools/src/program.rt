@@ -1,19 +1,19 @@
 //! What the program does with its arguments.
 ghost use Rattle.std.specs.Prelude.{◌≡◌, ◌≤◌, None};
 ghost use Rattle.aig_io.specs.Devices.{CanFail};
-ghost use Rattle.aig_io.specs.Files.{Files as UsedFiles};
-ghost use Rattle.aig_command.specs.Answer.{texts};
+ghost use Rattle.aig_command.specs.Answer.{CanReach, texts};
 ghost use Rattle.aig_engines.specs.Outcome.{Says};
 ghost use Rattle.aig_engines.specs.Messages.{memory_line, IsReported, usage_text, words_line};
-ghost use Rattle.aig_tools.specs.Ending.{done_status, Ends, EndsBetween, IsPrinted, SimulationEnds, status_of};
-ghost use Rattle.aig_tools.specs.Named.{no_files, world};
+ghost use Rattle.aig_tools.specs.Ending.{done_status, Ends, EndsBetween, IsPrinted};
+ghost use Rattle.aig_tools.specs.Ending.{ReachEnds, SimulationEnds, status_of};
+ghost use Rattle.aig_tools.specs.Named.{world};
 
-use crate::named::{run_between, run_model};
-use aig_command::{Command, Sim, Usage, command};
+use crate::named::{read_model_asked, run_between, run_model};
+use aig_command::{Command, Reach, Sim, Usage, command};
 use aig_core::{Output, Sink, Source};
 use aig_engines::{
-    Engine, report_error, report_memory, report_simulation_error, report_unwritten, report_usage,
-    report_words,
+    AnswerFor, Engine, report_error, report_memory, report_simulation_error, report_source_error,
+    report_unwritten, report_usage, report_words,
 };
 use aig_files::{FileAccess, HostFiles};
 use aig_witness::Verdict;
@@ -29,8 +29,10 @@ const FAILED: u8 = 1;
 /// Refused arguments.
 const REFUSED: u8 = 2;
 
-/// Does what a request asks for that names one source and one destination, reports a fault, and answers the status.
-// Not built into its caller, on whose stack its blocks would stand under a simulation too. Nor are others below.
+/// Does what a request asks for that names one source and one destination, reports a fault, and
+/// answers the status.
+// Not built into its caller, on whose stack its blocks would stand under a simulation too. Nor are
+// others below.
 #[inline(never)]
 fn run_reporting<T: Engine, A: FileAccess, R: Source, W: Sink, E: Sink>(
     alloc: Global,
@@ -61,7 +63,45 @@ fn run_reporting<T: Engine, A: FileAccess, R: Source, W: Sink, E: Sink>(
     }
 }
 
-/// The status where what was asked for is done. That a witness is not confirmed is an answer, but no success.
+/// Reads a model and a solver's answer on its clauses, writes the witness in it, reports a fault,
+/// and answers the status.
+#[inline(never)]
+fn run_reach<A: FileAccess, R: Source, W: Sink, E: Sink>(
+    alloc: Global,
+    access: &mut A,
+    request: Reach,
+    input: &mut R,
+    output: &mut W,
+    errors: &mut E,
+) -> u8
+    requires input { CanFail (R.past input.old) }
+    requires output { CanFail (W.past output.old) }
+    requires errors { CanFail (E.past errors.old) }
+    requires idle { (A.files access.old).current ≡ None }
+    requires can_reach { CanReach request }
+    ensures idle { (A.files access.new).current ≡ None }
+    ensures ends { ReachEnds request
+        (world (A.files access.old) (R.past input.old) (W.past output.old))
+        (world (A.files access.new) (R.past input.new) (W.past output.new))
+        (E.past errors.old) (E.past errors.new) result }
+{
+    match read_model_asked(alloc, access, &request, input) {
+        Ok(asked) => {
+            let answer = AnswerFor { request, asked };
+            let status = run_reporting(alloc, access, &answer, input, output, errors);
+            drop(answer); // for the proof
+            status
+        }
+        Err(fault) => {
+            report_source_error(errors, &request.model, &fault);
+            drop(request); // for the proof
+            FAILED
+        }
+    }
+}
+
+/// The status where what was asked for is done. That a witness is not confirmed is an answer, but
+/// no success.
 fn done_status(verdict: Option<Verdict>) -> u8
     ensures { result ≡ done_status verdict }
 {
@@ -132,9 +172,10 @@ fn refuse<E: Sink>(errors: &mut E, usage: &Usage) -> u8
     }
 }
 
-/// Does what the arguments ask for, the program's name first, over the three streams and the files that they name, and
-/// answers the status: 0 done; 1 refused input, a witness that is not confirmed, a device that failed or out of memory;
-/// 2 refused words. An error is reported on `errors`; whether `errors` takes that changes nothing.
+/// Does what the arguments ask for, the program's name first, over the three streams and the files
+/// that they name, and answers the status: 0 done; 1 refused input, a witness that is not
+/// confirmed, a device that failed or out of memory; 2 refused words. An error is reported on
+/// `errors`; whether `errors` takes that changes nothing.
 pub fn serve<A: FileAccess, R: Source, W: Sink, E: Sink>(
     access: &mut A,
     alloc: Global,
@@ -148,7 +189,8 @@ pub fn serve<A: FileAccess, R: Source, W: Sink, E: Sink>(
     requires errors { CanFail (E.past errors.old) }
     requires idle { (A.files access.old).current ≡ None }
     ensures idle { (A.files access.new).current ≡ None }
-    ensures ends { Ends (texts words.now) (world (A.files access.old) (R.past input.old) (W.past output.old))
+    ensures ends { Ends (texts words.now)
+        (world (A.files access.old) (R.past input.old) (W.past output.old))
         (world (A.files access.new) (R.past input.new) (W.past output.new))
         (E.past errors.old) (E.past errors.new) result }
     ensures status { result ≤ 2 }
@@ -160,6 +202,7 @@ pub fn serve<A: FileAccess, R: Source, W: Sink, E: Sink>(
         Ok(Command::Unroll(request)) => {
             run_reporting(alloc, access, &request, input, output, errors)
         }
+        Ok(Command::Reach(request)) => run_reach(alloc, access, request, input, output, errors),
         Ok(Command::Sim(request)) => {
             run_simulation(alloc, access, &request, input, output, errors)
         }
@@ -170,8 +213,8 @@ pub fn serve<A: FileAccess, R: Source, W: Sink, E: Sink>(
 }
 
 /// As `serve`, over the files of the runtime.
-pub fn start<T: Files, R: Source, W: Sink, E: Sink>(
-    rt: &T,
+pub fn start<'a, T: Files, R: Source, W: Sink, E: Sink>(
+    files: &mut HostFiles<'a, T>,
     alloc: Global,
     words: &[String],
     input: &mut R,
@@ -181,12 +224,15 @@ pub fn start<T: Files, R: Source, W: Sink, E: Sink>(
     requires input { CanFail (R.past input.old) }
     requires output { CanFail (W.past output.old) }
     requires errors { CanFail (E.past errors.old) }
-    ensures ends { (files : UsedFiles) × Ends (texts words.now) (world no_files (R.past input.old) (W.past output.old))
-        (world files (R.past input.new) (W.past output.new)) (E.past errors.old) (E.past errors.new) result }
+    requires idle { (⟦<HostFiles<'a, T> as FileAccess>⟧.files files.old).current ≡ None }
+    ensures idle { (⟦<HostFiles<'a, T> as FileAccess>⟧.files files.new).current ≡ None }
+    ensures ends { Ends (texts words.now)
+        (world (⟦<HostFiles<'a, T> as FileAccess>⟧.files files.old) (R.past input.old) (W.past output.old))
+        (world (⟦<HostFiles<'a, T> as FileAccess>⟧.files files.new) (R.past input.new) (W.past output.new))
+        (E.past errors.old) (E.past errors.new) result }
     ensures status { result ≤ 2 }
 {
-    let mut files = HostFiles::new(rt);
-    serve(&mut files, alloc, words, input, output, errors)
+    serve(files, alloc, words, input, output, errors)
 }
 
 /// Reports that an argument is no text, and answers the status.

@@ -17,7 +17,7 @@ use aig_witness::Verdict;
 use std::alloc::Global;
 
 /// Writes the trace of a stimulus.
-fn trace<R: Source, W: Sink>(
+fn trace_stimulus<R: Source, W: Sink>(
     alloc: Global,
     batch: bool,
     columns: Columns,
@@ -32,13 +32,13 @@ fn trace<R: Source, W: Sink>(
         (R.past stimulus.old) (R.past stimulus.new) (W.past output.old) (W.past output.new) }
 {
     let written = write_trace(alloc, batch, &found, columns, stimulus, output);
-    drop(found);
+    drop(found); // for the proof
     written?;
     Ok(None)
 }
 
 /// Writes the dump of that trace.
-fn dump<R: Source, W: Sink>(
+fn dump_stimulus<R: Source, W: Sink>(
     alloc: Global,
     batch: bool,
     found: Checked,
@@ -52,13 +52,13 @@ fn dump<R: Source, W: Sink>(
         (R.past stimulus.old) (R.past stimulus.new) (W.past output.old) (W.past output.new) }
 {
     let written = write_dump(alloc, batch, &found, stimulus, output);
-    drop(found);
+    drop(found); // for the proof
     written?;
     Ok(None)
 }
 
-/// Judges a witness file, and writes the verdict in a comment and the dump of the run. The file is read to its end first,
-/// and all of the dump is made before anything is sent.
+/// Judges a witness file, and writes the verdict in a comment and the dump of the run. The file is
+/// read to its end first, and all of the dump is made before anything is sent.
 fn dump_run<R: Source, W: Sink>(
     alloc: Global,
     found: Checked,
@@ -72,13 +72,13 @@ fn dump_run<R: Source, W: Sink>(
 {
     let (verdict, run) = read_and_dump(alloc, found, witness)?;
     let sent = send_dump(verdict, run.as_slice(), output);
-    drop(run);
+    drop(run); // for the proof
     sent?;
     Ok(verdict)
 }
 
-/// Does for a circuit what is asked: there is a verdict where a witness file is judged, which stands in the place of the
-/// stimulus.
+/// Does for a circuit what is asked: there is a verdict where a witness file is judged, which
+/// stands in the place of the stimulus.
 pub(crate) fn perform<R: Source, W: Sink>(
     alloc: Global,
     asked: Task,
@@ -93,17 +93,20 @@ pub(crate) fn perform<R: Source, W: Sink>(
         (R.past stimulus.old) (R.past stimulus.new) (W.past output.old) (W.past output.new) }
 {
     match asked {
-        Task::Trace { batch, columns } => trace(alloc, batch, columns, found, stimulus, output),
-        Task::Dump { batch } => dump(alloc, batch, found, stimulus, output),
+        Task::Trace { batch, columns } => trace_stimulus(
+            alloc, batch, columns, found, stimulus, output,
+        ),
+        Task::Dump { batch } => dump_stimulus(alloc, batch, found, stimulus, output),
         Task::Verdict => Ok(Some(judge(alloc, found, stimulus, output)?)),
         Task::RunDump => Ok(Some(dump_run(alloc, found, stimulus, output)?)),
     }
 }
 
-/// Reads the model to its end, then writes the trace of the stimulus, or the dump of it, step by step or as a batch.
-/// Nothing is fetched of the stimulus before the whole model was read and found right. It fails if a device or an
-/// allocation fails, if the model is no file of a circuit, or at a bad line of the stimulus; what was written by then
-/// stands, of a batch nothing unless the output fails.
+/// Reads the model to its end, then writes the trace of the stimulus, or the dump of it, step by
+/// step or as a batch. Nothing is fetched of the stimulus before the whole model was read and found
+/// right. It fails if a device or an allocation fails, if the model is no file of a circuit, or at
+/// a bad line of the stimulus; what was written by then stands, of a batch nothing unless the
+/// output fails.
 pub fn run_sim<M: Source, R: Source, W: Sink>(
     alloc: Global,
     request: &Sim,
@@ -115,7 +118,8 @@ pub fn run_sim<M: Source, R: Source, W: Sink>(
     requires stimulus { CanFail (R.past stimulus.old) }
     requires output { CanFail (W.past output.old) }
     requires traced { request.now.witness ≡ false }
-    ensures ran { RanFor request.now (λ found. TaskSays (task_of request.now) found (without_verdict result)) result
+    ensures ran { RanFor request.now
+        (λ found. TaskSays (task_of request.now) found (without_verdict result)) result
         (M.past model.old) (M.past model.new)
         (R.past stimulus.old) (R.past stimulus.new) (W.past output.old) (W.past output.new) }
 {

@@ -1,4 +1,5 @@
--- How a search for the least ready order stands, where each gate that is left waits in the list of a gate that it needs.
+-- How a search for the least ready order stands, where each gate that is left waits in the list of a gate that it
+-- needs.
 use Rattle.std.specs.Prelude.{ℕ, suc, ◌≡◌, ◌≢◌, ◌+◌, ◌<◌, ◌≤◌, ◌⊎◌, List, [], ◌∷◌, true, false, Option, None, Some}
 use Rattle.std.specs.Prelude.{length, map, slice_index, slice_index_or}
 use Rattle.std.specs.List.{sum}
@@ -56,8 +57,8 @@ pub record WaitsFor (gate_needed seen gate : ℕ) (list needs rest : List ℕ) (
   pub counted : count ≡ suc (length rest)
 
 -- Gates that need all this are searched, and those that were looked at are listed, or ready, or wait in the list of a
--- gate that they need; but for one that is taken out. Of a gate that waits the row has the rest of what it needs; of one
--- that was not looked at, all that it needs. Each listed gate is one step, and so is each operand that was counted.
+-- gate that they need; but for one that is taken out. Of a gate that waits the row has the rest of what it needs; of
+-- one that was not looked at, all that it needs. Each listed gate is one step, and so is each operand that was counted.
 pub record RowsWait (all : List Needs) (out : Option ℕ) (s : Search) : Type 0 where
   pub room : IsRoomy (length all) s.lists.rows.items (length s.order.waiting) (room s.ready)
   pub within : s.seen ≤ length all

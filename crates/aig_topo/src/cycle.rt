@@ -1,5 +1,5 @@
 //! The first gate that depends on a cycle, found depth first: no order of the gates is made.
-ghost use Rattle.std.specs.Prelude.{◌≡◌, ◌≢◌, ◌+◌, ◌-◌, ◌<◌, ◌≤◌, ℕ, [], ◌∷◌};
+ghost use Rattle.std.specs.Prelude.{◌≡◌, ◌≢◌, ◌+◌, ◌-◌, ◌*◌, ◌<◌, ◌≤◌, ℕ, [], ◌∷◌};
 ghost use Rattle.std.specs.Prelude.{◌++◌, length, map, take, true, false};
 ghost use Rattle.std.specs.Prelude.{slice_index, slice_set, slice_get, IfOk, OnOk, IfNone};
 ghost use Rattle.std.specs.Option.{IfSome, unwrap_or};
@@ -8,7 +8,8 @@ ghost use Rattle.std.specs.FinMap.{get};
 ghost use Rattle.aig_circuit.specs.Literal.{variable_of};
 ghost use Rattle.aig_circuit.specs.Wellformed.{IsAmong};
 ghost use Rattle.aig_topo.specs.Order.{depends_on_cycle};
-ghost use Rattle.aig_topo.specs.Cycle.{pair_of, needs_in, comes_to_end, IsAtEnd, IsSearch, IsRisen};
+ghost use Rattle.aig_topo.specs.Cycle.{pair_of, needs_in, comes_to_end, steps_made};
+ghost use Rattle.aig_topo.specs.Cycle.{IsAtEnd, IsSearch, IsRisen};
 
 use crate::operands::gate_index;
 use aig_circuit::{Circuit, LARGEST, Lit};
@@ -160,7 +161,7 @@ impl Search {
             → (n : ℕ) → comes_to_end n (needs_in self.old.operands.items) root ≡ false) }
         ensures done { IfOk result (λ found. found ≡ false
             → slice_index self.new.states.items root ≡ DONE) }
-        ensures search { IfOk result (λ found. found ≡ false → IsSearch self.new) }
+        ensures search { OnOk result (IsSearch self.new) }
         ensures way { IfOk result (λ found. found ≡ false → self.new.way.items ≡ []) }
         ensures rises { OnOk result (IsRisen self.old.states.items self.new.states.items) }
         ensures operands { OnOk result (self.new.operands.items ≡ self.old.operands.items) }
@@ -183,17 +184,47 @@ impl Search {
     }
 }
 
+/// A search for a gate that depends on a cycle, once it is over. Each gate that it came to is one
+/// step, and so is each that it left.
+#[derive(Drop)]
+pub struct CycleSearch {
+    /// The position of the first gate that depends on a cycle.
+    pub first: Option<usize>,
+    /// What is known of each gate at last, which tells the steps.
+    states: Vec<u8>,
+}
+
+/// Searches for the first gate that depends on a cycle, and comes to no gate twice: where there is
+/// none, each gate is two steps.
+pub fn search_for_cycle(alloc: Global, circuit: &Circuit) -> Result<CycleSearch, AllocError>
+    requires { length circuit.now.gates ≤ LARGEST }
+    ensures first { IfOk result (λ search. search.first
+        ≡ position (depends_on_cycle circuit.now.gates) circuit.now.gates) }
+    ensures few { IfOk result (λ search. steps_made search ≤ 2 * length circuit.now.gates) }
+    ensures each { IfOk result (λ search. search.first ≡ None
+        → steps_made search ≡ 2 * length circuit.now.gates) }
+{
+    let mut search = Search::new(alloc, circuit)?;
+    for gate in 0..circuit.gates.len() {
+        if search.leads_to_cycle(gate as u32)? {
+            return Ok(CycleSearch {
+                first: Some(gate),
+                states: search.states,
+            });
+        }
+    }
+    Ok(CycleSearch {
+        first: None,
+        states: search.states,
+    })
+}
+
 /// The position of the first gate that depends on a cycle.
 pub fn first_cyclic_gate(alloc: Global, circuit: &Circuit) -> Result<Option<usize>, AllocError>
     requires { length circuit.now.gates ≤ LARGEST }
     ensures { IfOk result (λ found. found
         ≡ position (depends_on_cycle circuit.now.gates) circuit.now.gates) }
 {
-    let mut search = Search::new(alloc, circuit)?;
-    for gate in 0..circuit.gates.len() {
-        if search.leads_to_cycle(gate as u32)? {
-            return Ok(Some(gate));
-        }
-    }
-    Ok(None)
+    let search = search_for_cycle(alloc, circuit)?;
+    Ok(search.first)
 }

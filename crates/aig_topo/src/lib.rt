@@ -2,7 +2,8 @@
 //!
 //! Others call `gate_order`, which makes the least ready order of the gates and counts its steps;
 //! `Order`, which it is; `GateNeeds`, by which a caller sees first what gates need, with
-//! `order_by_needs`; and `first_cyclic_gate`, which finds a cycle without an order.
+//! `order_by_needs`; and `first_cyclic_gate`, which finds a cycle without an order, by
+//! `search_for_cycle`, which counts its steps too.
 //!
 //! The definition that matters most is `IsLeastReadyOrder`.
 #![tactic(auto)]
@@ -13,7 +14,7 @@ mod lists;
 mod operands;
 mod order;
 
-pub use crate::cycle::first_cyclic_gate;
+pub use crate::cycle::{CycleSearch, first_cyclic_gate, search_for_cycle};
 pub use crate::least_ready::{gate_order, order_by_needs};
 pub use crate::lists::GateNeeds;
 pub use crate::operands::Needs;

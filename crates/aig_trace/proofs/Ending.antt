@@ -13,7 +13,7 @@ use Rattle.aig_step.specs.declared.fault.SimFault.TheVariants.{OutOfMemory, BadS
 use Rattle.aig_step.specs.declared.fault.SimFault.TheVariants.{WriteFailed}
 use Rattle.aig_step.specs.declared.trace.Columns.{Columns}
 use Rattle.aig_step.specs.Outcome.{IsTraceUpTo, TraceSays}
-use Rattle.aig_trace.specs.Parts.Streaming.{Ends, IsTraced, ended_so}
+use Rattle.aig_trace.specs.Parts.Streaming.{StreamEnds, IsTraced, ended_so}
 use Rattle.aig_trace_laws.proofs.Texts.{same_meaning_same_text}
 
 -- lines were taken, and the text for them was put
@@ -22,7 +22,7 @@ module _ {W : Type 0} (c : Circuit) (columns : Columns) (bytes : List ℕ) (endi
     (fine : from.failed ≡ false) (empty : to.held ≡ []) (source source_now : Past)
     (past : source_now ≡ came bytes ending source) where
   sent_all : (r : Result (Unit {0}) SimFault) → to.failed ≡ false → TraceSays c columns r bytes ending t.text All
-      → Ends c columns r source source_now from to
+      → StreamEnds c columns r source source_now from to
   sent_all r well says = record {
     ran = record {
       bytes = bytes;
@@ -38,7 +38,7 @@ module _ {W : Type 0} (c : Circuit) (columns : Columns) (bytes : List ℕ) (endi
     same = t.put.same;
   }
 
-  sent_in_part : IsUnbroken ending → to.failed ≡ true → Ends c columns (Err WriteFailed) source source_now from to
+  sent_in_part : IsUnbroken ending → to.failed ≡ true → StreamEnds c columns (Err WriteFailed) source source_now from to
   sent_in_part unbroken broke =
       let part = beginning_sent from from to to t.text refl unheld fine t.put (put_nothing to) broke in
       record {
@@ -58,7 +58,7 @@ module _ {W : Type 0} (c : Circuit) (columns : Columns) (bytes : List ℕ) (endi
 
   ends_by : IsUnbroken ending → (failed refused : Bool) → to.failed ≡ failed → f.refused ≡ refused
       → (failed ≡ false → refused ≡ false → ending ≡ AtEnd)
-      → Ends c columns (ended_so failed (not refused) f.number) source source_now from to
+      → StreamEnds c columns (ended_so failed (not refused) f.number) source source_now from to
   ends_by unbroken true refused broke is whole = sent_in_part unbroken broke
   ends_by unbroken false true well is whole =
       sent_all (Err (BadStimulus f.number)) well (unbroken, refl, rw is at t.is_trace)
@@ -68,15 +68,15 @@ module _ {W : Type 0} (c : Circuit) (columns : Columns) (bytes : List ℕ) (endi
 
   -- the source did not fail
   pub ends : (r : Result (Unit {0}) SimFault) → IsUnbroken ending → r ≡ ended_so to.failed (not f.refused) f.number
-      → (r ≡ Ok tt → ending ≡ AtEnd) → Ends c columns r source source_now from to
+      → (r ≡ Ok tt → ending ≡ AtEnd) → StreamEnds c columns r source source_now from to
   ends r unbroken is whole =
-      subst (λ (s : Result (Unit {0}) SimFault). Ends c columns s source source_now from to) (sym is)
+      subst (λ (s : Result (Unit {0}) SimFault). StreamEnds c columns s source source_now from to) (sym is)
       (ends_by unbroken to.failed f.refused refl refl (λ well good. whole (is ∙ ap₂
       (λ (failed refused : Bool). ended_so failed (not refused) f.number) well good)))
 
   -- it failed
   pub interrupted : ending ≡ Broken → to.failed ≡ false → f.refused ≡ false
-      → Ends c columns (Err ReadFailed) source source_now from to
+      → StreamEnds c columns (Err ReadFailed) source source_now from to
   interrupted broken well going = sent_all (Err ReadFailed) well (broken, refl, rw (going, broken) at t.is_trace)
 
 -- nothing failed

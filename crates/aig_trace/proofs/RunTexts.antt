@@ -76,7 +76,8 @@ goes_on c columns p q u es e t v goes does =
 -- To tell the lines of a stimulus is to say what they say.
 
 -- a line that is too long says nothing
-heard_is : {K : Type 0} (s : Saying K) (text : List ℕ) → heard say_line (longest_entry s.inputs) s text ≡ say_line s text
+heard_is : {K : Type 0} (s : Saying K) (text : List ℕ)
+    → heard say_line (longest_entry s.inputs) s text ≡ say_line s text
 heard_is s text =
     let limit = longest_entry s.inputs in
     elim (cases_lt limit (length text)) [

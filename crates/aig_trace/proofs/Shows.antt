@@ -3,7 +3,7 @@ use Rattle.std.proofs.Common.{◌≡◌, ◌∙◌, ◌<◌, ◌∷◌, ◌++◌
 use Rattle.std.proofs.Common.{subst, sym, true, false, Bool, Some, None, append_assoc, get_or, take}
 use Rattle.std.proofs.lemmas.List.{take_more}
 use Rattle.aig_lanes.specs.declared.bench.Bench.{Bench}
-use Rattle.aig_lanes.specs.Parts.Benches.{HasRoomForSteps, IsBench}
+use Rattle.aig_lanes.specs.Parts.Benches.{HasSameRoom}
 use Rattle.aig_circuit.specs.declared.circuit.Circuit.{Circuit}
 use Rattle.aig_circuit.specs.declared.circuit.Latch.{Latch}
 use Rattle.aig_circuit.specs.declared.value.Val.{Val}
@@ -18,9 +18,13 @@ use Rattle.aig_step.specs.declared.trace.Columns.{Columns}
 use Rattle.aig_step.specs.Stimulus.{Entry, Step, Stop, entry_in}
 use Rattle.aig_step.specs.TraceText.{row_text, values_text}
 use Rattle.aig_lanes.proofs.Benches.ShownTexts.{line_kept}
+use Rattle.aig_lanes.proofs.Benches.Steps.{steps_room_stays}
+use Rattle.aig_trace.specs.declared.side_by_side.SideBySide.{SideBySide}
 use Rattle.aig_trace.specs.declared.waiting.Waiting.{Waiting}
-use Rattle.aig_trace.specs.Parts.Tracing.{Did, HeardLine, IsSameTracer, LineTracing, Moved, TookLine, Tracing, point_of}
-use Rattle.aig_trace.specs.Parts.Waits.{IsSameBench, Serves, ShowsSteps}
+use Rattle.aig_trace.specs.Parts.Tracing.{Did, HeardLine, IsSameTracer, LineTracing, MovedOn, TookLine}
+use Rattle.aig_trace.specs.Parts.Tracing.{Tracing, point_of}
+use Rattle.aig_trace.specs.Parts.Taking.{KeepsLanes, ShowsSteps}
+use Rattle.aig_trace.specs.Parts.Waits.{Serves}
 use Rattle.aig_trace.proofs.RunTexts.{goes_one}
 use Rattle.aig_trace.proofs.Traced.{did_twice}
 
@@ -50,12 +54,11 @@ no_values [] none = refl
 no_values (v ∷ vs) none = absurd (omega (arith, none))
 
 -- the line of a step was put, which a lane shows
-pub did_step : {W : Type 0} (t u : Tracing) (a b : Out W) (vector : List Val) (shown : LaneColumns) (sheet : List BytesText)
-    (lane : ℕ) → t.circuit.latches ≡ [] → length t.state ≡ length t.circuit.latches
+pub did_step : {W : Type 0} (t u : Tracing) (a b : Out W) (vector : List Val) (shown : LaneColumns)
+    (sheet : List BytesText) (lane : ℕ) → t.circuit.latches ≡ [] → length t.state ≡ length t.circuit.latches
     → u ≡ record t { has_step = true } → shown.columns ≡ t.columns
     → KeepsRun t.circuit (one_step vector) lane shown sheet
-    → Put a b (shown_text shown 0 (values_text vector) (text_in lane sheet))
-    → Did t.circuit t.columns (point_of t) (Step vector ∷ []) (point_of u) a b
+    → Put a b (shown_text shown 0 (values_text vector) (text_in lane sheet)) → Did t u (Step vector ∷ []) a b
 did_step t u a b vector shown sheet lane none each noted columns keeps put =
     let shows = shown_row t.circuit vector shown (text_in lane sheet) keeps.0 keeps.1 in
     let row = shows.row in
@@ -67,6 +70,10 @@ did_step t u a b vector shown sheet lane none each noted columns keeps put =
     let is : shown_text shown 0 (values_text vector) (text_in lane sheet) ≡ text =
     shows.is ∙ ap (λ (k : Columns). row_text k row) columns in
     record {
+      same = record {
+        circuit = ap (λ (x : Tracing). x.circuit) noted;
+        columns = ap (λ (x : Tracing). x.columns) noted;
+      };
       text = text;
       goes = (
         point_of u,
@@ -90,98 +97,61 @@ did_step t u a b vector shown sheet lane none each noted columns keeps put =
     }
 
 -- one more of these was done
-pub did_on : {W : Type 0} (t u v : Tracing) (es : List Entry) (k : ℕ) (x y z : Out W) → IsSameTracer t u
-    → k < length es → Did t.circuit t.columns (point_of t) (take k es) (point_of u) x y
-    → Did u.circuit u.columns (point_of u) (get_or es k Stop ∷ []) (point_of v) y z
-    → Did t.circuit t.columns (point_of t) (take (k + 1) es) (point_of v) x z
-did_on t u v es k x y z same below first more =
-    subst (λ (fs : List Entry). Did t.circuit t.columns (point_of t) fs (point_of v) x z)
-    (sym (take_more es k Stop below))
-    (did_twice t.circuit t.columns (point_of t) (point_of u) (point_of v) (take k es) (get_or es k Stop ∷ []) x y z
-    first
-    (subst (λ (d : Circuit). Did d t.columns (point_of u) (get_or es k Stop ∷ []) (point_of v) y z) same.circuit
-    (subst (λ (m : Columns). Did u.circuit m (point_of u) (get_or es k Stop ∷ []) (point_of v) y z) same.columns more)))
-
-pub same_twice : (t u v : Tracing) → IsSameTracer t u → IsSameTracer u v → IsSameTracer t v
-same_twice t u v first more = record {
-  circuit = more.circuit ∙ first.circuit;
-  columns = more.columns ∙ first.columns;
-}
+pub did_on : {W : Type 0} (t u v : Tracing) (es : List Entry) (k : ℕ) (x y z : Out W) → k < length es
+    → Did t u (take k es) x y → Did u v (get_or es k Stop ∷ []) y z → Did t v (take (k + 1) es) x z
+did_on t u v es k x y z below first more =
+    subst (λ (fs : List Entry). Did t v fs x z) (sym (take_more es k Stop below))
+    (did_twice t u v (take k es) (get_or es k Stop ∷ []) x y z first more)
 
 -- a line was taken of which it is known what it says
 pub taken : {W : Type 0} (t u : Tracing) (x y : Out W) (inputs : ℕ) (text : List ℕ) (e : Entry) (good : Bool)
-    → inputs ≡ length t.circuit.inputs → entry_in inputs text ≡ Some e → (good ≡ true → TookLine t u x y text)
-    → (good ≡ false → entry_in (length t.circuit.inputs) text ≡ None)
-    → Did t.circuit t.columns (point_of t) (e ∷ []) (point_of u) x y
-taken t u x y inputs text e true same says took bad =
+    → inputs ≡ length t.circuit.inputs → entry_in inputs text ≡ Some e → IsSameTracer t u
+    → (good ≡ true → TookLine t u x y text) → (good ≡ false → entry_in (length t.circuit.inputs) text ≡ None)
+    → Did t u (e ∷ []) x y
+taken t u x y inputs text e true count says same took bad =
     let line = took refl in
     let is : entry_in (length t.circuit.inputs) text ≡ Some e =
-    ap (λ (n : ℕ). entry_in n text) (sym same) ∙ says in
+    ap (λ (n : ℕ). entry_in n text) (sym count) ∙ says in
     let one : line.entry ≡ e = cc (line.said, is) in
-    subst (λ (f : Entry). Did t.circuit t.columns (point_of t) (f ∷ []) (point_of u) x y) one
+    subst (λ (f : Entry). Did t u (f ∷ []) x y) one
     (record {
+      same = same;
       text = line.line;
       goes = goes_one t.circuit t.columns (point_of t) (point_of u) line.entry line.line line.does;
       put = line.put;
     })
-taken t u x y inputs text e false same says took bad =
+taken t u x y inputs text e false count says same took bad =
     let is : entry_in (length t.circuit.inputs) text ≡ Some e =
-    ap (λ (n : ℕ). entry_in n text) (sym same) ∙ says in
+    ap (λ (n : ℕ). entry_in n text) (sym count) ∙ says in
     let none = bad refl in
     cc (is, none)
 
--- a bench of which only the place for a line changed
-pub bench_twice : (a b d : Bench) → IsSameBench a b → IsSameBench b d → IsSameBench a d
-bench_twice a b d first more = record {
-  rest = more.rest ∙ ap (λ (x : Bench). record x { line = d.line }) first.rest;
-  line = more.line ∙ first.line;
-}
-
--- serves as before
-pub serves_still : (c d : Circuit) (k m : Columns) (a b : Bench) (w : Waiting) → d ≡ c → m ≡ k → IsSameBench a b
-    → Serves c k a w → Serves d m b w
-serves_still c d k m a b w same asks bench serves =
-    subst (λ (e : Circuit). Serves e m b w) (sym same)
+-- it serves as before
+pub serves_still : (c d : Circuit) (k m : Columns) (a b : Bench) (v w : Waiting) → d ≡ c → m ≡ k → HasSameRoom a b
+    → w.inputs ≡ v.inputs → Serves c k a v → Serves d m b w
+serves_still c d k m a b v w circuit columns room inputs serves =
+    subst (λ (e : Circuit). Serves e m b w) (sym circuit)
     (record {
       stateless = serves.stateless;
-      bench_is = subst (λ (x : Bench). IsBench c x) (sym bench.rest)
-          (record {
-            bits = serves.bench_is.bits;
-            table = serves.bench_is.table;
-            whole = serves.bench_is.whole;
-            state = serves.bench_is.state;
-            shows = serves.bench_is.shows;
-            line = bench.line ∙ serves.bench_is.line;
-          });
-      room = subst (λ (x : Bench). HasRoomForSteps x) (sym bench.rest)
-          (record { bits = serves.room.bits; sheet = serves.room.sheet; fits = serves.room.fits });
-      columns_are = ap (λ (x : Bench). x.shown.columns) bench.rest ∙ serves.columns_are ∙ sym asks;
-      inputs = serves.inputs;
+      room = steps_room_stays c a b room serves.room;
+      columns_are = ap (λ (s : LaneColumns). s.columns) room.shown ∙ serves.columns_are ∙ sym columns;
+      inputs = inputs ∙ serves.inputs;
     })
 
 -- and shows as before
-pub shows_still : (c d : Circuit) (a b : Bench) (w : Waiting) → d ≡ c → IsSameBench a b → ShowsSteps c a w
-    → ShowsSteps d b w
-shows_still c d a b w same bench shows =
-    subst (λ (e : Circuit). ShowsSteps e b w) (sym same)
-    (subst (λ (x : Bench). ShowsSteps c x w) (sym bench.rest) (λ j low. shows j low))
+pub shows_still : (a b : SideBySide) → IsSameTracer a.tracer b.tracer → KeepsLanes a b → ShowsSteps a → ShowsSteps b
+shows_still a b same keeps shows j low =
+    rw (same.circuit, keeps.waiting, keeps.shown, keeps.sheet) (shows j (rw (← keeps.waiting) low))
 
 -- a line was let in behind those that wait
-pub heard_by : {W : Type 0} (t u v : LineTracing W) (text : List ℕ) (e : Entry) → Moved t u
-    → entry_in (length t.tracing.circuit.inputs) text ≡ Some e → v.tracing ≡ u.tracing → v.output ≡ u.output
-    → v.waiting ≡ u.waiting ++ e ∷ [] → HeardLine t v text
-heard_by {W} t u v text e moved says same still waits = record {
+pub heard_by : {W : Type 0} (t u : LineTracing W) (waiting : List Entry) (text : List ℕ) (e : Entry) → MovedOn t u
+    → entry_in (length t.tracing.circuit.inputs) text ≡ Some e → waiting ≡ u.waiting ++ e ∷ []
+    → HeardLine t (record u { waiting = waiting }) text
+heard_by t u waiting text e moved says waits = record {
   entry = e;
   said = says;
   done = moved.done;
-  did = subst
-      (λ (x : Tracing). Did t.tracing.circuit t.tracing.columns (point_of t.tracing) moved.done (point_of x) t.output
-      v.output)
-      (sym same)
-      (subst
-      (λ (y : Out W). Did t.tracing.circuit t.tracing.columns (point_of t.tracing) moved.done (point_of u.tracing)
-      t.output y)
-      (sym still) moved.did);
+  did = moved.did;
   left =
       ap (λ (es : List Entry). es ++ e ∷ []) moved.left
       ∙ append_assoc moved.done u.waiting (e ∷ [])

@@ -13,25 +13,36 @@ use Rattle.aig_meaning.proofs.Traces.{reset_state_is_first}
 use Rattle.aig_step.specs.declared.trace.Columns.{Columns}
 use Rattle.aig_step.specs.Outcome.{first_bad_line}
 use Rattle.aig_step.specs.Stimulus.{Entry, entry_in, stimulus}
-use Rattle.aig_trace.specs.Parts.Progress.{Goes, Point, begin_of}
+use Rattle.aig_trace.specs.Parts.Progress.{Goes, begin_of}
 use Rattle.aig_trace.specs.Parts.Saying.{Saying, before_lines, entry_turn, longest_entry, nothing_said, say_line}
 use Rattle.aig_trace.specs.Parts.Streaming.{IsTraced}
 use Rattle.aig_trace.specs.Parts.Tracing.{Did, HasTraced, HeardLine, IsFresh, IsSameTracer, LineTracing, PutText}
-use Rattle.aig_trace.specs.Parts.Tracing.{Reading, Task, TookLine, Tracing, point_of, task_of}
+use Rattle.aig_trace.specs.Parts.Tracing.{Reading, Task, TookLine, Tracing, point_of, tracing_task, tracing_of}
 use Rattle.aig_trace.proofs.RunTexts.{goes_one, goes_over, closing, goes_is_text, has_said}
 
 -- what was done, and then more
-pub did_twice : {W : Type 0} (c : Circuit) (columns : Columns) (p q u : Point) (es fs : List Entry) (x y z : Out W)
-    → Did c columns p es q x y → Did c columns q fs u y z → Did c columns p (es ++ fs) u x z
-did_twice c columns p q u es fs x y z first more = record {
+pub did_twice : {W : Type 0} (t u v : Tracing) (es fs : List Entry) (x y z : Out W) → Did t u es x y → Did u v fs y z
+    → Did t v (es ++ fs) x z
+did_twice t u v es fs x y z first more = record {
+  same = record {
+    circuit = more.same.circuit ∙ first.same.circuit;
+    columns = more.same.columns ∙ first.same.columns;
+  };
   text = first.text ++ more.text;
-  goes = goes_over c columns p q u es fs first.text more.text first.goes more.goes;
+  goes = goes_over t.circuit t.columns (point_of t) (point_of u) (point_of v) es fs first.text more.text first.goes
+      (subst (λ (c : Circuit). Goes c t.columns (point_of u) fs (point_of v) more.text) first.same.circuit
+      (subst (λ (k : Columns). Goes u.circuit k (point_of u) fs (point_of v) more.text) first.same.columns more.goes));
   put = put_twice x y z first.text more.text first.put more.put;
 }
 
 -- nothing was done
-pub did_nothing : {W : Type 0} (c : Circuit) (columns : Columns) (p : Point) (x : Out W) → Did c columns p [] p x x
-did_nothing c columns p x = record { text = []; goes = (refl, refl); put = put_nothing x }
+pub did_nothing : {W : Type 0} (t : Tracing) (x : Out W) → Did t t [] x x
+did_nothing t x = record {
+  same = record { circuit = refl; columns = refl };
+  text = [];
+  goes = (refl, refl);
+  put = put_nothing x;
+}
 
 -- alike in each part
 alike : {W : Type 0} (t u : LineTracing W) → u.tracing ≡ t.tracing → u.waiting ≡ t.waiting → u.output ≡ t.output → u ≡ t
@@ -40,27 +51,16 @@ alike {W} t u tracing waiting output =
     ∙ ap (λ (x : List Entry). record { tracing = t.tracing; waiting = x; output = u.output }) waiting
     ∙ ap (λ (x : Out W). record { tracing = t.tracing; waiting = t.waiting; output = x }) output
 
-module _ {W : Type 0} (t u : LineTracing W) (s : Saying (Task W)) (at : HasTraced t s)
-    (same : IsSameTracer t.tracing u.tracing) where
+module _ {W : Type 0} (t u : LineTracing W) (s : Saying (Task W)) (at : HasTraced t s) where
   -- some of what was to be done is done
-  did_so_far : (es : List Entry)
-      → Did t.tracing.circuit t.tracing.columns (point_of t.tracing) es (point_of u.tracing) t.output u.output
-      → Did s.known.circuit s.known.columns (begin_of s.known.circuit) (at.done ++ es) (point_of u.tracing) s.known.from
-      u.output
+  did_so_far : (es : List Entry) → Did t.tracing u.tracing es t.output u.output
+      → Did (tracing_of s.known) u.tracing (at.done ++ es) s.known.from u.output
   did_so_far es did =
-      did_twice s.known.circuit s.known.columns (begin_of s.known.circuit) (point_of t.tracing) (point_of u.tracing)
-      at.done es s.known.from t.output u.output at.did
-      (subst (λ (d : Circuit). Did d s.known.columns (point_of t.tracing) es (point_of u.tracing) t.output u.output)
-      at.circuit
-      (subst (λ (k : Columns). Did t.tracing.circuit k (point_of t.tracing) es (point_of u.tracing) t.output u.output)
-      at.columns did))
+      did_twice (tracing_of s.known) t.tracing u.tracing at.done es s.known.from t.output u.output at.did did
 
   -- all that waited was done
-  pub settled : Did t.tracing.circuit t.tracing.columns (point_of t.tracing) t.waiting (point_of u.tracing) t.output
-      u.output → u.waiting ≡ [] → HasTraced u s
+  pub settled : Did t.tracing u.tracing t.waiting t.output u.output → u.waiting ≡ [] → HasTraced u s
   settled did none = record {
-    circuit = same.circuit ∙ at.circuit;
-    columns = same.columns ∙ at.columns;
     inputs = at.inputs;
     done = at.done ++ t.waiting;
     all =
@@ -72,7 +72,8 @@ module _ {W : Type 0} (t u : LineTracing W) (s : Saying (Task W)) (at : HasTrace
   module _ (text : List ℕ) where
     said_here : (o : Option Entry) → entry_in (length t.tracing.circuit.inputs) text ≡ o → entry_in s.inputs text ≡ o
     said_here o is =
-        ap (λ (n : ℕ). entry_in n text) (at.inputs ∙ ap (λ (c : Circuit). length c.inputs) (sym at.circuit)) ∙ is
+        let inputs = at.inputs ∙ ap (λ (c : Circuit). length c.inputs) (sym at.did.same.circuit) in
+        ap (λ (n : ℕ). entry_in n text) inputs ∙ is
 
     -- a line was heard, or it says nothing
     pub heard_line : (good : Bool) → (good ≡ true → HeardLine t u text)
@@ -84,8 +85,6 @@ module _ {W : Type 0} (t u : LineTracing W) (s : Saying (Task W)) (at : HasTrace
         subst (λ (o : Option Entry). HasTraced u (entry_turn s o).state × (true ≡ (entry_turn s o).goes_on))
         (sym (said_here (Some line.entry) line.said)) (
           record {
-            circuit = same.circuit ∙ at.circuit;
-            columns = same.columns ∙ at.columns;
             inputs = at.inputs;
             done = at.done ++ line.done;
             all =
@@ -107,12 +106,13 @@ module _ {W : Type 0} (t u : LineTracing W) (s : Saying (Task W)) (at : HasTrace
 
 -- a tracer took a line, and none waited
 pub heard_alone : {W : Type 0} (t u : LineTracing W) (text : List ℕ) → t.waiting ≡ [] → u.waiting ≡ []
-    → TookLine t.tracing u.tracing t.output u.output text → HeardLine t u text
-heard_alone t u text none still took = record {
+    → IsSameTracer t.tracing u.tracing → TookLine t.tracing u.tracing t.output u.output text → HeardLine t u text
+heard_alone t u text none still same took = record {
   entry = took.entry;
   said = took.said;
   done = took.entry ∷ [];
   did = record {
+    same = same;
     text = took.line;
     goes = goes_one t.tracing.circuit t.tracing.columns (point_of t.tracing) (point_of u.tracing) took.entry took.line
         took.does;
@@ -125,22 +125,25 @@ heard_alone t u text none still took = record {
 
 -- before the first line
 pub begun : {W : Type 0} (t : LineTracing W) → point_of t.tracing ≡ begin_of t.tracing.circuit → t.waiting ≡ []
-    → HasTraced t (nothing_said (task_of t) (length t.tracing.circuit.inputs))
+    → HasTraced t (nothing_said (tracing_task t) (length t.tracing.circuit.inputs))
 begun t is none = record {
-  circuit = refl;
-  columns = refl;
   inputs = refl;
   done = [];
   all = sym none;
-  did = record { text = []; goes = (is, refl); put = put_nothing t.output };
+  did = record {
+    same = record { circuit = refl; columns = refl };
+    text = [];
+    goes = (is, refl);
+    put = put_nothing t.output;
+  };
 }
 
 -- and before the first byte
 pub begins : {W : Type 0} (f : Feeder) (t : LineTracing W) → IsUnfed f
     → f.limit ≡ longest_entry (length t.tracing.circuit.inputs) → point_of t.tracing ≡ begin_of t.tracing.circuit
-    → t.waiting ≡ [] → IsFed HasTraced f t (before_lines (task_of t) (length t.tracing.circuit.inputs))
+    → t.waiting ≡ [] → IsFed HasTraced f t (before_lines (tracing_task t) (length t.tracing.circuit.inputs))
 begins f t unfed limit is none =
-    let s = nothing_said (task_of t) (length t.tracing.circuit.inputs) in
+    let s = nothing_said (tracing_task t) (length t.tracing.circuit.inputs) in
     subst (λ (n : ℕ). IsFed HasTraced f t (feeding n s)) limit (fed_nothing HasTraced f t s unfed (begun t is none))
 
 -- nothing more was put
@@ -161,11 +164,9 @@ fed_too f t u at stands has = record {
 
 -- what waited was done
 pub fed_settled : {W : Type 0} (f : Feeder) (t u : LineTracing W) (at : Feeding (Saying (Task W)))
-    → IsFed HasTraced f t at → IsSameTracer t.tracing u.tracing
-    → Did t.tracing.circuit t.tracing.columns (point_of t.tracing) t.waiting (point_of u.tracing) t.output u.output
-    → u.waiting ≡ [] → IsFed HasTraced f u at
-fed_settled f t u at stands same did none =
-    fed_too f t u at stands (settled t u at.state stands.taker same did none)
+    → IsFed HasTraced f t at → Did t.tracing u.tracing t.waiting t.output u.output → u.waiting ≡ []
+    → IsFed HasTraced f u at
+fed_settled f t u at stands did none = fed_too f t u at stands (settled t u at.state stands.taker did none)
 
 -- the text was sent
 pub flushed : {W : Type 0} (f : Feeder) (t u : LineTracing W) (at : Feeding (Saying (Task W))) → IsFed HasTraced f t at
@@ -173,12 +174,11 @@ pub flushed : {W : Type 0} (f : Feeder) (t u : LineTracing W) (at : Feeding (Say
 flushed f t u at stands same waits put =
     let has = stands.taker in
     fed_too f t u at stands (record {
-      circuit = ap (λ (x : Tracing). x.circuit) same ∙ has.circuit;
-      columns = ap (λ (x : Tracing). x.columns) same ∙ has.columns;
       inputs = has.inputs;
       done = has.done;
       all = has.all ∙ ap (λ (es : List Entry). has.done ++ es) (sym waits);
       did = record {
+        same = rw same has.did.same;
         text = has.did.text;
         goes = rw same has.did.goes;
         put = put_sent at.state.known.from t.output u.output has.did.text has.did.put put;
@@ -232,16 +232,15 @@ pub put_all : {W : Type 0} (r : Reading) (bytes : List ℕ) (f g h : Feeder) (t 
     → IsFresh r → f ≡ r.feeder → t ≡ record { tracing = r.tracing; waiting = r.waiting; output = a }
     → ((at : Feeding (Saying (Task W))) → IsFed HasTraced f t at → IsFed HasTraced g u (fed say_line at bytes))
     → ((at : Feeding (Saying (Task W))) → IsFed HasTraced g u at → IsFed HasTraced h v (ended say_line at))
-    → IsSameTracer v.tracing w.tracing
-    → Did v.tracing.circuit v.tracing.columns (point_of v.tracing) v.waiting (point_of w.tracing) v.output w.output
-    → w.waiting ≡ [] → Put w.output b (if w.tracing.has_step then codes ".\n" else []) → PutText r.tracing bytes a b
-put_all {W} r bytes f g h t u v w a b fresh same is took ends stays did none close =
+    → Did v.tracing w.tracing v.waiting v.output w.output → w.waiting ≡ []
+    → Put w.output b (if w.tracing.has_step then codes ".\n" else []) → PutText r.tracing bytes a b
+put_all {W} r bytes f g h t u v w a b fresh same is took ends did none close =
     let new : LineTracing W = record { tracing = r.tracing; waiting = r.waiting; output = a } in
     let inputs = length r.tracing.circuit.inputs in
-    let start : IsFed HasTraced f t (before_lines (task_of new) inputs) =
+    let start : IsFed HasTraced f t (before_lines (tracing_task new) inputs) =
     rw (same, is) (begins r.feeder new fresh.unfed fresh.limit fresh.begun fresh.settled) in
-    let all = fed_settled h v w _ (ends _ (took _ start)) stays did none in
-    let at = (has_said HasTraced (task_of new) inputs bytes true h w all).taker in
+    let all = fed_settled h v w _ (ends _ (took _ start)) did none in
+    let at = (has_said HasTraced (tracing_task new) inputs bytes true h w all).taker in
     let entries = (stimulus inputs bytes true).entries in
     record {
       point = point_of w.tracing;

@@ -4,3 +4,4 @@ pub mod Saying
 pub mod Streaming
 pub mod WaitingRoom
 pub mod Waits
+pub mod Taking

@@ -1,7 +1,7 @@
 //! The trace text of a stimulus that is taken line by line.
 //!
-//! Others call `simulate`. Where a whole stimulus is read first, `aig_batch` calls `StimulusReader` for the lines that it does
-//! not step run by run, and `is_entry`.
+//! Others call `simulate`. Where a whole stimulus is read first, `aig_batch` calls `StimulusReader`
+//! for the lines that it does not step run by run, and `is_entry`.
 #![tactic(auto)]
 
 mod entry;
@@ -9,6 +9,7 @@ mod line_tracer;
 mod reader;
 mod side_by_side;
 mod stream;
+mod taker;
 mod tracer;
 mod waiting;
 

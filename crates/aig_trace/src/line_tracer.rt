@@ -1,69 +1,63 @@
 //! What takes the lines of a stimulus, and puts the text for them.
 ghost use Rattle.std.specs.Prelude.{◌≡◌, [], codes, if◌then◌else◌, is_err};
 ghost use Rattle.aig_io.specs.Output.{Put};
-ghost use Rattle.aig_trace.specs.Parts.Tracing.{Did, IsSameTracer, point_of};
-ghost use Rattle.aig_trace.specs.Parts.Waits.{MayServe, waiting_in};
+ghost use Rattle.aig_trace.specs.Parts.Taking.{tracing_in, waiting_in};
+ghost use Rattle.aig_trace.specs.Parts.Tracing.{Did};
 
-use crate::side_by_side::SideBySide;
-use crate::tracer::Tracer;
+use crate::taker::Taker;
 use aig_io::{DeviceFault, Output, Sink};
 use aig_lines::LineTaker;
 use std::marker::Model;
 
-/// A tracer, and the output for the text.
+/// What takes lines, and the output for the text.
 #[derive(Drop)]
 pub(crate) struct LineTracer<'a, W: Sink> {
-    tracer: Tracer,
-    /// Lines that wait, where the circuit has no latches.
-    side_by_side: Option<SideBySide>,
+    taker: Taker,
     output: Output<'a, W>,
 }
 
 impl<'a, W: Sink> Model for LineTracer<'a, W> {
     ghost use Rattle.aig_trace.specs.Parts.Tracing.{LineTracing};
-    ghost use Rattle.aig_trace.specs.Parts.Waits.{MayServe, waiting_in};
+    ghost use Rattle.aig_trace.specs.Parts.Taking.{tracing_in, waiting_in};
 
     ghost Value = { LineTracing W };
 
-    ghost view = { λ t. record { tracing = t.tracer; waiting = waiting_in t.side_by_side; output = t.output } };
-
-    ghost invariant = { λ t. MayServe t.tracer.circuit t.tracer.columns t.side_by_side };
+    ghost view = { λ t. record {
+      tracing = tracing_in t.taker;
+      waiting = waiting_in t.taker;
+      output = t.output;
+    } };
 }
 
 impl<'a, W: Sink> LineTracer<'a, W> {
-    /// The tracer goes on from where it stands.
-    pub(crate) fn new(
-        tracer: Tracer,
-        side_by_side: Option<SideBySide>,
-        output: Output<'a, W>,
-    ) -> Self
-        requires { MayServe tracer.circuit tracer.columns side_by_side }
-        ensures { result ≡ record { tracing = tracer; waiting = waiting_in side_by_side; output = output.entry } }
+    /// It goes on from where the taker stands.
+    pub(crate) fn new(taker: Taker, output: Output<'a, W>) -> Self
+        ensures { result ≡ record {
+          tracing = tracing_in taker;
+          waiting = waiting_in taker;
+          output = output.entry;
+        } }
     {
-        LineTracer {
-            tracer,
-            side_by_side,
-            output,
-        }
+        LineTracer { taker, output }
     }
 
     /// Puts the text for all lines that wait.
     pub(crate) fn settle(&mut self)
-        ensures did { Did self.old.tracing.circuit self.old.tracing.columns (point_of self.old.tracing) self.old.waiting
-            (point_of self.new.tracing) self.old.output self.new.output }
-        ensures same { IsSameTracer self.old.tracing self.new.tracing }
+        ensures did { Did self.old.tracing self.new.tracing self.old.waiting
+            self.old.output self.new.output }
         ensures settled { self.new.waiting ≡ [] }
     {
-        if let Some(side_by_side) = &mut self.side_by_side {
-            side_by_side.settle(&mut self.tracer, &mut self.output);
+        if let Taker::SideBySide(side_by_side) = &mut self.taker {
+            side_by_side.settle(&mut self.output);
         }
     }
 
     /// Puts the line that ends the run that is going on, if it has a step.
-    pub(crate) fn close(&mut self)
-        ensures { Put self.old.output self.new.output (if self.old.tracing.has_step then codes ".\n" else []) }
+    pub(crate) fn end_run(&mut self)
+        ensures { Put self.old.output self.new.output
+            (if self.old.tracing.has_step then codes ".\n" else []) }
     {
-        if self.tracer.has_step() {
+        if self.taker.tracer().has_step() {
             self.output.put(b".\n");
         }
     }
@@ -83,13 +77,8 @@ impl<'a, W: Sink> LineTracer<'a, W> {
     pub(crate) fn into_output(self) -> Output<'a, W>
         ensures { result ≡ self.entry.output }
     {
-        let LineTracer {
-            tracer,
-            side_by_side,
-            output,
-        } = self;
-        drop(tracer);
-        drop(side_by_side);
+        let LineTracer { taker, output } = self;
+        drop(taker); // for the proof
         output
     }
 }
@@ -106,9 +95,9 @@ impl<'a, W: Sink> LineTaker for LineTracer<'a, W> {
 
     #[inline(always)]
     fn take(&mut self, text: &[u8]) -> bool {
-        match &mut self.side_by_side {
-            None => self.tracer.take_line(&mut self.output, text),
-            Some(side_by_side) => side_by_side.take_line(&mut self.tracer, &mut self.output, text),
+        match &mut self.taker {
+            Taker::InTurn(tracer) => tracer.take_line(&mut self.output, text),
+            Taker::SideBySide(side_by_side) => side_by_side.take_line(&mut self.output, text),
         }
     }
 }

@@ -1,59 +1,37 @@
 //! What takes the bytes of a stimulus.
-ghost use Rattle.std.specs.Prelude.{◌≡◌, [], IfErr, IfOk};
+ghost use Rattle.std.specs.Prelude.{◌≡◌, IfErr, IfOk};
 ghost use Rattle.aig_meaning.specs.Meaning.{MeansTheSame};
 ghost use Rattle.aig_step.specs.declared.fault.SimFault.TheVariants.{OutOfMemory as IsOutOfMemory};
 ghost use Rattle.aig_trace.specs.Parts.Tracing.{IsFresh, PutText};
-ghost use Rattle.aig_trace.specs.Parts.Waits.{MayServe, waiting_in};
 
 use crate::line_tracer::LineTracer;
-use crate::side_by_side::{MOST_INPUTS, SideBySide};
-use crate::tracer::{Tracer, line_room};
+use crate::taker::Taker;
+use crate::tracer::Tracer;
 use aig_checked::Checked;
-use aig_circuit::OutOfMemory;
 use aig_io::{Output, Sink};
 use aig_lines::LineFeeder;
 use aig_step::{Columns, Machine, SimFault};
 use std::alloc::Global;
 use std::marker::Model;
 
-/// What cuts the bytes of a stimulus into lines, and the tracer for them.
+/// What cuts the bytes of a stimulus into lines, and what takes them.
 #[derive(Drop)]
 pub struct StimulusReader {
     feeder: LineFeeder,
-    tracer: Tracer,
-    /// What takes lines side by side, where the circuit has no latches.
-    side_by_side: Option<SideBySide>,
+    taker: Taker,
 }
 
 impl Model for StimulusReader {
     ghost use Rattle.aig_trace.specs.Parts.Tracing.{Reading};
-    ghost use Rattle.aig_trace.specs.Parts.Waits.{MayServe, waiting_in};
+    ghost use Rattle.aig_trace.specs.Parts.Taking.{tracing_in, waiting_in};
 
     ghost Value = { Reading };
 
-    ghost view = { λ r. record { feeder = r.feeder; tracing = r.tracer; waiting = waiting_in r.side_by_side } };
-
-    ghost invariant = { λ r. MayServe r.tracer.circuit r.tracer.columns r.side_by_side };
-}
-
-/// What takes lines side by side, if the circuit has no latches, and not too many inputs.
-fn make_side_by_side(
-    alloc: Global,
-    checked: &Checked,
-    tracer: &Tracer,
-) -> Result<Option<SideBySide>, OutOfMemory>
-    requires { MeansTheSame checked.now tracer.now.circuit }
-    ensures serves { IfOk result (λ made. MayServe tracer.now.circuit tracer.now.columns made) }
-    ensures settled { IfOk result (λ made. waiting_in made ≡ []) }
-{
-    let circuit = checked.circuit();
-    if circuit.latches.len() > 0 {
-        return Ok(None);
-    }
-    if circuit.inputs.len() > MOST_INPUTS {
-        return Ok(None);
-    }
-    Ok(Some(SideBySide::new(alloc, tracer, line_room(checked))?))
+    ghost view = { λ r. record {
+      feeder = r.feeder;
+      tracing = tracing_in r.taker;
+      waiting = waiting_in r.taker;
+    } };
 }
 
 impl StimulusReader {
@@ -65,55 +43,45 @@ impl StimulusReader {
         ensures err { IfErr result (λ e. e ≡ IsOutOfMemory) }
     {
         let tracer = Tracer::new(alloc, checked, columns)?;
-        let Ok(side_by_side) = make_side_by_side(alloc, checked, &tracer) else {
-            drop(tracer);
-            return Err(SimFault::OutOfMemory);
-        };
-        let Ok(feeder) = LineFeeder::new(alloc, checked.circuit().inputs.len().max(1)) else {
-            drop(tracer);
-            drop(side_by_side);
-            return Err(SimFault::OutOfMemory);
-        };
-        Ok(StimulusReader {
-            feeder,
-            tracer,
-            side_by_side,
-        })
+        let taker = Taker::new(alloc, checked, tracer)?;
+        let feeder = LineFeeder::new(alloc, checked.circuit().inputs.len().max(1))?;
+        Ok(StimulusReader { feeder, taker })
     }
 
     /// What it runs.
     pub fn machine(&self) -> &Machine
         ensures { result.now ≡ self.now.tracing.circuit }
     {
-        self.tracer.machine()
+        self.taker.tracer().machine()
     }
 
     /// It puts the text into this output.
-    pub(crate) fn start<'a, W: Sink>(self, output: Output<'a, W>) -> (LineFeeder, LineTracer<'a, W>)
+    pub(crate) fn into_line_tracer<'a, W: Sink>(
+        self,
+        output: Output<'a, W>,
+    ) -> (LineFeeder, LineTracer<'a, W>)
         ensures feeder { result.0 ≡ self.feeder }
         ensures lines { result.1
             ≡ record { tracing = self.tracing; waiting = self.waiting; output = output.entry } }
     {
-        let StimulusReader {
-            feeder,
-            tracer,
-            side_by_side,
-        } = self;
-        (feeder, LineTracer::new(tracer, side_by_side, output))
+        let StimulusReader { feeder, taker } = self;
+        (feeder, LineTracer::new(taker, output))
     }
 
-    /// Puts the text for all lines of the bytes up to the first bad one, and ends the run that is going on then, if it
-    /// has a step.
-    pub fn put_text<'a, W: Sink>(self, output: Output<'a, W>, bytes: &[u8]) -> Output<'a, W>
+    /// Puts the text for all lines of the bytes up to the first bad one, and ends the run that is
+    /// going on then, if it has a step.
+    pub fn put_trace_text<'a, W: Sink>(self, output: Output<'a, W>, bytes: &[u8]) -> Output<'a, W>
         requires { IsFresh self }
         ensures { PutText self.tracing bytes.now output.entry result }
     {
-        let (mut feeder, mut lines) = self.start(output);
+        // Not by `into_line_tracer`: the block of the output would then be moved twice more.
+        let StimulusReader { mut feeder, taker } = self;
+        let mut lines = LineTracer::new(taker, output);
         let _whole = feeder.feed(&mut lines, bytes);
         let _last = feeder.end(&mut lines);
-        drop(feeder);
+        drop(feeder); // for the proof
         lines.settle();
-        lines.close();
+        lines.end_run();
         lines.into_output()
     }
 }

@@ -1,5 +1,6 @@
 //! A circuit over a stimulus text.
-ghost use Rattle.std.specs.Prelude.{◌≡◌, ◌+◌, ◌-◌, ◌^◌, ◌<◌, ◌≤◌, [], ℕ, List, false, length, not, true};
+ghost use Rattle.std.specs.Prelude.{◌≡◌, ◌+◌, ◌-◌, ◌^◌, ◌<◌, ◌≤◌, [], ℕ, List};
+ghost use Rattle.std.specs.Prelude.{false, length, not, true};
 ghost use Rattle.aig_io.specs.Devices.{CanFail};
 ghost use Rattle.aig_io.specs.Runs.{Ran};
 ghost use Rattle.aig_lines.specs.Fed.{IsFed, IsUnfed};
@@ -7,7 +8,7 @@ ghost use Rattle.aig_lines.specs.Feeding.{Feeding, fed};
 ghost use Rattle.aig_step.specs.Outcome.{TraceSays};
 ghost use Rattle.aig_trace.specs.Parts.Progress.{begin_of};
 ghost use Rattle.aig_trace.specs.Parts.Saying.{Saying, before_lines, longest_entry, say_line};
-ghost use Rattle.aig_trace.specs.Parts.Streaming.{Ends, IsTraced, ended_so};
+ghost use Rattle.aig_trace.specs.Parts.Streaming.{StreamEnds, IsTraced, ended_so};
 ghost use Rattle.aig_trace.specs.Parts.Tracing.{HasTraced, Task, point_of};
 
 use crate::line_tracer::LineTracer;
@@ -18,7 +19,8 @@ use aig_lines::LineFeeder;
 use aig_step::{Columns, SimFault};
 use std::alloc::Global;
 
-/// How lines end that were taken: the text for them was not sent, or the line of this number is bad, or neither.
+/// How lines end that were taken: the text for them was not sent, or the line of this number is
+/// bad, or neither.
 fn outcome_of_lines(failed: bool, good: bool, number: u64) -> Result<(), SimFault>
     ensures { result ≡ ended_so failed good number }
 {
@@ -43,7 +45,8 @@ fn trace_chunk<W: Sink>(
     ensures number { feeder.new.number ≤ feeder.old.number + length chunk.now }
     ensures settled { lines.new.waiting ≡ [] }
     ensures empty { lines.new.output.held ≡ [] }
-    ensures ended { result ≡ ended_so lines.new.output.failed (not feeder.new.refused) feeder.new.number }
+    ensures ended { result
+        ≡ ended_so lines.new.output.failed (not feeder.new.refused) feeder.new.number }
 {
     let good = feeder.feed(lines, chunk);
     lines.settle();
@@ -58,12 +61,13 @@ fn trace_end<W: Sink>(feeder: &mut LineFeeder, lines: &mut LineTracer<W>) -> Res
         (fed say_line (before_lines task (length task.circuit.inputs)) bytes)
         → IsTraced task.circuit task.columns bytes true task.from lines.new.output feeder.new }
     ensures empty { lines.new.output.held ≡ [] }
-    ensures ended { result ≡ ended_so lines.new.output.failed (not feeder.new.refused) feeder.new.number }
+    ensures ended { result
+        ≡ ended_so lines.new.output.failed (not feeder.new.refused) feeder.new.number }
 {
     let good = feeder.end(lines);
     lines.settle();
     if good {
-        lines.close();
+        lines.end_run();
     }
     let sent = lines.flush();
     outcome_of_lines(sent.is_err(), good, feeder.number())
@@ -84,7 +88,7 @@ fn trace_all<R: Source, W: Sink>(
     requires empty { lines.old.output.held ≡ [] }
     requires fine { lines.old.output.failed ≡ false }
     requires source { CanFail (R.past source.old) }
-    ensures { Ends lines.old.tracing.circuit lines.old.tracing.columns result
+    ensures { StreamEnds lines.old.tracing.circuit lines.old.tracing.columns result
         (R.past source.old) (R.past source.new) lines.old.output lines.new.output }
 {
     loop {
@@ -99,7 +103,8 @@ fn trace_all<R: Source, W: Sink>(
     }
 }
 
-/// How many bytes are fetched at once: a block; or more where lines are taken side by side, as many as have lanes.
+/// How many bytes are fetched at once: a block; or more where lines are taken side by side, as many
+/// as have lanes.
 fn block_room(checked: &Checked) -> usize
     ensures { 0 < result }
 {
@@ -110,9 +115,10 @@ fn block_room(checked: &Checked) -> usize
     (256 * (circuit.inputs.len() + 1)).clamp(ROOM, 1 << 20)
 }
 
-/// Simulates a circuit over a stimulus text, and writes the trace text. The text of a line is sent before more bytes
-/// are fetched, so that a step can be seen when its line was typed. All memory is taken before the first fetch. Steps of
-/// a circuit without latches that came at once are taken side by side.
+/// Simulates a circuit over a stimulus text, and writes the trace text. The text of a line is sent
+/// before more bytes are fetched, so that a step can be seen when its line was typed. All memory is
+/// taken before the first fetch. Steps of a circuit without latches that came at once are taken
+/// side by side.
 // Not built into its callers, whose stack would then hold the rooms for lines several times over.
 #[inline(never)]
 pub fn simulate<R: Source, W: Sink>(
@@ -131,14 +137,14 @@ pub fn simulate<R: Source, W: Sink>(
     let reader = match StimulusReader::new(alloc, checked, columns) {
         Ok(reader) => reader,
         Err(fault) => {
-            drop(block);
+            drop(block); // for the proof
             return Err(fault);
         }
     };
-    let (mut feeder, mut lines) = reader.start(Output::new(sink));
+    let (mut feeder, mut lines) = reader.into_line_tracer(Output::new(sink));
     let traced = trace_all(&mut feeder, &mut lines, &mut block, source);
-    drop(block);
-    drop(feeder);
+    drop(block); // for the proof
+    drop(feeder); // for the proof
     let _sink = lines.into_output().into_sink();
     traced
 }

@@ -90,7 +90,7 @@ impl Tracer {
 
     /// How many inputs the circuit has.
     #[inline(always)]
-    pub(crate) fn inputs(&self) -> usize
+    pub(crate) fn count_inputs(&self) -> usize
         ensures { result ≡ length self.now.circuit.inputs }
     {
         self.machine().parts().inputs.len()
@@ -103,7 +103,7 @@ impl Tracer {
         ensures each_latch { length self.old.state ≡ length self.old.circuit.latches }
     {
         // That there is a value for each latch is known by this call.
-        let _state = self.stepper.state();
+        let _state = self.stepper.state(); // for the proof
         self.has_step = true;
     }
 
@@ -146,7 +146,8 @@ impl Tracer {
         output.put(b".\n");
     }
 
-    /// Does what the text of a line says, puts the text for it, and answers whether it says anything.
+    /// Does what the text of a line says, puts the text for it, and answers whether it says
+    /// anything.
     #[inline(always)]
     pub(crate) fn take_line<W: Sink>(&mut self, output: &mut Output<W>, text: &[u8]) -> bool
         ensures good { result ≡ true → TookLine self.old self.new output.old output.new text.now }

@@ -1,8 +1,8 @@
 //! Lines of a stimulus that were read, and whose text is not put yet.
-ghost use Rattle.std.specs.Prelude.{◌≡◌, ◌+◌, ◌++◌, ◌*◌, ◌<◌, ◌≤◌, ◌^◌, ◌∷◌, ℕ, List, [], None, Some, false, true, IfOk};
+ghost use Rattle.std.specs.Prelude.{◌≡◌, ◌+◌, ◌++◌, ◌*◌, ◌<◌, ◌≤◌, ◌^◌, ◌∷◌, ℕ, List, []};
+ghost use Rattle.std.specs.Prelude.{IfOk, None, Some, false, true};
 ghost use Rattle.std.specs.Prelude.{drop, is_some, length, slice_index_or, take};
 ghost use Rattle.aig_circuit.specs.declared.value.Val.{Val as Value};
-ghost use Rattle.aig_lanes.specs.Parts.Vectors.{vectors_in};
 ghost use Rattle.aig_step.specs.Parts.Lines.{vector_in};
 ghost use Rattle.aig_step.specs.Stimulus.{Step, Stop, entry_in};
 ghost use Rattle.aig_trace.specs.Parts.WaitingRoom.{IsWaiting};
@@ -19,7 +19,7 @@ const LINES: usize = 512;
 
 /// Puts characters over others, from a place on.
 #[inline(always)]
-fn put_text(texts: &mut [u8], at: usize, text: &[u8])
+fn overwrite(texts: &mut [u8], at: usize, text: &[u8])
     requires { at + length text.now ≤ length texts.old }
     ensures before { take at texts.new ≡ take at texts.old }
     ensures here { take (length text.now) (drop at texts.new) ≡ text.now }
@@ -43,7 +43,7 @@ pub(crate) struct Waiting {
 }
 
 impl Waiting {
-    ghost use Rattle.aig_trace.specs.Parts.Waits.{HasRoomForLine, entries_of, entry_at};
+    ghost use Rattle.aig_trace.specs.Parts.Waits.{HasRoomForLine, entries_of, entry_at, vectors_of};
 
     /// No line waits, and there is room for all that may.
     pub(crate) fn new(alloc: Global, inputs: usize) -> Result<Self, OutOfMemory>
@@ -87,7 +87,7 @@ impl Waiting {
 
     /// The step of a line, if it is one.
     #[inline(always)]
-    pub(crate) fn step(&self, line: usize) -> Option<usize>
+    pub(crate) fn step_of(&self, line: usize) -> Option<usize>
         requires { line < self.now.count }
         ensures says { entry_at self.now.inputs self.now.texts.items result
             ≡ slice_index_or (entries_of self.now) line Stop }
@@ -100,7 +100,8 @@ impl Waiting {
     #[inline(always)]
     pub(crate) fn text(&self, step: usize) -> &[u8]
         requires { step < self.now.steps }
-        ensures { result.now ≡ take self.now.inputs (drop (step * self.now.inputs) self.now.texts.items) }
+        ensures { result.now
+            ≡ take self.now.inputs (drop (step * self.now.inputs) self.now.texts.items) }
     {
         let (_, rest) = self.texts.split_at(step * self.inputs);
         let (text, _) = rest.split_at(self.inputs);
@@ -110,9 +111,10 @@ impl Waiting {
     /// The text of a line.
     pub(crate) fn line_text(&self, line: usize) -> &[u8]
         requires { line < self.now.count }
-        ensures { entry_in self.now.inputs result.now ≡ Some (slice_index_or (entries_of self.now) line Stop) }
+        ensures { entry_in self.now.inputs result.now
+            ≡ Some (slice_index_or (entries_of self.now) line Stop) }
     {
-        match self.step(line) {
+        match self.step_of(line) {
             Some(step) => self.text(step),
             None => b".",
         }
@@ -120,7 +122,7 @@ impl Waiting {
 
     /// The steps.
     pub(crate) fn vectors(&self) -> Vectors<'_>
-        ensures { result.steps ≡ vectors_in self.now.inputs self.now.inputs self.now.steps self.now.texts.items }
+        ensures { result.steps ≡ vectors_of self.now }
     {
         Vectors::new(&self.texts, self.inputs, self.inputs, self.steps)
     }
@@ -134,7 +136,7 @@ impl Waiting {
             → entries_of self.new ≡ entries_of self.old ++ Step given ∷ [] }
         ensures inputs { self.new.inputs ≡ self.old.inputs }
     {
-        put_text(&mut self.texts, self.steps * self.inputs, text);
+        overwrite(&mut self.texts, self.steps * self.inputs, text);
         self.lines[self.count] = Some(self.steps);
         self.steps += 1;
         self.count += 1;

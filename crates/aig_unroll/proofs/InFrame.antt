@@ -20,7 +20,7 @@ use Rattle.aig_circuit.specs.Wellformed.{IsKnown, IsWellFormed, defined_variable
 use Rattle.aig_circuit.proofs.Checking.{all_weaker, known_in_range}
 use Rattle.aig_checked.specs.BinaryOrder.{AreOrderedGates, IsInBinaryOrder}
 use Rattle.aig_meaning.proofs.Related.{AreDefined, known_next, known_outputs, known_bad, known_constraints}
-use Rattle.aig_unroll.specs.Parts.Standing.{stood, with_sign, GateHasRoom, HasRoom}
+use Rattle.aig_unroll.specs.Parts.Standing.{stood, with_sign, GateHasRoom, FitsLiteral}
 use Rattle.aig_unroll.specs.Unrolled.{IsTooLarge, all_inputs, at, first_gate, first_input, frame_size, latches_at}
 use Rattle.aig_unroll.specs.Unrolled.{chain_at, chain_behind, first_constraint, first_latches, next_of, resets_of}
 use Rattle.aig_unroll.specs.Unrolled.{standing_for, uninitialised}
@@ -76,7 +76,17 @@ module _ (c : Circuit) (frames t : ℕ) (latches : List ℕ) (all : length latch
       → get_or (table (first_input c t) n latches) v 0 ≡ standing_for c frames t latches v
   in_table zero below = refl
   in_table (suc w) below =
-      search (rules, length-map-range_with_len, cases_lt, eqb-suc-zero, le-leb, get_or_append_left, get_or-map-range_with_len, lt-leb, get_or-append_right)
+      search (
+        rules,
+        length-map-range_with_len,
+        cases_lt,
+        eqb-suc-zero,
+        le-leb,
+        get_or_append_left,
+        get_or-map-range_with_len,
+        lt-leb,
+        get_or-append_right,
+      )
 
   -- and a gate's variable is one of the frame
   behind_table : (v : ℕ) → 1 + n + m ≤ v
@@ -140,27 +150,27 @@ module _ (c : Circuit) (frames t : ℕ) (formed : IsWellFormed c) (ordered : IsI
   pub inputs_fit : first_input c t + length c.inputs ≤ 1 + all_inputs c frames
   inputs_fit = omega (arith, row_end (length c.inputs) t frames within)
 
-  known_has_room : (literal : ℕ) → IsKnown (defined_variables c) literal → HasRoom places here literal
+  known_has_room : (literal : ℕ) → IsKnown (defined_variables c) literal → FitsLiteral places here literal
   known_has_room literal known = search (rules, known_in_range, places_are, gates_fit)
 
-  all_have_room : (literals : List ℕ) → AreDefined c literals → AllByRecursion (HasRoom places here) literals
-  all_have_room = all_weaker (IsKnown (defined_variables c)) (HasRoom places here) known_has_room
+  all_have_room : (literals : List ℕ) → AreDefined c literals → AllByRecursion (FitsLiteral places here) literals
+  all_have_room = all_weaker (IsKnown (defined_variables c)) (FitsLiteral places here) known_has_room
 
-  have_room : (literals : List ℕ) → AreDefined c literals → All (HasRoom places here) literals
-  have_room literals known = All-from_recursion (HasRoom places here) literals (all_have_room literals known)
+  have_room : (literals : List ℕ) → AreDefined c literals → All (FitsLiteral places here) literals
+  have_room literals known = All-from_recursion (FitsLiteral places here) literals (all_have_room literals known)
 
-  pub outputs_have_room : All (HasRoom places here) c.outputs
+  pub outputs_have_room : All (FitsLiteral places here) c.outputs
   outputs_have_room = have_room c.outputs (known_outputs c formed)
 
-  pub bad_has_room : All (HasRoom places here) c.bad
+  pub bad_has_room : All (FitsLiteral places here) c.bad
   bad_has_room = have_room c.bad (known_bad c formed)
 
-  pub constraints_have_room : All (HasRoom places here) c.constraints
+  pub constraints_have_room : All (FitsLiteral places here) c.constraints
   constraints_have_room = have_room c.constraints (known_constraints c formed)
 
-  pub nexts_have_room : All (λ (l : Latch). HasRoom places here l.next) c.latches
+  pub nexts_have_room : All (λ (l : Latch). FitsLiteral places here l.next) c.latches
   nexts_have_room =
-      next_places (HasRoom places here) c.latches
+      next_places (FitsLiteral places here) c.latches
       (all_have_room (map (λ (l : Latch). l.next) c.latches) (known_next c formed))
 
   pub gates_have_room : All (GateHasRoom places here) c.gates
@@ -217,4 +227,5 @@ pub first_frame : (c : Circuit) (frames input gate : ℕ) (standing next : List 
     → gate ≡ input + frames * length c.inputs
     → standing ≡ table input (length c.inputs) (first_latches 1 (resets_of c)) → length next ≡ length c.latches
     → IsFrame c frames 0 input gate standing next
-first_frame c frames input gate standing next formed ordered fits some input_is gate_is standing_is next_room = search rules
+first_frame c frames input gate standing next formed ordered fits some input_is gate_is standing_is next_room =
+    search rules

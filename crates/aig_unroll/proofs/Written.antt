@@ -1,6 +1,6 @@
 -- The text of an unrolled circuit, frame by frame.
-use Rattle.std.proofs.Common.{◌≡◌, ◌+◌, ◌*◌, ◌<◌, ◌++◌, ◌∙◌, ℕ, List, ap, arith, subst, sym, rules, append-nil}
-use Rattle.std.proofs.Common.{append_assoc, drop, length, take, All, flat_map, take-add, take-append-drop}
+use Rattle.std.proofs.Common.{◌≡◌, ◌+◌, ◌*◌, ◌<◌, ◌++◌, ◌∙◌, ◌∷◌, ℕ, List, [], ap, ap₂, arith, subst, sym}
+use Rattle.std.proofs.Common.{refl, rules, append-nil, append_assoc, drop, length, take, All, flat_map, take-add, take-append-drop}
 use Rattle.std.specs.List.{range_with_len}
 use Rattle.std.proofs.lemmas.List.Concat.{flat_map-append}
 use Rattle.std.proofs.lemmas.List.FromFn.{length-range_with_len}
@@ -56,6 +56,12 @@ module _ {W : Type 0} where
       → Put a b (flat_map text (range_with_len first n)) → Put b c (text (first + n))
       → Put a c (flat_map text (range_with_len first (n + 1)))
   variable_more text first n a b c p q = search (rules, range_more, flat_map-append, append-nil, put_twice)
+
+-- where no frame has anything, all together have nothing
+pub none_in_any : {X : Type 0} (items : ℕ → List X) → ((t : ℕ) → items t ≡ []) → (ts : List ℕ)
+    → flat_map items ts ≡ []
+none_in_any items none [] = refl
+none_in_any {X} items none (t ∷ ts) = ap₂ (λ (a b : List X). a ++ b) (none t) (none_in_any items none ts)
 
 -- Whatever frame it is in, the unrolled circuit is the same.
 pub same_circuit : (f g : Frame) → g ≡ record f { frame = g.frame }

@@ -1,7 +1,7 @@
 //! Why a circuit was not unrolled.
 ghost use Rattle.std.specs.Prelude.{◌≡◌, Some};
 ghost use Rattle.aig_rows.specs.Messages.{message_text};
-ghost use Rattle.aig_unroll.specs.Messages.{unroll_fault_text};
+ghost use Rattle.aig_unroll.specs.Messages.{clause_fault_text, unroll_fault_text};
 ghost use Rattle.aig_unroll.specs.declared.fault.UnrollFault.TheVariants.{OutOfMemory as IsOutOfMemory};
 
 use aig_core::OutOfMemory;
@@ -59,3 +59,34 @@ impl From<OutOfMemory> for UnrollFault {
         UnrollFault::OutOfMemory
     }
 }
+
+/// Why no clauses are made of an unrolled circuit.
+#[derive(Clone, Copy, Debug, Drop, PartialEq)]
+pub enum ClauseFault {
+    /// There is no bad state that could be reached.
+    NoBadStates,
+    /// A variable would have a number that solvers do not take.
+    TooLarge,
+}
+
+impl ClauseFault {
+    /// Why there are none, in words.
+    pub fn message(&self) -> Message
+        ensures { message_text result ≡ clause_fault_text self.now }
+    {
+        match self {
+            ClauseFault::NoBadStates => Message::new("no bad states"),
+            ClauseFault::TooLarge => Message::new("too large to unroll"),
+        }
+    }
+}
+
+impl fmt::Display for ClauseFault {
+    ghost output = { λ fault. Some (clause_fault_text fault) };
+
+    fn fmt<W: fmt::Write>(&self, f: &mut fmt::Formatter<W>) -> fmt::Result {
+        write!(f, "{}", self.message())
+    }
+}
+
+impl Error for ClauseFault {}

@@ -1,5 +1,6 @@
 //! A circuit frame by frame, as it is unrolled.
-ghost use Rattle.std.specs.Prelude.{◌≡◌, ◌+◌, ◌-◌, ◌<◌, ◌≤◌, ◌∷◌, drop, length, map, take, IfOk};
+ghost use Rattle.std.specs.Prelude.{◌≡◌, ◌+◌, ◌-◌, ◌<◌, ◌≤◌, ◌∷◌, ℕ, [], drop, length, map, take};
+ghost use Rattle.std.specs.Prelude.{IfOk, IsTrue};
 ghost use Rattle.std.specs.List.{All};
 ghost use Rattle.aig_circuit.specs.declared.circuit.Latch.{Latch as LatchRecord};
 ghost use Rattle.aig_circuit.specs.declared.circuit.TheConstants.{LARGEST};
@@ -11,10 +12,10 @@ ghost use Rattle.aig_unroll.specs.Unrolled.{IsTooLarge, all_inputs, bad_at};
 ghost use Rattle.aig_unroll.specs.Unrolled.{chain_at, first_latches, frame_size};
 ghost use Rattle.aig_unroll.specs.Unrolled.{gates_at, outputs_at, resets_of, uninitialised};
 ghost use Rattle.aig_unroll.specs.Parts.Frames.{behind_by, table};
-ghost use Rattle.aig_unroll.specs.Parts.Standing.{GateHasRoom, HasRoom, stood};
+ghost use Rattle.aig_unroll.specs.Parts.Standing.{GateHasRoom, FitsLiteral, stood};
 
 use crate::standing::{
-    put_chain, put_copies, put_first, put_guards, put_literals, put_nexts, put_numbered,
+    put_chain, put_copies, put_first_latches, put_guards, put_literals, put_nexts, put_numbered,
 };
 use aig_core::{Circuit, Gate, Latch, Lit, Ordered, OutOfMemory, Reset};
 use std::alloc::{AllocError, Global};
@@ -80,7 +81,7 @@ fn put_standing(first_input: u32, inputs: usize, latches: &[Latch], standing: &m
         (map (λ (l : LatchRecord). l.reset) latches.now)) }
 {
     put_numbered(first_input, &mut standing[1..1 + inputs]);
-    put_first(latches, &mut standing[1 + inputs..]);
+    put_first_latches(latches, &mut standing[1 + inputs..]);
 }
 
 fn first_standing(
@@ -135,8 +136,8 @@ fn change_standing(first_input: u32, next: &[Lit], standing: &mut [Lit])
 /// what stands for their literals where the circuit's gates have the variables from this one on.
 fn put_behind(standing: &[Lit], first: u32, chain: Lit, circuit: &Circuit, out: &mut [Gate])
     requires room { length out.old ≡ length circuit.now.constraints + length circuit.now.bad }
-    requires constraints { All (HasRoom (length standing.now) first) circuit.now.constraints }
-    requires bad { All (HasRoom (length standing.now) first) circuit.now.bad }
+    requires constraints { All (FitsLiteral (length standing.now) first) circuit.now.constraints }
+    requires bad { All (FitsLiteral (length standing.now) first) circuit.now.bad }
     requires small { first + frame_size circuit.now ≤ LARGEST + 1 }
     ensures { out.new ≡ behind_by (stood standing.now first) first chain circuit.now }
 {
@@ -213,6 +214,14 @@ impl Frames {
         gates_of_frame(&self.circuit)
     }
 
+    /// Whether no frame has a gate.
+    pub(crate) fn has_no_gates(&self) -> bool
+        ensures { IsTrue result
+            → (t : ℕ) → gates_at self.now.circuit self.now.frames t ≡ [] }
+    {
+        self.count_gates() == 0
+    }
+
     /// The chain of constraints before the frame: the last gate of the chain of the frame before.
     fn chain(&self) -> Lit
         ensures { result ≡ chain_at self.now.circuit self.now.frames self.now.frame }
@@ -270,7 +279,7 @@ impl Frames {
         put_behind(standing, self.first_gate, self.chain(), &self.circuit, out);
     }
 
-    pub(crate) fn put_gates(&self, at: usize, out: &mut [Gate])
+    pub(crate) fn put_gates_from(&self, at: usize, out: &mut [Gate])
         requires within { at ≤ length self.now.circuit.gates }
         requires room { at + length out.old ≡ frame_size self.now.circuit }
         ensures gates { out.new ≡ drop at
@@ -293,7 +302,7 @@ impl Frames {
         put_standing(self.first_input, inputs, latches, &mut self.standing);
     }
 
-    pub(crate) fn advance(&mut self)
+    pub(crate) fn enter_next(&mut self)
         requires { self.old.frame + 1 < self.old.frames }
         ensures { self.new ≡ record self.old { frame = self.old.frame + 1 } }
     {
@@ -306,7 +315,7 @@ impl Frames {
     }
 
     /// Goes to a frame: to frame 0 from anywhere, and to a later one from the one before it.
-    pub(crate) fn enter(&mut self, frame: u32)
+    pub(crate) fn enter_frame(&mut self, frame: u32)
         requires within { frame < self.old.frames }
         requires behind { 0 < frame → frame ≡ self.old.frame + 1 }
         ensures { self.new ≡ record self.old { frame = frame } }
@@ -314,7 +323,7 @@ impl Frames {
         if frame == 0 {
             self.restart();
         } else {
-            self.advance();
+            self.enter_next();
         }
     }
 }

@@ -1,7 +1,7 @@
 //! The unroller: copies of a circuit in time, as one circuit without latches.
 //!
-//! Others call `Unrolling`, which writes the unrolled circuit frame by frame and never holds it,
-//! and `unroll`, which makes it as a whole.
+//! Others call `Unrolling`, which writes the unrolled circuit or its clauses frame by frame and
+//! never holds it, and `unroll`, which makes it as a whole.
 //!
 //! The definitions that matter most are `unrolled`, `IsUnrolled` and `side_by_side`.
 #![tactic(auto)]
@@ -14,6 +14,6 @@ mod unroller;
 mod unrolling;
 mod writing;
 
-pub use crate::fault::UnrollFault;
+pub use crate::fault::{ClauseFault, UnrollFault};
 pub use crate::unroller::Unrolling;
 pub use crate::unrolling::unroll;

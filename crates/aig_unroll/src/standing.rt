@@ -8,7 +8,7 @@ ghost use Rattle.aig_circuit.specs.declared.circuit.TheConstants.{LARGEST};
 ghost use Rattle.aig_circuit.specs.Literal.{literal_of};
 ghost use Rattle.aig_unroll.specs.Unrolled.{chain_behind, chained, copied};
 ghost use Rattle.aig_unroll.specs.Unrolled.{first_latches, gate_of, guarded};
-ghost use Rattle.aig_unroll.specs.Parts.Standing.{GateHasRoom, HasRoom, stood};
+ghost use Rattle.aig_unroll.specs.Parts.Standing.{GateHasRoom, FitsLiteral, stood};
 
 use aig_core::{Gate, Latch, Lit, Reset, Var};
 
@@ -16,7 +16,7 @@ use aig_core::{Gate, Latch, Lit, Reset, Var};
 #[inline(always)]
 #[tactic(auto, using(crate::proofs::InFrame::looked_up))]
 fn stands_for(standing: &[Lit], first_gate: u32, literal: Lit) -> Lit
-    requires { HasRoom (length standing.now) first_gate literal }
+    requires { FitsLiteral (length standing.now) first_gate literal }
     ensures { result ≡ stood standing.now first_gate literal }
 {
     let variable = literal.var().0 as usize;
@@ -51,7 +51,7 @@ pub(crate) fn put_numbered(first: u32, out: &mut [Lit])
 }
 
 /// Puts what latches start at: their resets, and of uninitialised ones the variables from 1 on.
-pub(crate) fn put_first(latches: &[Latch], out: &mut [Lit])
+pub(crate) fn put_first_latches(latches: &[Latch], out: &mut [Lit])
     requires room { length out.old ≡ length latches.now }
     requires small { length latches.now ≤ LARGEST }
     ensures { out.new ≡ first_latches 1 (map (λ (l : LatchRecord). l.reset) latches.now) }
@@ -71,7 +71,7 @@ pub(crate) fn put_first(latches: &[Latch], out: &mut [Lit])
 
 pub(crate) fn put_literals(standing: &[Lit], first_gate: u32, literals: &[Lit], out: &mut [Lit])
     requires room { length out.old ≡ length literals.now }
-    requires below { All (HasRoom (length standing.now) first_gate) literals.now }
+    requires below { All (FitsLiteral (length standing.now) first_gate) literals.now }
     ensures { out.new ≡ map (stood standing.now first_gate) literals.now }
 {
     for i in 0..literals.len() {
@@ -82,7 +82,7 @@ pub(crate) fn put_literals(standing: &[Lit], first_gate: u32, literals: &[Lit], 
 pub(crate) fn put_nexts(standing: &[Lit], first_gate: u32, latches: &[Latch], out: &mut [Lit])
     requires room { length out.old ≡ length latches.now }
     requires below { All
-        (λ (l : LatchRecord). HasRoom (length standing.now) first_gate l.next) latches.now }
+        (λ (l : LatchRecord). FitsLiteral (length standing.now) first_gate l.next) latches.now }
     ensures { out.new ≡ map (stood standing.now first_gate)
         (map (λ (l : LatchRecord). l.next) latches.now) }
 {
@@ -123,7 +123,7 @@ pub(crate) fn put_chain(
     out: &mut [Gate],
 ) -> Lit
     requires room { length out.old ≡ length literals.now }
-    requires below { All (HasRoom (length standing.now) first_gate) literals.now }
+    requires below { All (FitsLiteral (length standing.now) first_gate) literals.now }
     requires small { first + length literals.now ≤ LARGEST + 1 }
     ensures gates { out.new ≡ chained first chain
         (map (stood standing.now first_gate) literals.now) }
@@ -152,7 +152,7 @@ pub(crate) fn put_guards(
     out: &mut [Gate],
 )
     requires room { length out.old ≡ length literals.now }
-    requires below { All (HasRoom (length standing.now) first_gate) literals.now }
+    requires below { All (FitsLiteral (length standing.now) first_gate) literals.now }
     requires small { first + length literals.now ≤ LARGEST + 1 }
     ensures { out.new ≡ guarded first chain (map (stood standing.now first_gate) literals.now) }
 {

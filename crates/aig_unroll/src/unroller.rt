@@ -5,18 +5,20 @@ ghost use Rattle.aig_io.specs.Output.{Put};
 ghost use Rattle.aig_io.specs.Devices.{CanFail, took, TookBeginning};
 ghost use Rattle.aig_text.specs.AsciiText.{ascii_text};
 ghost use Rattle.aig_binary.specs.BinaryText.{binary_text};
+ghost use Rattle.aig_cnf.specs.ClauseText.{cnf_text};
 ghost use Rattle.aig_unroll.specs.Unrolled.{IsTooLarge, IsUnrolled, IsUnsupported, unrolled};
-ghost use Rattle.aig_unroll.specs.Outcome.{NotUnrolled};
+ghost use Rattle.aig_unroll.specs.Outcome.{HasClauses, NotInClauses, NotUnrolled};
 ghost use Rattle.aig_unroll.specs.Parts.Writing.{gate_room};
 
-use crate::fault::UnrollFault;
+use crate::fault::{ClauseFault, UnrollFault};
 use crate::frames::Frames;
 use crate::unrolling::check_supported;
 use crate::writing::{
-    BadLines, GateDeltas, GateLines, OutputLines, header_numbers, put_inputs, put_section,
-    room_of_gates,
+    BadLines, BadLiterals, GateClauses, GateDeltas, GateLines, OutputLines, check_clauses,
+    clause_numbers, header_numbers, put_inputs, put_section, room_of_gates,
 };
 use aig_binary::BINARY_WORD;
+use aig_cnf::{put_clause, put_clause_end, put_clauses_header};
 use aig_core::{Checked, Circuit, Gate, Lit, Ordered, OutOfMemory, Output, Sink, Var};
 use aig_image::into_binary;
 use aig_text::{ASCII_WORD, WriteFault, put_header};
@@ -39,16 +41,16 @@ pub struct Unrolling {
 impl Model for Unrolling {
     ghost use Rattle.aig_circuit.specs.declared.circuit.Circuit.{Circuit};
     ghost use Rattle.aig_unroll.specs.Unrolled.{unrolled};
-    ghost use Rattle.aig_unroll.specs.Parts.Writing.{IsReady};
+    ghost use Rattle.aig_unroll.specs.Parts.Writing.{IsReadyToWrite};
 
     ghost Value = { Circuit };
 
     ghost view = { λ u. unrolled u.copies.circuit u.copies.frames };
 
-    ghost invariant = { λ u. IsReady u.copies u.outputs.items u.bad.items u.gates.items };
+    ghost invariant = { λ u. IsReadyToWrite u.copies u.outputs.items u.bad.items u.gates.items };
 }
 
-fn make_room(
+fn new_frame_room(
     alloc: Global,
     circuit: &Circuit,
 ) -> Result<(Vec<Lit>, Vec<Lit>, Vec<Gate>), OutOfMemory>
@@ -75,7 +77,7 @@ impl Unrolling {
         ensures { IfOk result (λ d. d ≡ unrolled image frames) }
     {
         let copies = Frames::new(alloc, image, frames)?;
-        match make_room(alloc, copies.circuit()) {
+        match new_frame_room(alloc, copies.circuit()) {
             Ok((outputs, bad, gates)) => Ok(Unrolling {
                 copies,
                 outputs,
@@ -173,6 +175,51 @@ impl Unrolling {
     {
         let mut output = Output::new(sink);
         self.put_binary(&mut output);
+        let (sent, _sink) = output.finish();
+        sent?;
+        Ok(())
+    }
+
+    /// Whether clauses can be made of the unrolled circuit. Its variables have numbers one larger
+    /// there, for a solver's numbers of 32 bits with a sign; and without a bad state the clauses
+    /// could not be satisfied, which is no answer.
+    pub fn check_clauses(&self) -> Result<(), ClauseFault>
+        ensures ok { OnOk result (HasClauses self.now) }
+        ensures err { IfErr result (NotInClauses self.now) }
+    {
+        check_clauses(&self.copies)
+    }
+
+    fn put_cnf<W: Sink>(self, output: &mut Output<W>)
+        ensures { Put output.old output.new (cnf_text self) }
+    {
+        let Unrolling {
+            mut copies,
+            outputs,
+            mut bad,
+            mut gates,
+        } = self;
+        let (variables, clauses) = clause_numbers(&copies);
+        put_clauses_header(output, variables, clauses);
+        put_clause(output, &[Lit(1)]);
+        put_section::<GateClauses, W>(output, &mut copies, &mut gates);
+        put_section::<BadLiterals, W>(output, &mut copies, &mut bad);
+        put_clause_end(output);
+        drop(outputs); // for the proof
+        drop(copies); // for the proof
+    }
+
+    /// Writes the clauses by which a bad state of the unrolled circuit is 1, as DIMACS text, in
+    /// slices of at most 8,192 bytes. It takes no memory and fails only where the sink fails; the
+    /// sink then took a beginning of the text, and is not called again.
+    pub fn write_cnf<W: Sink>(self, sink: &mut W) -> Result<(), WriteFault>
+        requires { CanFail (W.past sink.old) }
+        ensures ok { OnOk result (W.past sink.new ≡ took (cnf_text self) (W.past sink.old)) }
+        ensures err { OnErr result (TookBeginning (cnf_text self) (W.past sink.old)
+            (W.past sink.new)) }
+    {
+        let mut output = Output::new(sink);
+        self.put_cnf(&mut output);
         let (sent, _sink) = output.finish();
         sent?;
         Ok(())

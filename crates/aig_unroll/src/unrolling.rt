@@ -59,7 +59,7 @@ fn first_variables(alloc: Global, count: u32) -> Result<Vec<Var>, AllocError>
 
 /// Puts the outputs, the bad states and the gates of one frame at the place of its number.
 #[tactic(auto, using(crate::proofs::Ordering::Frames::row_end))]
-fn put_frame(
+fn place_frame(
     copies: &Frames,
     frame: usize,
     outputs: &mut [Lit],
@@ -83,7 +83,7 @@ fn put_frame(
     let width = circuit.bad.len();
     copies.put_bad(&mut bad[frame * width..frame * width + width]);
     let width = copies.count_gates();
-    copies.put_gates(0, &mut gates[frame * width..frame * width + width]);
+    copies.put_gates_from(0, &mut gates[frame * width..frame * width + width]);
 }
 
 fn put_frames(mut copies: Frames, outputs: &mut [Lit], bad: &mut [Lit], gates: &mut [Gate])
@@ -98,15 +98,15 @@ fn put_frames(mut copies: Frames, outputs: &mut [Lit], bad: &mut [Lit], gates: &
     ensures gates { gates.new ≡ flat_map (gates_at copies.circuit copies.frames)
         (range_with_len 0 copies.frames) }
 {
-    put_frame(&copies, 0, outputs, bad, gates);
+    place_frame(&copies, 0, outputs, bad, gates);
     for frame in 1..copies.frames() {
-        copies.advance();
-        put_frame(&copies, frame as usize, outputs, bad, gates);
+        copies.enter_next();
+        place_frame(&copies, frame as usize, outputs, bad, gates);
     }
     drop(copies); // for the proof
 }
 
-fn circuit_of(
+fn unrolled_circuit(
     alloc: Global,
     inputs: Vec<Var>,
     outputs: Vec<Lit>,
@@ -172,7 +172,7 @@ fn unroll_image(alloc: Global, image: Ordered, frames: u32) -> Result<Circuit, O
     match make_lists(alloc, &copies) {
         Ok((inputs, mut outputs, mut bad, mut gates)) => {
             put_frames(copies, &mut outputs, &mut bad, &mut gates);
-            Ok(circuit_of(alloc, inputs, outputs, bad, gates))
+            Ok(unrolled_circuit(alloc, inputs, outputs, bad, gates))
         }
         Err(refused) => {
             drop(copies); // for the proof

@@ -1,16 +1,21 @@
 //! The text of an unrolled circuit, put frame by frame.
 ghost use Rattle.std.specs.Prelude.{◌≡◌, ◌+◌, ◌<◌, ◌≤◌, drop, false, length, take};
+ghost use Rattle.std.specs.Prelude.{IfErr, OnOk};
 ghost use Rattle.std.specs.List.{flat_map, range_with_len};
 ghost use Rattle.aig_circuit.specs.declared.circuit.TheConstants.{LARGEST};
 ghost use Rattle.aig_io.specs.Output.{Put};
 ghost use Rattle.aig_text.specs.Sections.{header_row};
 ghost use Rattle.aig_circuit.specs.Wellformed.{IsWellFormed};
+ghost use Rattle.aig_cnf.specs.Clauses.{bad_clauses};
+ghost use Rattle.aig_unroll.specs.Outcome.{HasClauses, NotInClauses};
 ghost use Rattle.aig_unroll.specs.Unrolled.{frame_size, gates_at, unrolled};
 ghost use Rattle.aig_unroll.specs.Parts.Writing.{gate_room, input_lines};
 
-use crate::frames::Frames;
+use crate::fault::ClauseFault;
+use crate::frames::{Frames, gates_of_frame};
 use aig_binary::put_gates;
-use aig_core::{Circuit, Gate, Lit, Output, Sink, Var};
+use aig_cnf::{put_gates_clauses, put_literals};
+use aig_core::{Circuit, Gate, LARGEST, Lit, Output, Sink, Var};
 use aig_text::{HEADER_NUMBERS, NumberedLine, put_lines};
 
 pub(crate) fn header_numbers(copies: &Frames) -> [u64; HEADER_NUMBERS]
@@ -38,7 +43,7 @@ pub(crate) fn put_inputs<W: Sink>(output: &mut Output<W>, count: u32)
 
 /// A section whose text is put frame by frame.
 pub(crate) trait FrameSection {
-    ghost use Rattle.std.specs.Prelude.{◌≡◌, ℕ, List, length};
+    ghost use Rattle.std.specs.Prelude.{◌≡◌, ℕ, List, [], IsTrue, length};
     ghost use Rattle.std.specs.List.{flat_map};
     ghost use Rattle.aig_circuit.specs.declared.circuit.Circuit.{Circuit as CircuitRecord};
     ghost use Rattle.aig_io.specs.Output.{Put};
@@ -53,6 +58,11 @@ pub(crate) trait FrameSection {
 
     /// The text of one.
     ghost text: { Self.Item → List ℕ };
+
+    /// Whether no frame has any.
+    fn is_empty(copies: &Frames) -> bool
+        ensures { IsTrue result
+            → (t : ℕ) → at copies.now.circuit copies.now.frames t ≡ [] };
 
     fn put<W: Sink>(output: &mut Output<W>, copies: &Frames, room: &mut [Self::Item])
         requires { length room.old ≡ size copies.now.circuit }
@@ -152,7 +162,7 @@ fn put_rest<F: GateText, W: Sink>(
         (drop at (gates_at copies.now.circuit copies.now.frames copies.now.frame))) }
 {
     let count = copies.count_gates() - at;
-    copies.put_gates(at, &mut room[..count]);
+    copies.put_gates_from(at, &mut room[..count]);
     F::put_some(output, &room[..count]);
 }
 
@@ -179,6 +189,10 @@ impl FrameSection for OutputLines {
 
     ghost text = { literal_line };
 
+    fn is_empty(copies: &Frames) -> bool {
+        copies.circuit().outputs.is_empty()
+    }
+
     fn put<W: Sink>(output: &mut Output<W>, copies: &Frames, room: &mut [Lit]) {
         copies.put_outputs(room);
         put_lines(output, room);
@@ -198,6 +212,10 @@ impl FrameSection for BadLines {
 
     ghost text = { literal_line };
 
+    fn is_empty(copies: &Frames) -> bool {
+        copies.circuit().bad.is_empty()
+    }
+
     fn put<W: Sink>(output: &mut Output<W>, copies: &Frames, room: &mut [Lit]) {
         copies.put_bad(room);
         put_lines(output, room);
@@ -215,6 +233,10 @@ impl FrameSection for GateLines {
     ghost at = { gates_at };
 
     ghost text = { gate_line };
+
+    fn is_empty(copies: &Frames) -> bool {
+        copies.has_no_gates()
+    }
 
     fn put<W: Sink>(output: &mut Output<W>, copies: &Frames, room: &mut [Gate]) {
         put_frame_gates::<GateLines, W>(output, copies, room);
@@ -234,13 +256,17 @@ impl FrameSection for GateDeltas {
 
     ghost text = { gate_text };
 
+    fn is_empty(copies: &Frames) -> bool {
+        copies.has_no_gates()
+    }
+
     fn put<W: Sink>(output: &mut Output<W>, copies: &Frames, room: &mut [Gate]) {
         put_frame_gates::<GateDeltas, W>(output, copies, room);
     }
 }
 
 /// Nothing is put where the sink failed: nobody takes it then.
-fn put_frame<S: FrameSection, W: Sink>(
+fn put_frame_section<S: FrameSection, W: Sink>(
     output: &mut Output<W>,
     copies: &mut Frames,
     room: &mut [S::Item],
@@ -257,11 +283,13 @@ fn put_frame<S: FrameSection, W: Sink>(
     if output.has_failed() {
         return;
     }
-    copies.enter(frame);
+    copies.enter_frame(frame);
     S::put(output, copies, room);
 }
 
-/// Puts the text of a section in all frames. The room is for what one frame has of it.
+/// Puts the text of a section in all frames. The room is for what one frame has of it. To
+/// enter_frame the frames takes time for each latch, so where they have none of it they are passed
+/// over.
 pub(crate) fn put_section<S: FrameSection, W: Sink>(
     output: &mut Output<W>,
     copies: &mut Frames,
@@ -273,7 +301,101 @@ pub(crate) fn put_section<S: FrameSection, W: Sink>(
         (flat_map (S.at copies.old.circuit copies.old.frames)
         (range_with_len 0 copies.old.frames))) }
 {
+    if S::is_empty(copies) {
+        return;
+    }
     for frame in 0..copies.frames() {
-        put_frame::<S, W>(output, copies, room, frame);
+        put_frame_section::<S, W>(output, copies, room, frame);
+    }
+}
+
+/// The gates by their clauses.
+pub(crate) struct GateClauses;
+
+/// The bad states as literals of a clause.
+pub(crate) struct BadLiterals;
+
+/// How many variables the clauses have, and how many clauses there are.
+pub(crate) fn clause_numbers(copies: &Frames) -> (u64, u64)
+    requires { copies.now.frame ≡ 0 }
+    ensures variables { result.0 ≡ (unrolled copies.now.circuit copies.now.frames).max_var + 1 }
+    ensures clauses { result.1
+        ≡ length (bad_clauses (unrolled copies.now.circuit copies.now.frames)) }
+{
+    let inputs = u64::from(copies.count_inputs());
+    let gates = u64::from(copies.frames()) * gates_of_frame(copies.circuit()) as u64;
+    (inputs + gates + 1, 3 * gates + 2)
+}
+
+/// Whether the clauses have a bad state to speak of, and numbers that are not too large.
+pub(crate) fn check_clauses(copies: &Frames) -> Result<(), ClauseFault>
+    requires { copies.now.frame ≡ 0 }
+    ensures ok { OnOk result
+        (HasClauses (unrolled copies.now.circuit copies.now.frames)) }
+    ensures err { IfErr result
+        (NotInClauses (unrolled copies.now.circuit copies.now.frames)) }
+{
+    if copies.circuit().bad.is_empty() {
+        return Err(ClauseFault::NoBadStates);
+    }
+    let (variables, _clauses) = clause_numbers(copies);
+    if variables > u64::from(LARGEST) {
+        return Err(ClauseFault::TooLarge);
+    }
+    Ok(())
+}
+
+impl GateText for GateClauses {
+    ghost use Rattle.aig_cnf.specs.ClauseText.{gate_clauses_text};
+
+    ghost one = { gate_clauses_text };
+
+    fn put_some<W: Sink>(output: &mut Output<W>, gates: &[Gate]) {
+        put_gates_clauses(output, gates);
+    }
+}
+
+impl FrameSection for GateClauses {
+    ghost use Rattle.aig_cnf.specs.ClauseText.{gate_clauses_text};
+    ghost use Rattle.aig_unroll.specs.Unrolled.{gates_at};
+    ghost use Rattle.aig_unroll.specs.Parts.Writing.{gate_room};
+
+    type Item = Gate;
+
+    ghost size = { gate_room };
+
+    ghost at = { gates_at };
+
+    ghost text = { gate_clauses_text };
+
+    fn is_empty(copies: &Frames) -> bool {
+        copies.has_no_gates()
+    }
+
+    fn put<W: Sink>(output: &mut Output<W>, copies: &Frames, room: &mut [Gate]) {
+        put_frame_gates::<GateClauses, W>(output, copies, room);
+    }
+}
+
+impl FrameSection for BadLiterals {
+    ghost use Rattle.std.specs.Prelude.{length};
+    ghost use Rattle.aig_cnf.specs.ClauseText.{literal_text};
+    ghost use Rattle.aig_unroll.specs.Unrolled.{bad_at};
+
+    type Item = Lit;
+
+    ghost size = { λ c. length c.bad };
+
+    ghost at = { bad_at };
+
+    ghost text = { literal_text };
+
+    fn is_empty(copies: &Frames) -> bool {
+        copies.circuit().bad.is_empty()
+    }
+
+    fn put<W: Sink>(output: &mut Output<W>, copies: &Frames, room: &mut [Lit]) {
+        copies.put_bad(room);
+        put_literals(output, room);
     }
 }

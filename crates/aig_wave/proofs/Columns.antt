@@ -17,6 +17,7 @@ use Rattle.aig_meaning.proofs.Traces.{bad_length, constraints_length, inputs_len
 use Rattle.aig_step.specs.TraceText.{character_of, values_text}
 use Rattle.aig_wave.specs.declared.signal.Signal.{Signal}
 use Rattle.aig_wave.specs.Frames.{closing_line, frame}
+use Rattle.aig_wave.specs.Laws.{ShowsSteps}
 use Rattle.aig_wave.specs.Layout.{layout_of}
 use Rattle.aig_wave.specs.Names.{follows, indexed}
 use Rattle.aig_wave.specs.Places.{kinds, next_place, place, width}
@@ -142,14 +143,15 @@ pub record HasColumns (c : Circuit) (row : Row) : Type 0 where
 text_long : (vs : List Val) (n : ℕ) → length vs ≡ n → length (values_text vs) ≡ n
 text_long vs n e = length-map vs character_of ∙ e
 
+shown_outputs : (c : Circuit) (row : Row) → IsRow c row → length row.outputs ≡ length c.outputs
+shown_outputs c row is = ap length is.1.outputs_shown ∙ length-map c.outputs (literal_value is.0)
+
 pub has_columns : (c : Circuit) (row : Row) → IsRow c row → HasColumns c row
 has_columns c row is =
     let line = row_line row in
-    let outputs_length : length row.outputs ≡ length c.outputs =
-    ap length is.1.outputs_shown ∙ length-map c.outputs (literal_value is.0) in
     let state_long = text_long row.state (length c.latches) (state_length c row is) in
     let inputs_long = text_long row.inputs (length c.inputs) (inputs_length c row is) in
-    let outputs_long = text_long row.outputs (length c.outputs) outputs_length in
+    let outputs_long = text_long row.outputs (length c.outputs) (shown_outputs c row is) in
     let next_long = text_long row.next (length c.latches) (next_length c row is) in
     let bad_long = text_long row.bad (length c.bad) (bad_length c row is) in
     let constraints_long = text_long row.constraints (length c.constraints) (constraints_length c row is) in
@@ -195,34 +197,46 @@ row_shown c row run has = record {
   );
 }
 
+-- what holds of each character holds of each that is taken or left, and of copies
+module _ (P : ℕ → Type 0) where
+  all_taken : (n : ℕ) (text : List ℕ) → AllByRecursion P text → AllByRecursion P (take n text)
+  all_taken zero text are = tt
+  all_taken (suc n) [] are = tt
+  all_taken (suc n) (b ∷ bs) are = (are.0, all_taken n bs are.1)
+
+  all_dropped : (n : ℕ) (text : List ℕ) → AllByRecursion P text → AllByRecursion P (drop n text)
+  all_dropped zero text are = are
+  all_dropped (suc n) [] are = tt
+  all_dropped (suc n) (b ∷ bs) are = all_dropped n bs are.1
+
+  all_repeated : (n b : ℕ) → P b → AllByRecursion P (replicate n b)
+  all_repeated zero b is = tt
+  all_repeated (suc n) b is = (is, all_repeated n b is)
+
+-- each character is z, which is no value of a step
+abbrev AreOff : List ℕ → Type 0
+AreOff text = AllByRecursion (λ b. b ≡ 122) text
+
+none_off : (vs : List Val) → AreOff (values_text vs) → length vs ≡ 0
+none_off [] off = refl
+none_off (Zero ∷ vs) off = absurd (omega (arith, off.0))
+none_off (One ∷ vs) off = absurd (omega (arith, off.0))
+none_off (X ∷ vs) off = absurd (omega (arith, off.0))
+
 -- the line that closes a run
-values_taken : (n : ℕ) (text : List ℕ) → AreValues text → AreValues (take n text)
-values_taken zero text are = tt
-values_taken (suc n) [] are = tt
-values_taken (suc n) (b ∷ bs) are = (are.0, values_taken n bs are.1)
-
-values_dropped : (n : ℕ) (text : List ℕ) → AreValues text → AreValues (drop n text)
-values_dropped zero text are = are
-values_dropped (suc n) [] are = tt
-values_dropped (suc n) (b ∷ bs) are = values_dropped n bs are.1
-
-values_repeated : (n : ℕ) → AreValues (replicate n 122)
-values_repeated zero = tt
-values_repeated (suc n) = (refl, values_repeated n)
-
 module _ (c : Circuit) (state : List Val) (as_long : length state ≡ length c.latches) where
   abbrev pub closing : List ℕ
   closing = closing_line (layout_of c) (values_text state)
 
   closing_values : AreValues closing
   closing_values =
-      joined _ (values_text state) (replicate (width c - length (values_text state)) 122) (values_are state)
-      (values_repeated (width c - length (values_text state)))
+      let rest = width c - length (values_text state) in
+      joined _ (values_text state) (replicate rest 122) (values_are state) (all_repeated _ rest 122 refl)
 
   every_column : (ks : List Kind) → AllByRecursion (λ k. AreValues (column c k closing)) ks
   every_column [] = tt
   every_column (k ∷ ks) = (
-    values_taken (count_of c k) (drop (place c k) closing) (values_dropped (place c k) closing closing_values),
+    all_taken _ (count_of c k) (drop (place c k) closing) (all_dropped _ (place c k) closing closing_values),
     every_column ks,
   )
 
@@ -236,3 +250,46 @@ module _ (c : Circuit) (state : List Val) (as_long : length state ≡ length c.l
 
   pub closing_state : column c Latch closing ≡ values_text state
   closing_state = text_at 0 (length c.latches) closing (values_text state) _ (text_long state _ as_long) refl
+
+  -- behind the state all is off
+  column_off : (kind : Kind) (more : ℕ) → place c kind ≡ length c.latches + more → AreOff (column c kind closing)
+  column_off kind more at =
+      let long = text_long state (length c.latches) as_long in
+      let rest = width c - length (values_text state) in
+      let off = all_dropped (λ b. b ≡ 122) more (replicate rest 122) (all_repeated _ rest 122 refl) in
+      let begins : place c kind ≡ length (values_text state) + more = omega (arith, at, long) in
+      let is : drop (place c kind) closing ≡ drop more (replicate rest 122) =
+      ap (λ (j : ℕ). drop j closing) begins ∙ drop-append-add (values_text state) (replicate rest 122) more in
+      subst (λ (text : List ℕ). AreOff (take (count_of c kind) text)) (sym is)
+      (all_taken _ (count_of c kind) (drop more (replicate rest 122)) off)
+
+  -- what a step shows beside its state is not what the end of a run shows
+  pub closing_is_no_step : (row : Row) → ShowsSteps c → IsRow c row
+      → ShowSame (layout_of c).signals closing (row_line row) → ⊥
+  closing_is_no_step row shows is same =
+      let has = has_columns c row is in
+      let columns = same_columns c closing (row_line row) kinds same in
+      let inputs = none_off row.inputs (subst AreOff (columns.0 ∙ has.inputs) (column_off Input 1 refl)) in
+      let outputs =
+      none_off row.outputs
+      (subst AreOff (columns.1.1.0 ∙ has.outputs)
+      (column_off Output (1 + length c.inputs + 1) (omega arith))) in
+      let bad_place = 1 + length c.inputs + 1 + length c.outputs + 1 + length c.latches + 1 in
+      let bad =
+      none_off row.bad (subst AreOff (columns.1.1.1.0 ∙ has.bad) (column_off Bad bad_place (omega arith))) in
+      let constraints =
+      none_off row.constraints
+      (subst AreOff (columns.1.1.1.1.0 ∙ has.constraints)
+      (column_off Constraint (bad_place + length c.bad + 1) (omega arith))) in
+      omega (
+        arith,
+        shows,
+        inputs,
+        outputs,
+        bad,
+        constraints,
+        inputs_length c row is,
+        shown_outputs c row is,
+        bad_length c row is,
+        constraints_length c row is,
+      )

@@ -17,7 +17,7 @@ use Rattle.aig_wave.specs.declared.signal.Signal.{Signal}
 use Rattle.aig_wave.specs.declared.signal_code.SignalCode.{SignalCode}
 use Rattle.aig_wave.specs.Frames.{frame}
 use Rattle.aig_wave.specs.Wave.{bits, change_text}
-use Rattle.aig_wave.specs.Parts.Groups.{AreBits, AreGroups, Covers, IsWithin, stretch}
+use Rattle.aig_wave.specs.Parts.Groups.{AreBits, AreSignalGroups, Covers, IsSignalWithin, stretch}
 use Rattle.aig_wave.specs.Parts.SignalCodes.{AreIn, bit_text, bits_text, changes_text, IsSignalCode, place_of}
 use Rattle.aig_wave.specs.Parts.SignalCodes.{signal_in}
 
@@ -84,7 +84,7 @@ pub index_large : (front after : List ℕ) (n : ℕ) → 10 ^ 9 ≤ n → index_
 index_large front after n high = grind (arith, nat_tests)
 
 -- Signals that stand in one group.
-bits_within : (g : Group) (s : Signal) (line : List ℕ) → IsWithin g s
+bits_within : (g : Group) (s : Signal) (line : List ℕ) → IsSignalWithin g s
     → take s.size (drop (s.start - g.start) (stretch g line)) ≡ bits s line
 bits_within g s line within =
     let d = s.start - g.start in
@@ -104,7 +104,7 @@ both false true e = (refl, refl)
 both false false e = absurd (false≢true e)
 
 module _ (time : ℕ) (g : Group) (before line : List ℕ) where
-  no_change : (s : Signal) → (time == 0) ≡ false → stretch g before ≡ stretch g line → IsWithin g s
+  no_change : (s : Signal) → (time == 0) ≡ false → stretch g before ≡ stretch g line → IsSignalWithin g s
       → change_text time (frame 0 before) (frame 0 line) s ≡ []
   no_change s late same within =
       let alike : bits s before ≡ bits s line = sym (bits_within g s before within)
@@ -164,7 +164,7 @@ parted_text f n ts front others p q =
     ∙ ap (flat_map f) (ap₂ (λ (x y : List SignalCode). x ++ y) p q ∙ take-append-drop n ts)
 
 pub next_group : (gs : List Group) (i : ℕ) (d : Group) (ts : List SignalCode) → i < length gs
-    → AreGroups (drop i gs) ts → AreGroups (get_or gs i d ∷ drop (i + 1) gs) ts
+    → AreSignalGroups (drop i gs) ts → AreSignalGroups (get_or gs i d ∷ drop (i + 1) gs) ts
 next_group gs i d ts low are = rw (at_drop_more (λ (xs : List Group). xs) gs i d low) at are
 
 pub next_signal : (start end : ℕ) (g : Group) (ts : List SignalCode) (i : ℕ) (d : SignalCode) → i < length ts

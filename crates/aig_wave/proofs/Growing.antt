@@ -235,7 +235,8 @@ module _ (w : Layout) where
         | inl early ↦
             (let few : length ls < most_frames = omega (arith, long, ltb-true p.time most_frames early) in
             let more : length (ls ++ l ∷ []) ≤ most_frames = omega (arith, few, length-append ls (l ∷ [])) in
-            rw (early, take_all most_frames ls (omega arith), take_all most_frames (ls ++ l ∷ []) more) (dump_more ls l))
+            rw (early, take_all most_frames ls (omega arith), take_all most_frames (ls ++ l ∷ []) more)
+            (dump_more ls l))
         | inr late ↦
             (let many : most_frames ≤ length ls = omega (arith, long, ltb-false p.time most_frames late) in
             rw (late, take-append-le most_frames ls (l ∷ []) many) (sym (append-nil _)))
@@ -261,10 +262,12 @@ pub record Begins {X : Type 0} (xs ys : List X) : Type 0 where
   pub more : List X
   pub is : ys ≡ xs ++ more
 
-pub at_feed : (c : Cut) (b : ℕ) → (b == 10) ≡ true → cut_byte c b ≡ record { lines = c.lines ++ c.begun ∷ []; begun = [] }
+pub at_feed : (c : Cut) (b : ℕ) → (b == 10) ≡ true
+    → cut_byte c b ≡ record { lines = c.lines ++ c.begun ∷ []; begun = [] }
 at_feed c b feed = rw feed refl
 
-pub at_other : (c : Cut) (b : ℕ) → (b == 10) ≡ false → cut_byte c b ≡ record { lines = c.lines; begun = c.begun ++ b ∷ [] }
+pub at_other : (c : Cut) (b : ℕ) → (b == 10) ≡ false
+    → cut_byte c b ≡ record { lines = c.lines; begun = c.begun ++ b ∷ [] }
 at_other c b other = rw other refl
 
 lines_grow : (c : Cut) (bs : List ℕ) → Begins c.lines (cut_more c bs).lines

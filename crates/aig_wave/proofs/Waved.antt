@@ -46,7 +46,8 @@ module _ {W : Type 0} (w : Layout) (o : Out W) where
       let before : of_lines (whole_lines text) ≡ of_lines c.lines = ap of_lines (whole_lines_are text) in
       record {
         dump_state = took.dump_state
-            ∙ ap₂ (λ (t : Taping) (line : List ℕ). record t { point = behind_line t.layout t.point line }) d.dump_state kept
+            ∙ ap₂ (λ (t : Taping) (line : List ℕ). record t { point = behind_line t.layout t.point line })
+            d.dump_state kept
             ∙ ap (λ (q : Point). record { layout = w; point = q })
             (behind_kept w p l ∙ sym (fold-append (behind_line w) (begin_of w) c.lines (l ∷ []))
             ∙ ap (λ (x : Cut). point_of x.lines) (sym cuts));

@@ -1,8 +1,8 @@
 -- The frames of a trace: what is shown from one time to the next (this project's profile). Frame T is shown at time T,
--- and stands for line T + 1 of the trace. There are no more frames than times of 64 bits, which is more than any stimulus
--- has lines.
-use Rattle.std.specs.Prelude.{◌+◌, ◌-◌, ◌^◌, ◌==◌, ◌||◌, ℕ, List, [], ◌∷◌, ◌++◌, Bool, codes, length, take, drop, replicate}
-use Rattle.std.specs.Prelude.{bytes_eq, filter, map, if◌then◌else◌}
+-- and stands for line T + 1 of the trace. There are no more frames than times of 64 bits, which is more than any
+-- stimulus has lines.
+use Rattle.std.specs.Prelude.{◌+◌, ◌-◌, ◌^◌, ◌==◌, ◌||◌, ℕ, List, [], ◌∷◌, ◌++◌, Bool, codes, length, take, drop}
+use Rattle.std.specs.Prelude.{replicate, bytes_eq, filter, map, if◌then◌else◌}
 use Rattle.aig_lines.specs.Lines.{Line, lines_of}
 use Rattle.aig_wave.specs.Layout.{Layout}
 

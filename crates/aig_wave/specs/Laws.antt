@@ -1,10 +1,10 @@
 -- What the definitions of a dump say of one another.
-use Rattle.std.specs.Prelude.{◌≡◌, ◌≢◌, ◌≤◌, ◌^◌, ◌==◌, ◌&&◌, ◌||◌, ◌++◌, ℕ, List, [], ◌∷◌}
+use Rattle.std.specs.Prelude.{◌≡◌, ◌≢◌, ◌+◌, ◌<◌, ◌≤◌, ◌^◌, ◌==◌, ◌&&◌, ◌||◌, ◌++◌, ℕ, List, [], ◌∷◌}
 use Rattle.std.specs.Prelude.{Bool, None, false, true, IsTrue, length, map, nat_le}
 use Rattle.std.specs.List.{AllByRecursion, list_all}
 use Rattle.aig_circuit.specs.declared.circuit.Circuit.{Circuit}
 use Rattle.aig_circuit.specs.declared.circuit.Latch.{Latch}
-use Rattle.aig_circuit.specs.Wellformed.{IsWithinLimits}
+use Rattle.aig_circuit.specs.Wellformed.{IsWellFormed, IsWithinLimits}
 use Rattle.aig_step.specs.declared.trace.Columns.TheVariants.{Properties}
 use Rattle.aig_step.specs.Outcome.{first_bad_line}
 use Rattle.aig_step.specs.TraceText.{IsTraceText}
@@ -59,6 +59,29 @@ DumpsLoseNothing = (c : Circuit) → IsWithinLimits c → (stimulus other text o
     → IsTraceText c Properties stimulus true text → first_bad_line c stimulus true ≡ None
     → IsTraceText c Properties other true other_text → first_bad_line c other true ≡ None
     → wave_text c text true ≡ wave_text c other_text true → text ≡ other_text
+
+-- A step shows more than the state before it. Where it does not, the end of a run looks like a step.
+abbrev pub ShowsSteps : Circuit → Type 0
+ShowsSteps c = 0 < length c.inputs + length c.outputs + length c.bad + length c.constraints
+
+-- A dump without its end loses nothing of what came: of the lines of a stimulus that goes on, of those before a bad line,
+-- or of all. Where two of these have one such dump, they have one trace text: the same steps, no more and no fewer. The
+-- state behind the last step, which is not shown, follows from that step.
+abbrev pub BegunDumpsLoseNothing : Type 0
+BegunDumpsLoseNothing = (c : Circuit) → IsWellFormed c → ShowsSteps c
+    → (stimulus other text other_text : List ℕ) (ended other_ended : Bool)
+    → length stimulus ≤ 2 ^ 62 → length other ≤ 2 ^ 62
+    → IsTraceText c Properties stimulus ended text → IsTraceText c Properties other other_ended other_text
+    → wave_text c text false ≡ wave_text c other_text false → text ≡ other_text
+
+-- A dump tells whether it has its end: that of a whole stimulus without a bad line is none of a trace that is not done.
+abbrev pub DumpsTellTheirEnds : Type 0
+DumpsTellTheirEnds = (c : Circuit) → IsWithinLimits c → ShowsSteps c
+    → (stimulus other text other_text : List ℕ) (other_ended : Bool)
+    → length stimulus ≤ 2 ^ 62 → length other ≤ 2 ^ 62
+    → IsTraceText c Properties stimulus true text → first_bad_line c stimulus true ≡ None
+    → IsTraceText c Properties other other_ended other_text
+    → wave_text c text true ≢ wave_text c other_text false
 
 -- the dump of a beginning of a trace text is a beginning of its dump
 abbrev pub WaveGrows : Type 0

@@ -14,8 +14,8 @@ abbrev pub time_text : ℕ → List ℕ
 time_text time = codes "#" ++ (decimal time ++ codes "\n")
 
 -- the run in binary, without leading zeros, where it is another one than in the frame before
-abbrev pub run_text : ℕ → Frame → Frame → List ℕ
-run_text time before f =
+abbrev pub run_number_text : ℕ → Frame → Frame → List ℕ
+run_number_text time before f =
     if (time == 0) || not (before.run == f.run) then codes "b" ++ (digits 2 false f.run ++ codes " r\n") else []
 
 -- the characters of a signal in a line
@@ -37,7 +37,7 @@ change_text time before f s =
 -- a frame behind another; at time 0 all is shown
 abbrev pub frame_text : Layout → ℕ → Frame → Frame → List ℕ
 frame_text w time before f =
-    time_text time ++ (run_text time before f ++ flat_map (change_text time before f) w.signals)
+    time_text time ++ (run_number_text time before f ++ flat_map (change_text time before f) w.signals)
 
 abbrev pub body : Layout → ℕ → Frame → List Frame → List ℕ
 body w time before [] = []

@@ -4,7 +4,8 @@ ghost use Rattle.std.specs.List.{AllByRecursion};
 ghost use Rattle.aig_io.specs.Output.{Put};
 ghost use Rattle.aig_wave.specs.declared.bits.TheConstants.{GROUP};
 ghost use Rattle.aig_wave.specs.declared.signal_code.TheConstants.{TAIL};
-ghost use Rattle.aig_wave.specs.Parts.SignalCodes.{AreIn, IsSignalCode, bit_text, bits_text, signal_in};
+ghost use Rattle.aig_wave.specs.Parts.SignalCodes.{AreIn, IsSignalCode, bit_text};
+ghost use Rattle.aig_wave.specs.Parts.SignalCodes.{bits_text, signal_in};
 
 use crate::signal_code::{SignalCode, TAIL, write_text};
 use aig_io::{Line, Output, Sink};
@@ -20,13 +21,15 @@ fn is_other(one: u8, other: u8) -> usize
     (usize::from(one.wrapping_sub(other)) + 255) / 256
 }
 
-/// Writes the change of a signal of one position, and answers where it ends: where it begins, if nothing changes.
+/// Writes the change of a signal of one position, and answers where it ends: where it begins, if
+/// nothing changes.
 #[inline(always)]
 fn write_bit(bytes: &mut [u8], at: usize, before: u8, bit: u8, signal_code: &SignalCode) -> usize
     requires room { at + (TAIL + 1) ≤ length bytes.old }
     requires signal_code { IsSignalCode signal_code.now }
     ensures within { result ≤ at + (TAIL + 1) }
-    ensures text { take result bytes.new ≡ take at bytes.old ++ bit_text before bit (signal_in signal_code.now) }
+    ensures text { take result bytes.new
+        ≡ take at bytes.old ++ bit_text before bit (signal_in signal_code.now) }
 {
     // a copy of its own is moved at once, since it lies apart from the bytes
     let tail = signal_code.tail;
@@ -37,17 +40,18 @@ fn write_bit(bytes: &mut [u8], at: usize, before: u8, bit: u8, signal_code: &Sig
 
 /// Signals of one position, and two lines.
 #[derive(Drop)]
-struct Bits<'a> {
+struct BitChanges<'a> {
     before: &'a [u8],
     line: &'a [u8],
     signal_codes: &'a [SignalCode],
 }
 
-impl<'a> Line for Bits<'a> {
+impl<'a> Line for BitChanges<'a> {
     type State = ();
 
     ghost is_whole = { λ l _. AllByRecursion IsSignalCode l.signal_codes.now
-        × (AreIn (length l.before.now) l.signal_codes.now × AreIn (length l.line.now) l.signal_codes.now) };
+        × (AreIn (length l.before.now) l.signal_codes.now
+        × AreIn (length l.line.now) l.signal_codes.now) };
 
     ghost size = { λ l _. length l.signal_codes.now * (TAIL + 1) };
 
@@ -83,7 +87,7 @@ pub(crate) fn put_bits<W: Sink>(
     let mut room = [0u8; GROUP * (TAIL + 1)];
     output.put_line(
         &mut room,
-        &Bits {
+        &BitChanges {
             before,
             line,
             signal_codes,

@@ -2,7 +2,8 @@
 ghost use Rattle.std.specs.Prelude.{◌≡◌, ◌≤◌, false, drop};
 ghost use Rattle.std.specs.Fmt.{digits};
 
-/// Writes the digits of a number in a base, of ten or less, to the end of the room, and answers where they begin.
+/// Writes the digits of a number in a base, of ten or less, to the end of the room, and answers
+/// where they begin.
 pub(crate) fn write_digits(number: u64, base: u64, room: &mut [u8; 64]) -> usize
     requires least { 2 ≤ base }
     requires most { base ≤ 10 }

@@ -1,12 +1,13 @@
 //! Frames, put one after the other.
-ghost use Rattle.std.specs.Prelude.{◌≡◌, ◌+◌, ◌-◌, ◌^◌, ◌<◌, ◌≤◌, ◌++◌, [], IfOk, length, replicate};
-ghost use Rattle.std.specs.Prelude.{false, if◌then◌else◌, bytes_eq, not, ◌==◌, ◌||◌};
+ghost use Rattle.std.specs.Prelude.{◌≡◌, ◌+◌, ◌-◌, ◌^◌, ◌<◌, ◌≤◌, ◌++◌, [], IfOk, length};
+ghost use Rattle.std.specs.Prelude.{replicate, false, if◌then◌else◌, bytes_eq, not, ◌==◌, ◌||◌};
 ghost use Rattle.std.specs.Fmt.{digits};
 ghost use Rattle.std.specs.List.{AllByRecursion};
 ghost use Rattle.aig_io.specs.Output.{Put};
 ghost use Rattle.aig_wave.specs.Frames.{closing_line, frame, next_state};
-ghost use Rattle.aig_wave.specs.Wave.{bits, change_text, frame_text, run_text, time_text, value_text};
-ghost use Rattle.aig_wave.specs.Parts.Groups.{AreGroups, IsGroup};
+ghost use Rattle.aig_wave.specs.Wave.{bits, change_text, frame_text, run_number_text};
+ghost use Rattle.aig_wave.specs.Wave.{time_text, value_text};
+ghost use Rattle.aig_wave.specs.Parts.Groups.{AreSignalGroups, IsGroup};
 ghost use Rattle.aig_wave.specs.Parts.Points.{begin_of, behind_line, head_at, line_piece};
 ghost use Rattle.aig_wave.specs.Parts.SignalCodes.{IsSignalCode, changes_text, signal_in};
 
@@ -122,7 +123,8 @@ fn put_group<W: Sink>(
     }
 }
 
-/// Puts the values of the signals of a group, where the characters of the group are others than before, or are few.
+/// Puts the values of the signals of a group, where the characters of the group are others than
+/// before, or are few.
 #[inline(always)]
 fn put_new_group<W: Sink>(
     output: &mut Output<W>,
@@ -151,7 +153,7 @@ fn put_changes<W: Sink>(
     groups: &[Group],
     signal_codes: &[SignalCode],
 )
-    requires groups { AreGroups groups.now signal_codes.now }
+    requires groups { AreSignalGroups groups.now signal_codes.now }
     requires signal_codes { AllByRecursion IsSignalCode signal_codes.now }
     ensures { Put output.old output.new (changes_text time before.now line.now signal_codes.now) }
 {
@@ -173,7 +175,7 @@ fn put_time<W: Sink>(output: &mut Output<W>, time: u64)
 }
 
 /// Puts a number in binary.
-fn put_binary<W: Sink>(output: &mut Output<W>, number: u64)
+fn put_binary_number<W: Sink>(output: &mut Output<W>, number: u64)
     ensures { Put output.old output.new (digits 2 false number) }
 {
     let mut room = [0u8; 64];
@@ -183,12 +185,12 @@ fn put_binary<W: Sink>(output: &mut Output<W>, number: u64)
 
 /// Puts the run of a frame, where it is another one than before.
 #[inline(always)]
-fn put_run<W: Sink>(output: &mut Output<W>, time: u64, before: u64, run: u64)
-    ensures { Put output.old output.new (run_text time (frame before []) (frame run [])) }
+fn put_run_number<W: Sink>(output: &mut Output<W>, time: u64, before: u64, run: u64)
+    ensures { Put output.old output.new (run_number_text time (frame before []) (frame run [])) }
 {
     if is_new_run(time, before, run) {
         output.put(b"b");
-        put_binary(output, run);
+        put_binary_number(output, run);
         output.put(b" r\n");
     }
 }
@@ -219,19 +221,22 @@ fn put_frame<W: Sink>(
     shown: Frame,
 )
     ensures { Put output.old output.new (head_at layout.now time ++ frame_text layout.now time
-        (frame before.entry.run before.entry.line.now) (frame shown.entry.run shown.entry.line.now)) }
+        (frame before.entry.run before.entry.line.now)
+        (frame shown.entry.run shown.entry.line.now)) }
 {
     put_head(output, layout, time);
     put_time(output, time);
-    put_run(output, time, before.run, shown.run);
+    put_run_number(output, time, before.run, shown.run);
     let (signal_codes, groups) = layout.signal_codes();
     put_changes(output, time, before.line, shown.line, groups, signal_codes);
 }
 
-/// The state in which the next line stands, where this is the line before, and the run has a step or not.
-fn state<'a>(layout: &'a Layout, before: &'a [u8], ran: bool) -> &'a [u8]
+/// The state in which the next line stands, where this is the line before, and the run has a step
+/// or not.
+fn next_line_state<'a>(layout: &'a Layout, before: &'a [u8], ran: bool) -> &'a [u8]
     requires { length before.now ≡ layout.now.width }
-    ensures value { result.now ≡ (if ran then next_state layout.now before.now else layout.now.resets) }
+    ensures value { result.now
+        ≡ (if ran then next_state layout.now before.now else layout.now.resets) }
     ensures within { length result.now ≤ layout.now.width }
 {
     let resets = layout.resets();
@@ -326,8 +331,9 @@ impl DumpState {
             before = frame self.old.point.run text.now;
           };
         } }
-        ensures put { Put output.old output.new (head_at self.old.layout self.old.point.time ++ frame_text
-            self.old.layout self.old.point.time self.old.point.before (frame self.old.point.run text.now)) }
+        ensures put { Put output.old output.new (head_at self.old.layout self.old.point.time
+            ++ frame_text self.old.layout self.old.point.time self.old.point.before
+            (frame self.old.point.run text.now)) }
     {
         let before = Frame {
             run: self.before_run,
@@ -355,11 +361,11 @@ impl DumpState {
             before = frame self.old.point.run (closing_line self.old.layout self.old.point.state);
           };
         } }
-        ensures put { Put output.old output.new (head_at self.old.layout self.old.point.time ++ frame_text
-            self.old.layout self.old.point.time self.old.point.before
+        ensures put { Put output.old output.new (head_at self.old.layout self.old.point.time
+            ++ frame_text self.old.layout self.old.point.time self.old.point.before
             (frame self.old.point.run (closing_line self.old.layout self.old.point.state))) }
     {
-        let state = state(&self.layout, self.before.as_slice(), self.ran);
+        let state = next_line_state(&self.layout, self.before.as_slice(), self.ran);
         write_closing(self.closing.as_mut_slice(), state);
         let before = Frame {
             run: self.before_run,
@@ -377,11 +383,14 @@ impl DumpState {
         self.time += 1;
     }
 
-    /// Takes a line, and puts its frame. One that is no line of a trace, or has no time of 64 bits, is passed over.
+    /// Takes a line, and puts its frame. One that is no line of a trace, or has no time of 64 bits,
+    /// is passed over.
     #[inline(always)]
     pub(crate) fn take_line<W: Sink>(&mut self, output: &mut Output<W>, text: &[u8])
-        ensures point { self.new ≡ record self.old { point = behind_line self.old.layout self.old.point text.now } }
-        ensures put { Put output.old output.new (line_piece self.old.layout self.old.point text.now) }
+        ensures point { self.new
+            ≡ record self.old { point = behind_line self.old.layout self.old.point text.now } }
+        ensures put { Put output.old output.new
+            (line_piece self.old.layout self.old.point text.now) }
     {
         if self.time == u64::MAX {
             return;
@@ -394,9 +403,10 @@ impl DumpState {
     }
 
     /// Puts the time at which the last frame ends, where the trace is done.
-    pub(crate) fn end<W: Sink>(&self, output: &mut Output<W>, done: bool)
-        ensures { Put output.old output.new (if done then head_at self.now.layout self.now.point.time
-            ++ time_text self.now.point.time else []) }
+    pub(crate) fn put_end<W: Sink>(&self, output: &mut Output<W>, done: bool)
+        ensures { Put output.old output.new (if done
+            then head_at self.now.layout self.now.point.time ++ time_text self.now.point.time
+            else []) }
     {
         if done {
             put_head(output, &self.layout, self.time);

@@ -16,7 +16,8 @@ use aig_lines::PartialLine;
 use memchr::memchr;
 use std::marker::Model;
 
-/// Among so many first bytes a line feed is looked for without a search, which costs most where lines are short.
+/// Among so many first bytes a line feed is looked for without a search, which costs most where
+/// lines are short.
 const FEW: usize = 16;
 
 /// Where the first line feed is.
@@ -32,7 +33,8 @@ fn first_line_feed(bytes: &[u8]) -> Option<usize>
     memchr(b'\n', bytes)
 }
 
-/// Where the dump stands, the line that is coming, and the output. It remembers that its sink failed.
+/// Where the dump stands, the line that is coming, and the output. It remembers that its sink
+/// failed.
 #[derive(Drop)]
 pub(crate) struct DumpWriter<'a, W: Sink> {
     dump_state: DumpState,
@@ -101,21 +103,22 @@ impl<'a, W: Sink> DumpWriter<'a, W> {
         self.kept.keep(rest);
     }
 
-    /// Ends the dump, with the time at which the last frame ends where the trace is done, and hands the sink back. Ok
-    /// means that the sink took all of it.
+    /// Ends the dump, with the time at which the last frame ends where the trace is done, and hands
+    /// the sink back. Ok means that the sink took all of it.
     pub(crate) fn finish(self, done: bool) -> (Result<(), DeviceFault>, &'a mut W)
         ensures reported { self.entry.output.failed ≡ true → is_err result.0 ≡ true }
         ensures put { (w : LayoutRecord) (o : Out W) (text : List ℕ) → Dumps w o self.entry text
-            → Put o (output_to W.past result.1 [] (is_err result.0)) (dump w (frames_of w text) done) }
+            → Put o (output_to W.past result.1 [] (is_err result.0))
+            (dump w (frames_of w text) done) }
     {
         let DumpWriter {
             dump_state,
             kept,
             mut output,
         } = self;
-        dump_state.end(&mut output, done);
-        drop(dump_state);
-        drop(kept);
+        dump_state.put_end(&mut output, done);
+        drop(dump_state); // for the proof
+        drop(kept); // for the proof
         output.finish()
     }
 

@@ -1,6 +1,8 @@
 //! Groups of signals, whose characters are compared at once.
-ghost use Rattle.std.specs.Prelude.{◌≡◌, ◌<◌, ◌≤◌, ◌&&◌, ◌==◌, IfOk, IsTrue, drop, length, take, true};
-ghost use Rattle.aig_wave.specs.Parts.Groups.{AreBits, AreGroups, Covers, IsGroup, IsWithin, stretch};
+ghost use Rattle.std.specs.Prelude.{◌≡◌, ◌<◌, ◌≤◌, ◌&&◌, ◌==◌, IfOk, IsTrue, drop, length};
+ghost use Rattle.std.specs.Prelude.{take, true};
+ghost use Rattle.aig_wave.specs.Parts.Groups.{AreBits, AreSignalGroups, Covers, IsGroup};
+ghost use Rattle.aig_wave.specs.Parts.Groups.{IsSignalWithin, stretch};
 ghost use Rattle.aig_wave.specs.declared.bits.TheConstants.{GROUP};
 
 use crate::bits::GROUP;
@@ -9,9 +11,10 @@ use crate::signal_code::SignalCode;
 use aig_circuit::OutOfMemory;
 use std::alloc::Global;
 
-/// So many signals, between where their characters stand in a line, and whether each has one position.
+/// So many signals, between where their characters stand in a line, and whether each has one
+/// position.
 #[derive(Clone, Copy)]
-pub struct Group {
+pub(crate) struct Group {
     count: usize,
     start: usize,
     end: usize,
@@ -39,7 +42,7 @@ pub(crate) fn piece(line: &[u8], start: usize, size: usize) -> &[u8]
 impl Group {
     /// The group with a signal more. A line that has its characters is no longer than memory.
     fn widen(self, signal: &Signal) -> Result<Self, OutOfMemory>
-        ensures within { IfOk result (λ g. IsWithin g signal.now) }
+        ensures within { IfOk result (λ g. IsSignalWithin g signal.now) }
         ensures start { IfOk result (λ g. g.start ≤ self.start) }
         ensures end { IfOk result (λ g. self.end ≤ g.end) }
         ensures bits { IfOk result (λ g. g.bits ≡ (self.bits && (signal.now.size == 1))) }
@@ -108,7 +111,8 @@ impl Group {
     }
 }
 
-/// How many signals the next group has: the first one, and those behind it that have one position, or more, as it has.
+/// How many signals the next group has: the first one, and those behind it that have one position,
+/// or more, as it has.
 fn next_count(signal_codes: &[SignalCode]) -> usize
     ensures within { result ≤ length signal_codes.now }
     ensures some { 0 < length signal_codes.now → 0 < result }
@@ -128,7 +132,7 @@ pub(crate) fn groups_of(
     alloc: Global,
     signal_codes: &[SignalCode],
 ) -> Result<Vec<Group>, OutOfMemory>
-    ensures { IfOk result (λ groups. AreGroups groups.items signal_codes.now) }
+    ensures { IfOk result (λ groups. AreSignalGroups groups.items signal_codes.now) }
 {
     let mut groups = Vec::new(alloc);
     let mut rest = signal_codes;

@@ -3,7 +3,8 @@ ghost use Rattle.std.specs.Prelude.{◌≡◌, ◌+◌, ◌<◌, ◌^◌, ◌++�
 ghost use Rattle.std.specs.Prelude.{slice_index_or};
 ghost use Rattle.std.specs.List.{flat_map};
 ghost use Rattle.aig_wave.specs.Names.{shown};
-ghost use Rattle.aig_wave.specs.Head.{closing, code, opening, range_text, scope, sort, var_text, words};
+ghost use Rattle.aig_wave.specs.Head.{closing, code, opening, range_text, scope, sort};
+ghost use Rattle.aig_wave.specs.Head.{var_text, words};
 
 use crate::digit::write_digits;
 use crate::name::{shown_byte, split_index};
@@ -11,8 +12,9 @@ use crate::place::letter;
 use crate::signal::{Name, Signal};
 use aig_circuit::{Kind, OutOfMemory};
 
-const OPENING: &[u8] =
-    b"$version aiger $end\n$timescale 1 ns $end\n$scope module aiger $end\n$var integer 64 r run $end\n";
+const OPENING: &[u8] = b"\
+$version aiger $end\n$timescale 1 ns $end\n$scope module aiger $end\n\
+$var integer 64 r run $end\n";
 
 /// Adds bytes.
 fn put(text: &mut Vec<u8>, bytes: &[u8]) -> Result<(), OutOfMemory>
@@ -65,7 +67,8 @@ fn put_range(text: &mut Vec<u8>, index: u64, size: u32) -> Result<(), OutOfMemor
 fn put_indexed(text: &mut Vec<u8>, front: &[u8], index: u64, size: u32) -> Result<(), OutOfMemory>
     requires { index < 10 ^ 9 }
     ensures { OnOk result (text.new.items
-        ≡ text.old.items ++ (shown front.now ++ (codes " [" ++ (range_text index size ++ codes "]")))) }
+        ≡ text.old.items
+        ++ (shown front.now ++ (codes " [" ++ (range_text index size ++ codes "]")))) }
 {
     put_shown(text, front)?;
     put(text, b" [")?;
@@ -74,7 +77,7 @@ fn put_indexed(text: &mut Vec<u8>, front: &[u8], index: u64, size: u32) -> Resul
 }
 
 /// Adds the words that name a signal.
-fn put_words(text: &mut Vec<u8>, signal: &Signal, name: &[u8]) -> Result<(), OutOfMemory>
+fn put_signal_words(text: &mut Vec<u8>, signal: &Signal, name: &[u8]) -> Result<(), OutOfMemory>
     ensures { OnOk result (text.new.items ≡ text.old.items ++ words signal.now name.now) }
 {
     match split_index(name) {
@@ -115,13 +118,14 @@ fn put_var(text: &mut Vec<u8>, names: &[Name], signal: &Signal) -> Result<(), Ou
     put(text, b" ")?;
     put_code(text, signal)?;
     put(text, b" ")?;
-    put_words(text, signal, name)?;
+    put_signal_words(text, signal, name)?;
     put(text, b" $end\n")
 }
 
 /// Adds the declarations of signals.
 fn put_vars(text: &mut Vec<u8>, names: &[Name], signals: &[Signal]) -> Result<(), OutOfMemory>
-    ensures { OnOk result (text.new.items ≡ text.old.items ++ flat_map (var_text names.now) signals.now) }
+    ensures { OnOk result (text.new.items
+        ≡ text.old.items ++ flat_map (var_text names.now) signals.now) }
 {
     for signal in signals {
         put_var(text, names, signal)?;
@@ -150,7 +154,8 @@ pub(crate) fn put_scope(
     signals: &[Signal],
 ) -> Result<(), OutOfMemory>
     ensures { OnOk result (text.new.items
-        ≡ text.old.items ++ (scope kind ++ (flat_map (var_text names.now) signals.now ++ codes "$upscope $end\n"))) }
+        ≡ text.old.items
+        ++ (scope kind ++ (flat_map (var_text names.now) signals.now ++ codes "$upscope $end\n"))) }
 {
     put(text, scope(kind))?;
     put_vars(text, names, signals)?;

@@ -1,5 +1,6 @@
 //! Laws: facts about the definitions alone, each the contract of a function with an empty body.
-ghost use Rattle.aig_wave.specs.Laws.{CodesAreDistinct, DumpsLoseNothing, HeadIsPlain, NoLineIsLeftOut};
+ghost use Rattle.aig_wave.specs.Laws.{BegunDumpsLoseNothing, CodesAreDistinct, DumpsLoseNothing};
+ghost use Rattle.aig_wave.specs.Laws.{DumpsTellTheirEnds, HeadIsPlain, NoLineIsLeftOut};
 ghost use Rattle.aig_wave.specs.Laws.{SameShownSameWave, WaveGrows};
 
 /// The head of a dump is plain text, whatever the names are.
@@ -32,4 +33,14 @@ pub fn no_line_is_left_out()
 /// A dump loses nothing: it is the dump of one trace text at most.
 pub fn dumps_lose_nothing()
     ensures { DumpsLoseNothing }
+{}
+
+/// A dump without its end loses nothing either, of all the lines that came: it is the dump of one trace text at most.
+pub fn begun_dumps_lose_nothing()
+    ensures { BegunDumpsLoseNothing }
+{}
+
+/// A dump tells whether it has its end.
+pub fn dumps_tell_their_ends()
+    ensures { DumpsTellTheirEnds }
 {}

@@ -7,7 +7,7 @@ ghost use Rattle.aig_meaning.specs.Trace.{reset_state, reset_value};
 ghost use Rattle.aig_step.specs.TraceText.{character_of, values_text};
 ghost use Rattle.aig_wave.specs.Head.{head, scope_text};
 ghost use Rattle.aig_wave.specs.Layout.{layout_of};
-ghost use Rattle.aig_wave.specs.Parts.Groups.{AreGroups};
+ghost use Rattle.aig_wave.specs.Parts.Groups.{AreSignalGroups};
 ghost use Rattle.aig_wave.specs.Parts.SignalCodes.{IsSignalCode, signal_in};
 ghost use Rattle.aig_wave.specs.Places.{kinds};
 ghost use Rattle.aig_wave.specs.Signals.{signals_of};
@@ -38,7 +38,7 @@ impl Model for Layout {
     ghost use Rattle.std.specs.Prelude.{◌+◌, ◌≤◌, length, map};
     ghost use Rattle.std.specs.List.{AllByRecursion};
     ghost use Rattle.aig_wave.specs.Layout.{Layout as LayoutRecord};
-    ghost use Rattle.aig_wave.specs.Parts.Groups.{AreGroups};
+    ghost use Rattle.aig_wave.specs.Parts.Groups.{AreSignalGroups};
     ghost use Rattle.aig_wave.specs.Parts.SignalCodes.{IsSignalCode, signal_in};
 
     ghost Value = { LayoutRecord };
@@ -52,7 +52,8 @@ impl Model for Layout {
     } };
 
     ghost invariant = { λ w. (w.next + length w.resets.items ≤ w.width)
-        × AllByRecursion IsSignalCode w.signal_codes.items × AreGroups w.groups.items w.signal_codes.items };
+        × AllByRecursion IsSignalCode w.signal_codes.items
+        × AreSignalGroups w.groups.items w.signal_codes.items };
 }
 
 /// Adds the scope and the signals of a kind.
@@ -66,7 +67,8 @@ fn add_kind(
     requires limits { IsWithinLimits circuit.now }
     requires count { count_of circuit.now kind ≤ LARGEST }
     ensures head { OnOk result (head.new.items ≡ head.old.items ++ scope_text circuit.now kind) }
-    ensures signals { OnOk result (signals.new.items ≡ signals.old.items ++ signals_of circuit.now kind) }
+    ensures signals { OnOk result (signals.new.items
+        ≡ signals.old.items ++ signals_of circuit.now kind) }
 {
     let names = names_of(alloc, circuit, kind)?;
     if names.is_empty() {
@@ -148,7 +150,7 @@ impl Layout {
     pub(crate) fn signal_codes(&self) -> (&[SignalCode], &[Group])
         ensures signals { map signal_in result.0.now ≡ self.now.signals }
         ensures signal_codes { AllByRecursion IsSignalCode result.0.now }
-        ensures groups { AreGroups result.1.now result.0.now }
+        ensures groups { AreSignalGroups result.1.now result.0.now }
     {
         (self.signal_codes.as_slice(), self.groups.as_slice())
     }

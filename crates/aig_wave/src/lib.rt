@@ -1,9 +1,10 @@
 //! The waveform of a trace: a Value Change Dump, made of the lines of the trace as they come.
 //!
-//! Others call `WaveMemory`, which takes all memory, and `WaveSink`, a sink for a trace text, which sends the dump of it
-//! on to another sink.
+//! Others call `WaveMemory`, which takes all memory, and `WaveSink`, a sink for a trace text, which
+//! sends the dump of it on to another sink.
 //!
-//! The definitions that matter most are `frames`, `wave_text`, and `wave_origin`, by which a past tells what it stands on.
+//! The definitions that matter most are `frames`, `wave_text`, and `wave_origin`, by which a past
+//! tells what it stands on.
 #![tactic(auto)]
 
 mod bits;

@@ -12,7 +12,7 @@ use std::marker::Model;
 
 /// Neighbours of a kind that are shown as one: which, and where their characters stand in a line.
 #[derive(Clone, Copy)]
-pub struct Signal {
+pub(crate) struct Signal {
     pub(crate) kind: Kind,
     pub(crate) first: u32,
     pub(crate) size: u32,
@@ -112,7 +112,8 @@ pub(crate) fn add_signals(
 ) -> Result<(), OutOfMemory>
     requires limits { IsWithinLimits circuit.now }
     requires count { length names.now ≤ LARGEST }
-    ensures { OnOk result (signals.new.items ≡ signals.old.items ++ signals_behind circuit.now kind 0 [] names.now) }
+    ensures { OnOk result (signals.new.items
+        ≡ signals.old.items ++ signals_behind circuit.now kind 0 [] names.now) }
 {
     let start = place(circuit, kind);
     let mut before: &[u8] = b"";

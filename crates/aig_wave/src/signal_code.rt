@@ -1,7 +1,7 @@
 //! Signals, each with the text that ends its changes.
 ghost use Rattle.std.specs.Prelude.{◌≡◌, ◌+◌, ◌≤◌, ◌++◌, IfOk, decimal, length, map, take};
 ghost use Rattle.std.specs.List.{AllByRecursion};
-ghost use Rattle.aig_wave.specs.Parts.SignalCodes.{IsSignalCode, signal_in, tail_text};
+ghost use Rattle.aig_wave.specs.Parts.SignalCodes.{IsSignalCode, signal_in, change_tail};
 ghost use Rattle.aig_wave.specs.declared.signal_code.TheConstants.{TAIL};
 
 use crate::digit::write_digits;
@@ -15,7 +15,7 @@ pub(crate) const TAIL: usize = 16;
 
 /// A signal, and the text that ends each of its changes: its code and a line feed. It is made once.
 #[derive(Clone, Copy)]
-pub struct SignalCode {
+pub(crate) struct SignalCode {
     pub(crate) signal: Signal,
     pub(crate) tail: [u8; TAIL],
     pub(crate) size: usize,
@@ -48,7 +48,7 @@ fn write_decimal(line: &mut [u8], at: usize, number: u32) -> usize
 fn write_tail(line: &mut [u8], signal: &Signal) -> usize
     requires { TAIL ≤ length line.old }
     ensures short { result ≤ TAIL }
-    ensures text { take result line.new ≡ tail_text signal.now }
+    ensures text { take result line.new ≡ change_tail signal.now }
 {
     let at = write_text(line, 0, &[letter(signal.kind)]);
     let end = write_decimal(line, at, signal.first);
@@ -74,7 +74,7 @@ impl SignalCode {
     #[inline(always)]
     pub(crate) fn tail(&self) -> &[u8]
         requires { IsSignalCode self.now }
-        ensures { result.now ≡ tail_text (signal_in self.now) }
+        ensures { result.now ≡ change_tail (signal_in self.now) }
     {
         &self.tail[..self.size]
     }
@@ -86,7 +86,8 @@ pub(crate) fn signal_codes_of(
     signals: &[Signal],
 ) -> Result<Vec<SignalCode>, OutOfMemory>
     ensures signals { IfOk result (λ signal_codes. map signal_in signal_codes.items ≡ signals.now) }
-    ensures signal_codes { IfOk result (λ signal_codes. AllByRecursion IsSignalCode signal_codes.items) }
+    ensures signal_codes { IfOk result (λ signal_codes.
+        AllByRecursion IsSignalCode signal_codes.items) }
 {
     let mut signal_codes = Vec::with_capacity(alloc, signals.len())?;
     for signal in signals {

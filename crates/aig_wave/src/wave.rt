@@ -1,5 +1,6 @@
 //! A sink for a trace text, which sends the dump of it on.
-ghost use Rattle.std.specs.Prelude.{◌≡◌, ◌<◌, ◌≤◌, ℕ, [], IfOk, IsTrue, OnOk, is_err, is_ok, length};
+ghost use Rattle.std.specs.Prelude.{◌≡◌, ◌<◌, ◌≤◌, ℕ, [], IfOk, IsTrue, OnOk, is_err};
+ghost use Rattle.std.specs.Prelude.{is_ok, length};
 ghost use Rattle.aig_io.specs.Devices.{CanFail, Past, after_send, block_size, unused};
 ghost use Rattle.aig_wave.specs.Frames.{frames_of};
 ghost use Rattle.aig_wave.specs.Layout.{Layout as LayoutRecord};
@@ -12,8 +13,9 @@ use aig_io::{DeviceFault, Record, Sink};
 use std::marker::Model;
 use std::snapshot::Snapshot;
 
-/// Takes the trace text of a circuit with the columns of its properties, and sends the dump of it on, frame by frame.
-/// What was taken when its sink failed counts as taken; it fails from the next call on.
+/// Takes the trace text of a circuit with the columns of its properties, and sends the dump of it
+/// on, frame by frame. What was taken when its sink failed counts as taken; it fails from the next
+/// call on.
 #[derive(Drop)]
 pub struct WaveSink<'a, W: Sink> {
     dump_writer: DumpWriter<'a, W>,
@@ -32,19 +34,23 @@ impl<'a, W: Sink> Model for WaveSink<'a, W> {
     ghost view = { λ s. record {
       waving = s.dump_writer;
       past = record {
-        origin = wave_origin s.dump_writer.dump_state.layout s.dump_writer.output.name (W.past s.before.value);
+        origin = wave_origin s.dump_writer.dump_state.layout s.dump_writer.output.name
+            (W.past s.before.value);
         bytes = bytes_of s.log.notes;
         ends = sum_of s.log.notes;
         failures = s.failures;
       };
     } };
 
-    ghost invariant = { λ s. IsDump s.before.value (W.past s.before.value) s.dump_writer (bytes_of s.log.notes)
+    ghost invariant = { λ s. IsDump s.before.value (W.past s.before.value) s.dump_writer
+        (bytes_of s.log.notes)
         × (0 < s.failures → s.dump_writer.output.failed ≡ true) };
 }
 
 impl<'a, W: Sink> WaveSink<'a, W> {
     /// Nothing was taken yet.
+    // Not built into its callers, whose stack would then hold the block of the output more often.
+    #[inline(never)]
     pub fn new(room: WaveMemory, sink: &'a mut W) -> Self
         requires { CanFail (W.past sink.old) }
         ensures { result.past ≡ unused (wave_origin room sink.entry.ghost_name (W.past sink.old)) }
@@ -58,12 +64,16 @@ impl<'a, W: Sink> WaveSink<'a, W> {
         }
     }
 
-    /// Ends the dump, with the time at which the last frame ends where the trace is done, and hands the sink back. Ok
-    /// means that the sink took all of it.
+    /// Ends the dump, with the time at which the last frame ends where the trace is done, and hands
+    /// the sink back. Ok means that the sink took all of it.
+    // Nor is this built into its callers.
+    #[inline(never)]
     pub fn finish(self, done: bool) -> (Result<(), DeviceFault>, &'a mut W)
         ensures lender { result.1.ghost_name ≡ self.entry.past.origin.lender }
-        ensures sent { (w : LayoutRecord) (name : ℕ) (before : Past) → self.entry.past.origin ≡ wave_origin w name before
-            → WasSent result.0 (dump w (frames_of w self.entry.past.bytes) done) before (W.past result.1.now) }
+        ensures sent { (w : LayoutRecord) (name : ℕ) (before : Past)
+            → self.entry.past.origin ≡ wave_origin w name before
+            → WasSent result.0 (dump w (frames_of w self.entry.past.bytes) done) before
+            (W.past result.1.now) }
         ensures reported { OnOk result.0 (self.entry.past.failures ≡ 0) }
     {
         let WaveSink {

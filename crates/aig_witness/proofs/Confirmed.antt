@@ -6,9 +6,9 @@ use Rattle.std.specs.List.{AllByRecursion}
 use Rattle.std.proofs.lemmas.List.{length_push}
 use Rattle.std.proofs.lemmas.List.Elements.{All-from_recursion, All-push, recursion_from_All}
 use Rattle.aig_meaning.specs.Meaning.{Row}
-use Rattle.aig_witness.specs.declared.search.Search.{Search}
-use Rattle.aig_witness.specs.Witness.{Holds, IsBad, IsConfirmedAt, IsFirstConfirmed, IsVerdictOf}
-use Rattle.aig_witness.specs.Parts.Witnessing.{IsUnbegun, Tells, looked, verdict_of}
+use Rattle.aig_witness.specs.declared.search.StepSearch.{StepSearch}
+use Rattle.aig_witness.specs.Witness.{IsHeld, IsBad, IsConfirmedAt, IsFirstConfirmed, IsVerdictOf}
+use Rattle.aig_witness.specs.Parts.Witnessing.{IsUnbegun, TellsRows, looked, verdict_of}
 
 parts_by_recursion : {X : Type 0} (P : X → Type 0) (xs : List X) (x : X) → AllByRecursion P (xs ++ x ∷ [])
     → AllByRecursion P xs × P x
@@ -50,7 +50,7 @@ confirmed_more p rows row at is = search (rules, append_assoc)
 pub record IsLast (p : ℕ) (rows : List Row) (row : Row) (at : ℕ) : Type 0 where
   pub place : at ≡ length rows
   pub is_bad : IsBad p row
-  pub held : All Holds (rows ++ row ∷ [])
+  pub held : All IsHeld (rows ++ row ∷ [])
 
 -- a step that confirms did so before the last row came, or it is the last
 confirmed_before : (p : ℕ) (rows : List Row) (row : Row) (at : ℕ) → IsConfirmedAt p (rows ++ row ∷ []) at
@@ -70,8 +70,8 @@ confirmed_before p rows row at is =
       | inr (same, at_last) ↦ inr (record {
         place = is.place ∙ ap length (sym same);
         is_bad = subst (IsBad p) (sym at_last) is.is_bad;
-        held = All-push Holds rows row (subst (All Holds) (sym same) is.held)
-            (subst Holds (sym at_last) is.holds);
+        held = All-push IsHeld rows row (subst (All IsHeld) (sym same) is.held)
+            (subst IsHeld (sym at_last) is.holds);
       })
     ]
 
@@ -98,9 +98,9 @@ module _ (p : ℕ) (rows : List Row) (row : Row) (steps : ℕ) (counted : steps 
         ];
   }
 
-  found_here : ((at : ℕ) → ¬ IsConfirmedAt p rows at) → All Holds more → IsBad p row → IsFirstConfirmed p more steps
+  found_here : ((at : ℕ) → ¬ IsConfirmedAt p rows at) → All IsHeld more → IsBad p row → IsFirstConfirmed p more steps
   found_here none held is_bad =
-      let parts = all_parts Holds rows row held in
+      let parts = all_parts IsHeld rows row held in
       record {
         confirmed = record {
           before = rows;
@@ -119,7 +119,7 @@ module _ (p : ℕ) (rows : List Row) (row : Row) (steps : ℕ) (counted : steps 
             ];
       }
 
-  not_here : ((at : ℕ) → ¬ IsConfirmedAt p rows at) → ¬ (All Holds more × IsBad p row)
+  not_here : ((at : ℕ) → ¬ IsConfirmedAt p rows at) → ¬ (All IsHeld more × IsBad p row)
       → (at : ℕ) → ¬ IsConfirmedAt p more at
   not_here none fails at here =
       elim (confirmed_before p rows row at here) [
@@ -131,36 +131,36 @@ module _ (p : ℕ) (rows : List Row) (row : Row) (steps : ℕ) (counted : steps 
   next_found found holds is_bad = if (is_none found && holds) && is_bad then Some steps else found
 
   told : (found : Option ℕ) (holds is_bad : Bool) → IsVerdictOf p rows (verdict_of found)
-      → (holds ≡ true → All Holds more)
-      → (holds ≡ false → ¬ All Holds more) → (is_bad ≡ true → IsBad p row) → (is_bad ≡ false → ¬ IsBad p row)
+      → (holds ≡ true → All IsHeld more)
+      → (holds ≡ false → ¬ All IsHeld more) → (is_bad ≡ true → IsBad p row) → (is_bad ≡ false → ¬ IsBad p row)
       → IsVerdictOf p more (verdict_of (next_found found holds is_bad))
   told (Some at) holds is_bad before held broken bad fine = found_stays at before
   told None false is_bad before held broken bad fine = not_here before (λ both. broken refl both.0)
   told None true false before held broken bad fine = not_here before (λ both. fine refl both.1)
   told None true true before held broken bad fine = found_here before (held refl) (bad refl)
 
-  both_held : (a b : Bool) → (a ≡ true → All Holds rows) → (b ≡ true → Holds row) → (a && b) ≡ true → All Holds more
-  both_held true b held holds is = All-push Holds rows row (held refl) (holds is)
+  both_held : (a b : Bool) → (a ≡ true → All IsHeld rows) → (b ≡ true → IsHeld row) → (a && b) ≡ true → All IsHeld more
+  both_held true b held holds is = All-push IsHeld rows row (held refl) (holds is)
   both_held false b held holds is = cc
 
-  one_broken : (a b : Bool) → (a ≡ false → ¬ All Holds rows) → (b ≡ false → ¬ Holds row) → (a && b) ≡ false
-      → ¬ All Holds more
-  one_broken true b broken breaks is all = breaks is (all_parts Holds rows row all).1
-  one_broken false b broken breaks is all = broken refl (all_parts Holds rows row all).0
+  one_broken : (a b : Bool) → (a ≡ false → ¬ All IsHeld rows) → (b ≡ false → ¬ IsHeld row) → (a && b) ≡ false
+      → ¬ All IsHeld more
+  one_broken true b broken breaks is all = breaks is (all_parts IsHeld rows row all).1
+  one_broken false b broken breaks is all = broken refl (all_parts IsHeld rows row all).0
 
 -- nothing was looked at
-pub tells_nothing : (p : ℕ) (s : Search) → IsUnbegun s → Tells p [] s
+pub tells_nothing : (p : ℕ) (s : StepSearch) → IsUnbegun s → TellsRows p [] s
 tells_nothing p s unbegun = record {
   steps = unbegun.steps;
-  held = λ _. All-from_recursion Holds [] tt;
+  held = λ _. All-from_recursion IsHeld [] tt;
   broken = λ (is : s.holds ≡ false). let holds = unbegun.holds in cc;
   found = subst (λ (o : Option ℕ). IsVerdictOf p [] (verdict_of o)) (sym unbegun.found)
       (λ at here. absurd (omega (arith, place_low p [] at here)));
 }
 
 -- one more step was looked at
-pub tells_more : (p : ℕ) (rows : List Row) (row : Row) (s : Search) (is_bad hold : Bool) → Tells p rows s
-    → (is_bad ≡ true → IsBad p row) → (is_bad ≡ false → ¬ IsBad p row) → (hold ≡ true → Holds row)
-    → (hold ≡ false → ¬ Holds row) → Tells p (rows ++ row ∷ []) (looked s is_bad hold)
+pub tells_more : (p : ℕ) (rows : List Row) (row : Row) (s : StepSearch) (is_bad hold : Bool) → TellsRows p rows s
+    → (is_bad ≡ true → IsBad p row) → (is_bad ≡ false → ¬ IsBad p row) → (hold ≡ true → IsHeld row)
+    → (hold ≡ false → ¬ IsHeld row) → TellsRows p (rows ++ row ∷ []) (looked s is_bad hold)
 tells_more p rows row s is_bad hold before bad fine holds breaks =
     search (rules, both_held, one_broken, length_push, told)

@@ -12,8 +12,9 @@ use Rattle.std.proofs.lemmas.List.Sums.{list_all-from_AllPass}
 use Rattle.aig_circuit.specs.declared.circuit.Circuit.{Circuit}
 use Rattle.aig_circuit.specs.declared.value.Val.TheVariants.{Zero, One, X}
 use Rattle.aig_circuit.specs.declared.value.Val.{Val}
+use Rattle.aig_circuit.specs.Wellformed.{IsWellFormed}
 use Rattle.aig_meaning.specs.Meaning.{Row}
-use Rattle.aig_meaning.specs.Trace.{Follow}
+use Rattle.aig_meaning.specs.Trace.{Follow, IsTrace}
 use Rattle.aig_meaning.proofs.Traces.{one_trace, inputs_length}
 use Rattle.aig_lines.specs.Lines.{Line, bytes_of, line, lines_of}
 use Rattle.aig_lines.specs.Laws.{EndInLineFeeds, IsOneLine}
@@ -26,12 +27,12 @@ use Rattle.aig_step.specs.Stimulus.{judged_lines, text_of, without_return}
 use Rattle.aig_step.specs.TraceText.{values_text, character_of}
 use Rattle.aig_witness.specs.Laws.{FirstWrongLinesAreFound, OneVerdict, ClaimsHaveFiles}
 use Rattle.aig_witness.specs.Witness.{Nothing, Property, Said, Shape, Steps, Version, Whole, is_whole, said_behind}
-use Rattle.aig_witness.specs.Witness.{said_with, shape_of, wrong_line, IsVerdictOf, is_canonical}
+use Rattle.aig_witness.specs.Witness.{said_with, shape_of, wrong_line, IsVerdictOf, is_canonical, Claim, SaysClaim}
 use Rattle.aig_witness.specs.WrongLine.{HaveEnd, IsFirstWrong}
-use Rattle.aig_witness.specs.declared.search.Search.{Search}
+use Rattle.aig_witness.specs.declared.search.StepSearch.{StepSearch}
 use Rattle.aig_witness.specs.declared.verdict.Verdict.{Verdict}
 use Rattle.aig_witness.specs.declared.verdict.Verdict.TheVariants.{Confirmed, NotConfirmed}
-use Rattle.aig_witness.specs.Parts.Witnessing.{Tells, are_ones, is_one, looked, verdict_of}
+use Rattle.aig_witness.specs.Parts.Witnessing.{TellsRows, are_ones, is_one, looked, verdict_of}
 use Rattle.aig_witness.specs.WitnessText.{witness_texts}
 use Rattle.aig_witness.proofs.WitnessTexts.{IsAfter, IsNext, by_texts, next_line, no_end, said_texts, whole_is}
 use Rattle.aig_witness.proofs.WitnessTexts.{witness_files_are_read}
@@ -115,7 +116,7 @@ first_wrong_lines_are_found c bytes ended number =
 -- A claim on a well-formed circuit has exactly one verdict.
 
 -- what was found in the rows before is followed through the others
-some_verdict : (p : ℕ) (before rows : List Row) (s : Search) → Tells p before s
+some_verdict : (p : ℕ) (before rows : List Row) (s : StepSearch) → TellsRows p before s
     → (v : Verdict) × IsVerdictOf p (before ++ rows) v
 some_verdict p before [] s tells = (
   verdict_of s.found,
@@ -129,7 +130,7 @@ some_verdict p before (row ∷ rows) s tells =
     let later = some_verdict p (before ++ row ∷ []) rows (looked s (is_one bad) (are_ones row.constraints)) more in
     (later.0, subst (λ (rs : List Row). IsVerdictOf p rs later.0) (append_assoc before (row ∷ []) rows) later.1)
 
-abbrev unbegun : Search
+abbrev unbegun : StepSearch
 unbegun = record { literal = 0; steps = 0; holds = true; found = None }
 
 same_verdict : (p : ℕ) (rows : List Row) (v w : Verdict) → IsVerdictOf p rows v → IsVerdictOf p rows w → v ≡ w
@@ -169,7 +170,7 @@ abbrev IsKept : List ℕ → Type 0
 IsKept text = AllByRecursion Stays text
 
 -- texts as lines
-abbrev as_lines : List (List ℕ) → List Line
+abbrev pub as_lines : List (List ℕ) → List Line
 as_lines texts = map (λ (text : List ℕ). line text true) texts
 
 return_kept : (text : List ℕ) → IsKept text → without_return text ≡ text
@@ -241,7 +242,7 @@ decimal_is_canonical n small =
     search (rules, nat_lt, lt-ltb, decimal_not_padded)
 
 -- the steps of a trace have a value for each input
-each_long : (c : Circuit) (state : List Val) (vectors : List (List Val)) (rows : List Row)
+pub each_long : (c : Circuit) (state : List Val) (vectors : List (List Val)) (rows : List Row)
     → Follow c state vectors rows
     → AllByRecursion (λ (given : List Val). length given ≡ length c.inputs) vectors
 each_long c state [] rows follow = tt
@@ -249,8 +250,13 @@ each_long c state (v ∷ vs) [] follow = absurd follow
 each_long c state (v ∷ vs) (r ∷ rs) follow =
     (ap length (sym follow.1) ∙ inputs_length c r follow.2, each_long c r.next vs rs follow.3)
 
-pub claims_have_files : ClaimsHaveFiles
-claims_have_files c claim rows formed below trace =
+-- the file of a claim
+abbrev pub file_of : Claim → List ℕ
+file_of claim = bytes_of (as_lines (witness_texts (decimal claim.property) claim))
+
+pub file_says : (c : Circuit) (claim : Claim) (rows : List Row) → IsWellFormed c → claim.property < length c.bad
+    → IsTrace c claim.first claim.steps rows → SaysClaim c (file_of claim) claim
+file_says c claim rows formed below trace =
     let small : claim.property < 2 ^ 64 = omega (arith, below, formed.limits.literals.1.0) in
     let number = decimal_is_number claim.property small in
     let texts = witness_texts (decimal claim.property) claim in
@@ -261,15 +267,15 @@ claims_have_files c claim rows formed below trace =
         (values_kept claim.first, steps_kept claim.steps),
       ),
     ) in
-    let bytes = bytes_of (as_lines texts) in (
-      bytes,
-      (witness_files_are_read c bytes claim).1 (record {
-        digits = decimal claim.property;
-        canonical = decimal_is_canonical claim.property small;
-        number = number.value;
-        below = below;
-        starts = trace.0;
-        each = each_long c claim.first claim.steps rows trace.1;
-        texts = read_again texts kept;
-      }),
-    )
+    (witness_files_are_read c (file_of claim) claim).1 (record {
+      digits = decimal claim.property;
+      canonical = decimal_is_canonical claim.property small;
+      number = number.value;
+      below = below;
+      starts = trace.0;
+      each = each_long c claim.first claim.steps rows trace.1;
+      texts = read_again texts kept;
+    })
+
+pub claims_have_files : ClaimsHaveFiles
+claims_have_files c claim rows formed below trace = (file_of claim, file_says c claim rows formed below trace)

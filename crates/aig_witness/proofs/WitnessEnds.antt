@@ -19,12 +19,12 @@ use Rattle.aig_witness.specs.Confirming.{ConfirmSays, Judged}
 use Rattle.aig_witness.specs.Witness.{Claim, IsVerdict, IsVerdictOf, Nothing, Property, Said, SaysClaim, Shape, Steps}
 use Rattle.aig_witness.specs.Witness.{Version, Whole, first_bad_witness_line, missing_line, shape_of, witness_of}
 use Rattle.aig_witness.specs.Witness.{wrong_line}
-use Rattle.aig_witness.specs.Parts.Witnessing.{HasHeard, Stands, Witnessing, hear_line, hearing, longest_line}
+use Rattle.aig_witness.specs.Parts.Witnessing.{HasHeard, StandsWhen, Witnessing, hear_line, hearing, longest_line}
 use Rattle.aig_witness.specs.Parts.Witnessing.{verdict_of}
 use Rattle.aig_witness.proofs.Hearing.{none_wrong, one_wrong}
 
 -- a line is missing where one is due
-one_missing : (lines : ℕ) (w : Witnessing) (said : Said) → Stands w said → w.due ≢ due.Nothing
+one_missing : (lines : ℕ) (w : Witnessing) (said : Said) → StandsWhen w said → w.due ≢ due.Nothing
     → missing_line lines true said ≡ Some (1 + lines)
 one_missing lines w Nothing stands some = ap (λ (n : ℕ). Some n) (omega arith)
 one_missing lines w Version stands some = ap (λ (n : ℕ). Some n) (omega arith)
@@ -70,7 +70,12 @@ module _ (c : Circuit) (few : length c.bad ≤ LARGEST) (source source_now : Pas
     cut_off fault r =
         let right = none_wrong c few r.bytes false f w r.stands r.refused in
         let lines = length (judged_lines r.bytes false) in
-        record { bytes = r.bytes; ending = Broken; says = (refl, ap (wrong_line lines false) right.says); came = r.past }
+        record {
+          bytes = r.bytes;
+          ending = Broken;
+          says = (refl, ap (wrong_line lines false) right.says);
+          came = r.past;
+        }
 
     -- the bytes have ended where a line is due
     pub wrong_behind : CameAt longest (Ok true) → w.due ≢ due.Nothing → Answers (Err (faults.BadWitness f.number))
@@ -82,7 +87,7 @@ module _ (c : Circuit) (few : length c.bad ≤ LARGEST) (source source_now : Pas
         record { bytes = r.bytes; ending = AtEnd; says = (tt, first); came = r.past }
 
     -- they have ended where none is
-    whole : (v : Verdict) (bytes : List ℕ) (said : Said) → Stands w said → w.due ≡ due.Nothing → w.circuit ≡ c
+    whole : (v : Verdict) (bytes : List ℕ) (said : Said) → StandsWhen w said → w.due ≡ due.Nothing → w.circuit ≡ c
         → witness_of (shape_of c) bytes true ≡ Ok said → v ≡ verdict_of w.search.found → Judged c v bytes
     whole v bytes Nothing stands none same says is = let other = stands.0 in cc
     whole v bytes Version stands none same says is = let other = stands.0 in cc
@@ -131,6 +136,7 @@ module _ (c d : Circuit) (means : MeansTheSame c d) (bad : length d.bad ≡ leng
   confirm_says_too (Ok v) bytes ending says = search (rules, same_wrong, same_shape, same_meaning_same_traces)
   confirm_says_too (Err faults.OutOfMemory) bytes ending says = says
   confirm_says_too (Err (faults.BadStimulus n)) bytes ending never = never
-  confirm_says_too (Err (faults.BadWitness n)) bytes ending says = (says.0, same_wrong bytes (is_at_end ending) ∙ says.1)
+  confirm_says_too (Err (faults.BadWitness n)) bytes ending says =
+      (says.0, same_wrong bytes (is_at_end ending) ∙ says.1)
   confirm_says_too (Err faults.ReadFailed) bytes ending says = (says.0, same_wrong bytes false ∙ says.1)
   confirm_says_too (Err faults.WriteFailed) bytes ending never = never

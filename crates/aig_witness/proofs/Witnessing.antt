@@ -23,7 +23,7 @@ use Rattle.aig_witness.specs.Witness.{property_in, shape_of, first_state_in, if_
 use Rattle.aig_witness.specs.Witness.{Claim, Nothing, Property, Said, Steps, Version, Whole, begun_at, with_entry}
 use Rattle.aig_witness.specs.WrongLine.{NamesBadState}
 use Rattle.aig_witness.specs.declared.checker.Due.TheVariants as due
-use Rattle.aig_witness.specs.Parts.Witnessing.{Follows, Stands, StepTaken, TookDue, TookEntry, TookFirstState}
+use Rattle.aig_witness.specs.Parts.Witnessing.{Follows, StandsWhen, StepTaken, TookDue, TookEntry, TookFirstState}
 use Rattle.aig_witness.specs.Parts.Witnessing.{TookProperty, Witnessing, are_ones, is_one}
 use Rattle.aig_witness.proofs.Confirmed.{tells_more, tells_nothing}
 
@@ -131,7 +131,7 @@ not_one v is same = let one : is_one v ≡ true = ap is_one same in cc
 
 module _ (w v : Witnessing) (text : List ℕ) where
   -- the line that names a bad state
-  pub took_property : (said : Said) → Stands w said → w.due ≡ due.Property → TookProperty w v text
+  pub took_property : (said : Said) → StandsWhen w said → w.due ≡ due.Property → TookProperty w v text
       → TookDue w v said text
   took_property Nothing stands is took = let other = stands.0 in cc
   took_property Version stands is took = record {
@@ -149,7 +149,7 @@ module _ (w v : Witnessing) (text : List ℕ) where
   took_property (Whole claim) stands is took = let other = stands.0 in cc
 
   -- the line of the first state
-  pub took_first : (said : Said) → Stands w said → w.due ≡ due.FirstState → TookFirstState w v text
+  pub took_first : (said : Said) → StandsWhen w said → w.due ≡ due.FirstState → TookFirstState w v text
       → TookDue w v said text
   took_first Nothing stands is took = let other = stands.0 in cc
   took_first Version stands is took = let other = stands.0 in cc
@@ -206,7 +206,7 @@ module _ (w v : Witnessing) (text : List ℕ) where
   }
 
   -- the line of a step, or the line `.`
-  pub took_entry : (said : Said) → Stands w said → w.due ≡ due.Steps → TookEntry w v text → TookDue w v said text
+  pub took_entry : (said : Said) → StandsWhen w said → w.due ≡ due.Steps → TookEntry w v text → TookDue w v said text
   took_entry Nothing stands is took = let other = stands.0 in cc
   took_entry Version stands is took = let other = stands.0 in cc
   took_entry (Property p) stands is took = let other = stands.0 in cc

@@ -144,8 +144,8 @@ abbrev pub SaysClaim : Circuit → List ℕ → Claim → Type 0
 SaysClaim c bytes claim = witness_of (shape_of c) bytes true ≡ Ok (Whole claim)
 
 -- all constraints are 1
-abbrev pub Holds : Row → Type 0
-Holds row = All (λ (v : Val). v ≡ One) row.constraints
+abbrev pub IsHeld : Row → Type 0
+IsHeld row = All (λ (v : Val). v ≡ One) row.constraints
 
 -- the bad state is 1
 abbrev pub IsBad : ℕ → Row → Type 0
@@ -160,8 +160,8 @@ pub record IsConfirmedAt (property : ℕ) (rows : List Row) (at : ℕ) : Type 0 
   pub parted : rows ≡ before ++ (row ∷ behind)
   pub place : at ≡ length before
   pub is_bad : IsBad property row
-  pub holds : Holds row
-  pub held : All Holds before
+  pub holds : IsHeld row
+  pub held : All IsHeld before
 
 -- the first step that does
 pub record IsFirstConfirmed (property : ℕ) (rows : List Row) (at : ℕ) : Type 0 where

@@ -1,6 +1,6 @@
 //! Lines of a witness file, and the steps of a circuit for them.
-ghost use Rattle.std.specs.Prelude.{◌≡◌, ◌≢◌, ◌+◌, ◌-◌, ◌^◌, ◌<◌, ◌≤◌, IfOk, None, codes, false, length, map, true};
-ghost use Rattle.std.specs.Prelude.{if◌then◌else◌};
+ghost use Rattle.std.specs.Prelude.{◌≡◌, ◌≢◌, ◌+◌, ◌-◌, ◌^◌, ◌<◌, ◌≤◌, IfOk, None, codes, false};
+ghost use Rattle.std.specs.Prelude.{length, map, true, if◌then◌else◌};
 ghost use Rattle.std.specs.List.{All};
 ghost use Rattle.std.specs.Str.{bytes_eq};
 ghost use Rattle.aig_circuit.specs.declared.circuit.TheConstants.{LARGEST};
@@ -10,10 +10,11 @@ ghost use Rattle.aig_step.specs.Stimulus.{entry_in};
 ghost use Rattle.aig_witness.specs.Witness.{Nothing, Said, first_state_in, property_in, shape_of};
 ghost use Rattle.aig_step.specs.Parts.Lines.{vector_in};
 ghost use Rattle.aig_step.specs.Parts.Tables.{IsLiteralBelow, read_from};
-ghost use Rattle.aig_witness.specs.Parts.Witnessing.{NotDue, Stands, StepTaken, TookDue, TookEntry, TookFirstState};
-ghost use Rattle.aig_witness.specs.Parts.Witnessing.{TookProperty, are_ones, is_one, longest_line, verdict_of};
+ghost use Rattle.aig_witness.specs.Parts.Witnessing.{NotDue, StandsWhen, StepTaken, TookDue};
+ghost use Rattle.aig_witness.specs.Parts.Witnessing.{TookEntry, TookFirstState, TookProperty};
+ghost use Rattle.aig_witness.specs.Parts.Witnessing.{are_ones, is_one, longest_line, verdict_of};
 
-use crate::search::Search;
+use crate::search::StepSearch;
 use crate::verdict::Verdict;
 use crate::witness_line::{is_version, property_in, read_first_state};
 use aig_checked::Checked;
@@ -43,7 +44,7 @@ pub(crate) enum Due {
 pub(crate) struct Checker {
     stepper: Stepper,
     due: Due,
-    search: Search,
+    search: StepSearch,
 }
 
 impl Model for Checker {
@@ -91,15 +92,15 @@ impl Checker {
         ensures same { IfOk result (λ c. MeansTheSame checked.now c.circuit) }
         ensures bad { IfOk result (λ c. length c.circuit.bad ≡ length checked.now.bad) }
         ensures few { IfOk result (λ c. length c.circuit.bad ≤ LARGEST) }
-        ensures begun { IfOk result (λ c. Stands c Nothing) }
+        ensures begun { IfOk result (λ c. StandsWhen c Nothing) }
     {
         // That the circuit is well formed is known by this call.
-        let _circuit = checked.circuit();
+        let _circuit = checked.circuit(); // for the proof
         let stepper = Stepper::new(alloc, checked)?;
         Ok(Checker {
             stepper,
             due: Due::Version,
-            search: Search {
+            search: StepSearch {
                 literal: Lit(0),
                 steps: 0,
                 holds: true,
@@ -115,7 +116,7 @@ impl Checker {
     {
         let parts = self.stepper.machine().parts();
         // That there are not too many inputs and latches is known by this read.
-        let _largest = parts.max_var;
+        let _largest = parts.max_var; // for the proof
         // A line that names a bad state has at most eleven bytes.
         parts.latches.len().max(parts.inputs.len()).max(12)
     }
@@ -153,7 +154,8 @@ impl Checker {
     /// Takes the line of the first state, and answers whether it is good.
     fn take_first_state(&mut self, text: &[u8]) -> bool
         ensures good { result ≡ true → TookFirstState self.old self.new text.now }
-        ensures bad { result ≡ false → first_state_in (shape_of self.old.circuit).resets text.now ≡ None }
+        ensures bad { result ≡ false
+            → first_state_in (shape_of self.old.circuit).resets text.now ≡ None }
         ensures stays { result ≡ false → self.new ≡ record self.old { state = self.new.state } }
         ensures steps { self.new.search.steps ≡ self.old.search.steps }
     {
@@ -206,8 +208,9 @@ impl Checker {
     #[tactic(auto, using(crate::proofs::Witnessing::took_property, crate::proofs::Witnessing::took_first, crate::proofs::Witnessing::took_entry))]
     fn take_line(&mut self, text: &[u8]) -> bool
         requires { self.old.search.steps < 2 ^ 64 - 1 }
-        ensures good { result ≡ true → (said : Said) → Stands self.old said → TookDue self.old self.new said text.now }
-        ensures bad { result ≡ false → (said : Said) → Stands self.old said
+        ensures good { result ≡ true → (said : Said) → StandsWhen self.old said
+            → TookDue self.old self.new said text.now }
+        ensures bad { result ≡ false → (said : Said) → StandsWhen self.old said
             → NotDue self.old self.new said text.now }
         ensures steps { self.new.search.steps ≤ self.old.search.steps + (if result then 1 else 0) }
     {

@@ -7,7 +7,7 @@ use aig_circuit::Lit;
 
 /// What is looked for, and what was found so far.
 #[derive(Clone, Copy)]
-pub(crate) struct Search {
+pub(crate) struct StepSearch {
     /// The literal of the bad state; FALSE until one is named.
     pub(crate) literal: Lit,
     /// How many steps were looked at.
@@ -18,7 +18,7 @@ pub(crate) struct Search {
     pub(crate) found: Option<u64>,
 }
 
-impl Search {
+impl StepSearch {
     /// Looks at one more step: whether the bad state is 1 there, and whether all constraints are.
     pub(crate) fn look(&mut self, is_bad: bool, hold: bool)
         requires { self.old.steps < 2 ^ 64 - 1 }

@@ -6,7 +6,7 @@ ghost use Rattle.aig_io.specs.Runs.{Read};
 ghost use Rattle.aig_lines.specs.Fed.{IsUnfed};
 ghost use Rattle.aig_witness.specs.Confirming.{ConfirmSays};
 ghost use Rattle.aig_witness.specs.Witness.{Nothing, shape_of};
-ghost use Rattle.aig_witness.specs.Parts.Witnessing.{Stands, longest_line};
+ghost use Rattle.aig_witness.specs.Parts.Witnessing.{StandsWhen, longest_line};
 
 use crate::checker::Checker;
 use crate::verdict::Verdict;
@@ -24,10 +24,11 @@ fn judge_all<R: Source>(
 ) -> Result<Verdict, SimFault>
     requires unfed { IsUnfed feeder.old }
     requires limit { feeder.old.limit ≡ longest_line (shape_of checker.old.circuit) }
-    requires begun { Stands checker.old Nothing }
+    requires begun { StandsWhen checker.old Nothing }
     requires few { length checker.old.circuit.bad ≤ LARGEST }
     requires source { CanFail (R.past source.old) }
-    ensures { Read (ConfirmSays checker.old.circuit result) (R.past source.old) (R.past source.new) }
+    ensures { Read (ConfirmSays checker.old.circuit result)
+        (R.past source.old) (R.past source.new) }
 {
     let Ok(good) = feed_source(feeder, checker, source) else {
         return Err(SimFault::ReadFailed);
@@ -39,9 +40,9 @@ fn judge_all<R: Source>(
     Ok(checker.verdict())
 }
 
-/// Reads a witness file, and tells whether the circuit's trace confirms what it claims: that a bad state is reached,
-/// with all constraints kept on the way. The whole file is judged before there is a verdict. All memory is taken before
-/// the first fetch, and how much does not depend on the file.
+/// Reads a witness file, and tells whether the circuit's trace confirms what it claims: that a bad
+/// state is reached, with all constraints kept on the way. The whole file is judged before there is
+/// a verdict. All memory is taken before the first fetch, and how much does not depend on the file.
 pub fn confirm<R: Source>(
     alloc: Global,
     checked: &Checked,
@@ -52,11 +53,11 @@ pub fn confirm<R: Source>(
 {
     let mut checker = Checker::new(alloc, checked)?;
     let Ok(mut feeder) = LineFeeder::new(alloc, checker.longest_line()) else {
-        drop(checker);
+        drop(checker); // for the proof
         return Err(SimFault::OutOfMemory);
     };
     let judged = judge_all(&mut feeder, &mut checker, source);
-    drop(feeder);
-    drop(checker);
+    drop(feeder); // for the proof
+    drop(checker); // for the proof
     judged
 }

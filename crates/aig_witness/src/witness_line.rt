@@ -4,8 +4,8 @@ ghost use Rattle.std.specs.Str.{bytes_eq};
 ghost use Rattle.aig_circuit.specs.declared.circuit.Latch.{Latch as LatchRecord};
 ghost use Rattle.aig_circuit.specs.declared.circuit.TheConstants.{LARGEST};
 ghost use Rattle.aig_rows.specs.CanonicalNumber.{is_padded};
-ghost use Rattle.aig_witness.specs.Witness.{first_state_in, may_start_at, may_start_in, number_below, property_in};
-ghost use Rattle.aig_witness.specs.Witness.{shape_of};
+ghost use Rattle.aig_witness.specs.Witness.{first_state_in, may_start_at, may_start_in};
+ghost use Rattle.aig_witness.specs.Witness.{number_below, property_in, shape_of};
 ghost use Rattle.aig_witness.specs.Parts.Witnessing.{digits_below};
 
 use aig_circuit::{Latch, Reset, Val};
@@ -96,7 +96,8 @@ fn may_start_in(latches: &[Latch], state: &[Code]) -> bool
 pub(crate) fn read_first_state(text: &[u8], stepper: &mut Stepper) -> bool
     ensures good { result ≡ true
         → first_state_in (shape_of stepper.old.circuit).resets text.now ≡ Some stepper.new.state }
-    ensures bad { result ≡ false → first_state_in (shape_of stepper.old.circuit).resets text.now ≡ None }
+    ensures bad { result ≡ false
+        → first_state_in (shape_of stepper.old.circuit).resets text.now ≡ None }
     ensures stays { stepper.new ≡ record stepper.old { state = stepper.new.state } }
 {
     if !stepper.read_state(text) {

@@ -1,16 +1,16 @@
 //! The program: the arguments and the streams of the process, and the status that `start` answers.
 //!
-//! `main` lends `start` of `aig_tools` the arguments and the three standard streams, and ends with
-//! the status that it answers. Nothing else is done here. The program's own name is not looked at,
-//! since it may be no text. Arguments that are no text are refused, and so is a start without
-//! memory for them.
+//! `main` lends `start` of `aig_tools` the arguments, the files of the system and the three
+//! standard streams, and ends with the status that it answers. Nothing else is done here. The
+//! program's own name is not looked at, since it may be no text. Arguments that are no text are
+//! refused, and so is a start without memory for them.
 //!
 //! The files `args` and `stdin` beside `src` are the run that `rt ci` makes, and `stdout` is what
 //! it must write. This crate has no modules and no definitions of its own.
 #![tactic(auto)]
 
 use aig_core::{ReadSource, WriteSink};
-use aig_tools::{refuse_for_memory, refuse_words, start};
+use aig_tools::{HostFiles, refuse_for_memory, refuse_words, start};
 use std::alloc::Global;
 use std::env::FillError;
 use std::process::ExitCode;
@@ -61,10 +61,11 @@ fn main(rt: HostRuntime) -> ExitCode {
         // An argument that is no text is not supported.
         Err(_) => return ExitCode::from(refuse_words(&mut errors)),
     };
+    let mut files = HostFiles::new(&rt);
     let mut input = ReadSource::new(rt.stdin());
     let mut output = WriteSink::new(rt.stdout());
     ExitCode::from(start(
-        &rt,
+        &mut files,
         alloc,
         words.as_slice(),
         &mut input,

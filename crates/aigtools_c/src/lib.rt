@@ -7,12 +7,16 @@ ghost use Rattle.aig_command.specs.declared.builder.TheConstants.{VERSION};
 ghost use Rattle.aig_engines.specs.Conversion.{IsConversionRefused, IsConversionText};
 ghost use Rattle.aig_engines.specs.Simulation.{IsWrittenText};
 ghost use Rattle.aig_engines.specs.Unrolling.{IsUnrollingRefused, IsUnrollingText};
-ghost use Rattle.aig_library.specs.Answers.{Answers, DumpAnswers, IsSimulationRefused, WitnessAnswers};
-ghost use Rattle.aig_library.specs.Asked.{CanConvert, CanSimulate, CanUnroll, conversion, simulation, unrolling};
-ghost use Rattle.aig_library.specs.Message.{IsWritten, message_text};
+ghost use Rattle.aig_library.specs.Answers.{Answers, DumpAnswers, IsAnswerRefused, IsAnswerText, IsSimulationRefused};
+ghost use Rattle.aig_library.specs.Answers.{WitnessAnswers};
+ghost use Rattle.aig_library.specs.Asked.{CanConvert, CanReach, CanSimulate, CanUnroll, clauses, conversion, reaching};
+ghost use Rattle.aig_library.specs.Asked.{simulation, unrolling};
+ghost use Rattle.aig_library.specs.Message.{IsWritten, outcome_text};
 ghost use Rattle.aigtools_c.specs.Version.{version_text};
 
-use aig_library::{Outcome, convert, dump_witness, message, simulate, unroll, witness};
+use aig_library::{
+    Outcome, convert, dump_witness, message, reach, simulate, unroll, witness, write_clauses,
+};
 use std::alloc::Global;
 
 /// Converts the bytes of an AIGER file.
@@ -51,6 +55,47 @@ pub extern "C" fn aigtools_unroll(
         (λ fault. IsUnrollingRefused request fault input.now) output.old output.new outcome.new }
 {
     *outcome = unroll(alloc, options, frames, max_var, input, output);
+    outcome.status
+}
+
+/// Writes the clauses by which a bad state of the unrolled circuit of an AIGER file is 1.
+#[unsafe(no_mangle)]
+pub extern "C" fn aigtools_clauses(
+    alloc: Global,
+    bad: u32,
+    frames: u32,
+    max_var: u32,
+    input: &[u8],
+    output: &mut [u8],
+    outcome: &mut Outcome,
+) -> u32
+    ensures status { result ≡ outcome.new.status }
+    ensures answers { let request = clauses bad frames max_var in
+        Answers (CanReach frames max_var) (IsUnrollingText request input.now)
+        (λ fault. IsUnrollingRefused request fault input.now) output.old output.new outcome.new }
+{
+    *outcome = write_clauses(alloc, bad, frames, max_var, input, output);
+    outcome.status
+}
+
+/// Writes the witness in a solver's answer on these clauses.
+#[unsafe(no_mangle)]
+pub extern "C" fn aigtools_answer(
+    alloc: Global,
+    bad: u32,
+    frames: u32,
+    max_var: u32,
+    model: &[u8],
+    answer: &[u8],
+    output: &mut [u8],
+    outcome: &mut Outcome,
+) -> u32
+    ensures status { result ≡ outcome.new.status }
+    ensures answers { let request = reaching bad frames max_var in
+        Answers (CanReach frames max_var) (IsAnswerText request model.now answer.now)
+        (IsAnswerRefused request model.now answer.now) output.old output.new outcome.new }
+{
+    *outcome = reach(alloc, bad, frames, max_var, model, answer, output);
     outcome.status
 }
 
@@ -110,7 +155,7 @@ pub extern "C" fn aigtools_dump(
 /// Puts the words for an outcome into the output, and answers how many bytes they have.
 #[unsafe(no_mangle)]
 pub extern "C" fn aigtools_message(outcome: &Outcome, output: &mut [u8]) -> usize
-    ensures written { IsWritten (message_text outcome.now) output.old output.new result }
+    ensures written { IsWritten (outcome_text outcome.now) output.old output.new result }
     ensures short { result ≤ 80 }
 {
     message(outcome, output)

@@ -23,7 +23,7 @@ fn chain_text(alloc: Global) -> Result<String, AllocError> {
     Ok(text)
 }
 
-fn chain(alloc: Global) -> Result<Checked, Fail> {
+fn gate_chain(alloc: Global) -> Result<Checked, Fail> {
     let text = chain_text(alloc)?;
     let read = read_ascii(alloc, text.as_str().as_bytes(), Limits::default());
     drop(text); // for the proof
@@ -39,7 +39,7 @@ fn comes_back(alloc: Global, checked: &Checked) -> Result<bool, Fail> {
 
 #[test]
 fn many_gates_are_put_in_order(rt: HostRuntime) -> Result<(), Fail> {
-    let checked = chain(rt.alloc())?;
+    let checked = gate_chain(rt.alloc())?;
     let has_image = to_binary(rt.alloc(), &checked).is_ok();
     let comes_back = comes_back(rt.alloc(), &checked);
     drop(checked); // for the proof
@@ -59,7 +59,7 @@ fn many_frames_are_unrolled(rt: HostRuntime) -> Result<(), Fail> {
 
 #[test]
 fn many_gates_are_unrolled(rt: HostRuntime) -> Result<(), Fail> {
-    let checked = chain(rt.alloc())?;
+    let checked = gate_chain(rt.alloc())?;
     let is_unrolled = unroll(rt.alloc(), &checked, 2).is_ok();
     drop(checked); // for the proof
     assert!(rt; is_unrolled);

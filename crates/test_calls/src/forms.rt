@@ -135,7 +135,7 @@ fn in_form_with_parts(alloc: Global, circuit: &mut Circuit, parts: &str) -> Resu
     Ok(circuit.in_form())
 }
 
-fn kind_of(letter: u8) -> Kind {
+fn kind_by_letter(letter: u8) -> Kind {
     match letter {
         b'i' => Kind::Input,
         b'l' => Kind::Latch,
@@ -153,7 +153,7 @@ fn symbol_of(text: &[u8]) -> Option<BorrowedSymbol> {
         return None;
     };
     Some(BorrowedSymbol {
-        kind: kind_of(*letter),
+        kind: kind_by_letter(*letter),
         position: u32::from(*digit).saturating_sub(48),
         name,
     })
@@ -174,7 +174,7 @@ fn in_form_with_symbols(alloc: Global, circuit: &mut Circuit, text: &str) -> Res
     Ok(circuit.in_form())
 }
 
-fn told(in_form: bool) -> &'static str {
+fn form_word(in_form: bool) -> &'static str {
     if in_form { "yes" } else { "no" }
 }
 
@@ -185,7 +185,7 @@ fn variables_and_literals(rt: HostRuntime) -> Result<(), Fail> {
         let mut circuit = empty_circuit(rt.alloc(), 0);
         let in_form = in_form_with_sections(rt.alloc(), &mut circuit, numbers);
         drop(circuit); // for the proof
-        assert!(rt; told(in_form?) == answer, "{row}");
+        assert!(rt; form_word(in_form?) == answer, "{row}");
     }
     Ok(())
 }
@@ -197,7 +197,7 @@ fn properties(rt: HostRuntime) -> Result<(), Fail> {
         let mut circuit = empty_circuit(rt.alloc(), 4);
         let in_form = in_form_with_parts(rt.alloc(), &mut circuit, parts);
         drop(circuit); // for the proof
-        assert!(rt; told(in_form?) == answer, "{row}");
+        assert!(rt; form_word(in_form?) == answer, "{row}");
     }
     Ok(())
 }
@@ -212,7 +212,7 @@ fn symbols(rt: HostRuntime) -> Result<(), Fail> {
         let mut circuit = circuit_of(rt.alloc(), NAMELESS)?;
         let in_form = in_form_with_symbols(rt.alloc(), &mut circuit, symbols);
         drop(circuit); // for the proof
-        assert!(rt; told(in_form?) == answer, "{row}");
+        assert!(rt; form_word(in_form?) == answer, "{row}");
     }
     Ok(())
 }

@@ -12,7 +12,7 @@ const GATES: u32 = 1_000_000;
 const BYTES: usize = 70_000_000;
 
 /// Puts in gates, each before the one that it is over. The last is over the input.
-fn put_chain(circuit: &mut Circuit) -> Result<(), AllocFailed<Gate>> {
+fn push_chain(circuit: &mut Circuit) -> Result<(), AllocFailed<Gate>> {
     for behind in 0..GATES {
         circuit.gates.push(Gate {
             var: Var(GATES + 1 - behind),
@@ -23,9 +23,9 @@ fn put_chain(circuit: &mut Circuit) -> Result<(), AllocFailed<Gate>> {
     Ok(())
 }
 
-fn chain(alloc: Global) -> Result<Circuit, Fail> {
+fn gate_chain(alloc: Global) -> Result<Circuit, Fail> {
     let mut circuit = circuit_of(alloc, "aag 1000001 1 0 0 0\n2\n")?;
-    put_chain(&mut circuit)?;
+    push_chain(&mut circuit)?;
     Ok(circuit)
 }
 
@@ -39,7 +39,7 @@ fn has_order(alloc: Global, circuit: &Circuit) -> bool {
 
 #[test]
 fn a_million_gates_have_an_order(rt: HostRuntime) -> Result<(), Fail> {
-    let circuit = chain(rt.alloc())?;
+    let circuit = gate_chain(rt.alloc())?;
     let has_order = has_order(rt.alloc(), &circuit);
     drop(circuit); // for the proof
     assert!(rt; has_order);
@@ -48,14 +48,14 @@ fn a_million_gates_have_an_order(rt: HostRuntime) -> Result<(), Fail> {
 
 #[test]
 fn a_million_gates_are_checked(rt: HostRuntime) -> Result<(), Fail> {
-    let checked = checked_of(rt.alloc(), chain(rt.alloc())?)?;
+    let checked = checked_of(rt.alloc(), gate_chain(rt.alloc())?)?;
     let same = same_as_copy(rt.alloc(), &checked, &checked);
     drop(checked); // for the proof
     assert!(rt; same?);
     Ok(())
 }
 
-fn commented(alloc: Global) -> Result<Vec<u8>, AllocError> {
+fn commented_text(alloc: Global) -> Result<Vec<u8>, AllocError> {
     let mut text = Vec::from_slice(alloc, b"aag 0 0 0 0 0\nc\n")?;
     let piece = vec![in alloc; b'c'; BYTES / 1_000]?;
     for _ in 0..1_000 {
@@ -66,7 +66,7 @@ fn commented(alloc: Global) -> Result<Vec<u8>, AllocError> {
 
 #[test]
 fn a_large_file_is_read(rt: HostRuntime) -> Result<(), Fail> {
-    let text = commented(rt.alloc())?;
+    let text = commented_text(rt.alloc())?;
     assert!(rt; read_ascii(rt.alloc(), &text, Limits::default()).is_ok());
     Ok(())
 }

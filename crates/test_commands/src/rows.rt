@@ -1,5 +1,5 @@
 //! Command lines and what is answered to them.
-use aig_command::{Command, Sim, ToAig, Unroll, Usage, command};
+use aig_command::{Command, Reach, Sim, ToAig, Unroll, UnrolledForm, Usage, command};
 use std::alloc::{AllocError, Global};
 use std::test::Fail;
 
@@ -19,6 +19,8 @@ aigtoaig --ascii - b.aig => ascii 2147483647 - b.aig;\
 aigtoaig - --strip b.aig --ascii => ascii strip 2147483647 - b.aig;\
 aigtoaig --keep-map => keep-map 2147483647 - -;\
 aigtoaig --undo-map --strip a b => strip undo-map 2147483647 a b;\
+aigtoaig --outputs-as-bad => outputs-as-bad 2147483647 - -;\
+aigtoaig --strip a --outputs-as-bad b.aag => ascii strip outputs-as-bad 2147483647 a b.aag;\
 aigtoaig --max-var 0 => 0 - -;\
 aigtoaig a --max-var=2147483647 b => 2147483647 a b;\
 aigtoaig --max-var +007 => 7 - -;\
@@ -65,8 +67,8 @@ aigsim --vcd m w --witness => witness vcd 2147483647 m w;\
 aigsim --witness - w --vcd --max-var 7 => witness vcd 7 - w;\
 aigsim --vcd -- --properties --witness => vcd 2147483647 --properties --witness";
 
-/// Arguments after the program's name, and what they ask for: the frames of the unrolling, its
-/// option, its limit, its source and its destination.
+/// Arguments after the program's name, and what they ask for: the frames of the unrolling, what is
+/// written, its limit, its source and its destination.
 const UNROLLINGS: &str = "\
 aigunroll --frames 1 => 1 2147483647 - -;\
 aigunroll --frames 1000000 => 1000000 2147483647 - -;\
@@ -86,7 +88,29 @@ aigunroll --frames 3 --max-var=0 a => 3 0 a -;\
 aigunroll --frames 2 a.gz => 2 2147483647 a.gz -;\
 aigunroll --frames 2 aigsim help => 2 2147483647 aigsim help;\
 aigunroll --frames 2 - <> => 2 2147483647 - <>;\
-aigunroll --frames 2 -- --frames --help => 2 2147483647 --frames --help";
+aigunroll --frames 2 -- --frames --help => 2 2147483647 --frames --help;\
+aigunroll --frames 1 --cnf => 1 clauses of any 2147483647 - -;\
+aigunroll --cnf --frames 2 a.aig b.aag => 2 clauses of any 2147483647 a.aig b.aag;\
+aigunroll --frames 2 --bad 0 --cnf - b => 2 clauses of 0 2147483647 - b;\
+aigunroll --cnf a --bad=+07 --frames 2 --max-var 7 => 2 clauses of 7 7 a -;\
+aigunroll --frames 2 --cnf --bad 2147483647 => 2 clauses of 2147483647 2147483647 - -;\
+aigunroll --frames 2 --cnf -- --ascii --bad => 2 clauses of any 2147483647 --ascii --bad";
+
+/// Arguments after the program's name, and what they ask for: the frames, the bad state, the limit,
+/// the model, the solver's answer and the destination.
+const REACHINGS: &str = "\
+aigunroll --frames 1 --answer a m => 1 any 2147483647 m a -;\
+aigunroll --frames 1000000 --answer=a m w => 1000000 any 2147483647 m a w;\
+aigunroll --answer - --frames 2 m => 2 any 2147483647 m - -;\
+aigunroll --frames 2 --answer a => 2 any 2147483647 - a -;\
+aigunroll --frames 2 - w --answer a => 2 any 2147483647 - a w;\
+aigunroll --frames 2 --answer a m w.aag => 2 any 2147483647 m a w.aag;\
+aigunroll --frames 2 --answer a.gz m.gz => 2 any 2147483647 m.gz a.gz -;\
+aigunroll --frames 2 --bad 0 --answer a m => 2 0 2147483647 m a -;\
+aigunroll --answer a --bad=2147483647 m --frames 2 => 2 2147483647 2147483647 m a -;\
+aigunroll --max-var 7 --frames 2 --answer m m m => 2 any 7 m m m;\
+aigunroll --frames 2 --answer <> => 2 any 2147483647 - <> -;\
+aigunroll --frames 2 --answer a -- --cnf --ascii => 2 any 2147483647 --cnf a --ascii";
 
 /// Arguments after the program's name, and why they are refused (`words` where `clap` refuses
 /// them); or that they ask for help.
@@ -98,6 +122,11 @@ aigtoaig --keep-map --strip => --keep-map excludes --strip;\
 aigtoaig --keep-map --strip --undo-map => --keep-map excludes --strip;\
 aigtoaig --undo-map --keep-map => --keep-map excludes --undo-map;\
 aigtoaig --keep-map --undo-map - x.gz => --keep-map excludes --undo-map;\
+aigtoaig --outputs-as-bad --strip --keep-map => --keep-map excludes --strip;\
+aigtoaig --outputs-as-bad --undo-map --keep-map => --keep-map excludes --undo-map;\
+aigtoaig --outputs-as-bad --keep-map => --outputs-as-bad excludes --keep-map;\
+aigtoaig --undo-map --outputs-as-bad - x.gz => --outputs-as-bad excludes --undo-map;\
+aigtoaig --outputs-as-bad --strip - x.gz => compressed output is not supported;\
 aigtoaig - x.aig.gz => compressed output is not supported;\
 aigtoaig --ascii - .gz => compressed output is not supported;\
 aigsim - => model and stimulus are both standard input;\
@@ -122,6 +151,19 @@ aigsim --properties --vcd m => --vcd excludes --properties;\
 aigsim --batch --max-var 7 --vcd --properties - s => --vcd excludes --properties;\
 aigunroll --frames 2 - x.aig.gz => compressed output is not supported;\
 aigunroll --ascii --frames 2 a.aag .gz => compressed output is not supported;\
+aigunroll --frames 2 --cnf --ascii => --cnf excludes --ascii;\
+aigunroll --ascii --frames 2 --answer - --bad 1 --cnf - x.gz => --cnf excludes --ascii;\
+aigunroll --frames 2 --answer a --cnf m => --answer excludes --cnf and --ascii;\
+aigunroll --frames 2 --ascii --answer a m => --answer excludes --cnf and --ascii;\
+aigunroll --frames 2 --cnf --bad 1 --answer - - x.gz => --answer excludes --cnf and --ascii;\
+aigunroll --frames 2 --bad 0 => --bad needs --cnf or --answer;\
+aigunroll --bad 7 --ascii --frames 2 - x.gz => --bad needs --cnf or --answer;\
+aigunroll --frames 2 --bad 1 -- --cnf --answer => --bad needs --cnf or --answer;\
+aigunroll --frames 2 --answer - => model and answer are both standard input;\
+aigunroll --frames 2 --answer - - => model and answer are both standard input;\
+aigunroll --frames 2 --bad 1 --answer - - x.gz => model and answer are both standard input;\
+aigunroll --frames 2 --answer a m x.gz => compressed output is not supported;\
+aigunroll --frames 2 --bad 1 --cnf - x.gz => compressed output is not supported;\
 aigtoaig --help => help;\
 aigtoaig -h => help;\
 --help => help;\
@@ -137,6 +179,7 @@ aigsim --witness --batch - --help => help;\
 aigunroll --help => help;\
 aigunroll -h => help;\
 aigunroll --frames 2 - b.gz --help => help;\
+aigunroll --cnf --ascii --help => help;\
 aigtoaig a b c => words;\
 aigtoaig --ascii --ascii => words;\
 aigtoaig --max-var => words;\
@@ -193,6 +236,7 @@ aigsim --ascii m => words;\
 aigsim --strip m => words;\
 aigsim --keep-map m => words;\
 aigsim --undo-map m => words;\
+aigsim --outputs-as-bad m => words;\
 aigsim --witness => words;\
 aigsim --witness m w v => words;\
 aigsim --witness --witness m => words;\
@@ -233,10 +277,36 @@ aigunroll --frames 2 --ascii=yes => words;\
 aigunroll --frames 2 --strip => words;\
 aigunroll --frames 2 --keep-map => words;\
 aigunroll --frames 2 --undo-map => words;\
+aigunroll --frames 2 --outputs-as-bad => words;\
 aigunroll --frames 2 --properties => words;\
 aigunroll --frames 2 --batch => words;\
 aigunroll --frames 2 --witness => words;\
 aigunroll --frames 2 --vcd => words;\
+aigunroll --cnf => words;\
+aigunroll --answer a m => words;\
+aigunroll --frames 0 --cnf => words;\
+aigunroll --frames 2 --cnf --cnf => words;\
+aigunroll --frames 2 --cnf=yes => words;\
+aigunroll --frames 2 --CNF => words;\
+aigunroll --frames 2 --answer => words;\
+aigunroll --frames 2 --answer a --answer b m => words;\
+aigunroll --frames 2 --answer a b c d => words;\
+aigunroll --frames 2 --answers a m => words;\
+aigunroll --frames 2 --cnf --bad => words;\
+aigunroll --frames 2 --cnf --bad= => words;\
+aigunroll --frames 2 --cnf --bad <> => words;\
+aigunroll --frames 2 --cnf --bad x => words;\
+aigunroll --frames 2 --cnf --bad=-1 => words;\
+aigunroll --frames 2 --cnf --bad 2147483648 => words;\
+aigunroll --frames 2 --cnf --bad 4294967296 => words;\
+aigunroll --frames 2 --cnf --bad 1 --bad 1 => words;\
+aigunroll --frames 2 --bad 2147483648 => words;\
+aigtoaig --cnf => words;\
+aigtoaig --bad 1 => words;\
+aigtoaig --answer a m => words;\
+aigsim --cnf m => words;\
+aigsim --bad 1 m => words;\
+aigsim --answer a m => words;\
 aigunroll --frames 2 a b c => words;\
 aigunroll --frames 2 - - - => words;\
 help => words;\
@@ -269,7 +339,7 @@ fn words_of(alloc: Global, line: &str) -> Result<Vec<String>, AllocError> {
 }
 
 /// The file of this name, as a row shows it.
-fn shown(file: &Option<String>) -> &str {
+fn show_file(file: &Option<String>) -> &str {
     match file {
         Some(name) if name.is_empty() => "<>",
         Some(name) => name.as_str(),
@@ -282,10 +352,15 @@ fn shown_conversion(alloc: Global, request: &ToAig) -> Result<String, AllocError
     let strip = if request.strip { "strip " } else { "" };
     let keep_map = if request.keep_map { "keep-map " } else { "" };
     let undo_map = if request.undo_map { "undo-map " } else { "" };
-    let source = shown(&request.source);
-    let destination = shown(&request.destination);
+    let as_bad = if request.outputs_as_bad {
+        "outputs-as-bad "
+    } else {
+        ""
+    };
+    let source = show_file(&request.source);
+    let destination = show_file(&request.destination);
     let limit = request.max_var;
-    format!(in alloc; "{ascii}{strip}{keep_map}{undo_map}{limit} {source} {destination}")
+    format!(in alloc; "{ascii}{strip}{keep_map}{undo_map}{as_bad}{limit} {source} {destination}")
 }
 
 fn shown_simulation(alloc: Global, request: &Sim) -> Result<String, AllocError> {
@@ -297,19 +372,48 @@ fn shown_simulation(alloc: Global, request: &Sim) -> Result<String, AllocError> 
     };
     let witness = if request.witness { "witness " } else { "" };
     let vcd = if request.vcd { "vcd " } else { "" };
-    let model = shown(&request.model);
-    let stimulus = shown(&request.stimulus);
+    let model = show_file(&request.model);
+    let stimulus = show_file(&request.stimulus);
     let limit = request.max_var;
     format!(in alloc; "{batch}{properties}{witness}{vcd}{limit} {model} {stimulus}")
 }
 
+/// The bad state of this number, as a row shows it.
+fn shown_bad(alloc: Global, bad: Option<u32>) -> Result<String, AllocError> {
+    match bad {
+        Some(number) => format!(in alloc; "{number}"),
+        None => String::from_str(alloc, "any"),
+    }
+}
+
+fn shown_form(alloc: Global, form: UnrolledForm) -> Result<String, AllocError> {
+    match form {
+        UnrolledForm::Binary => String::from_str(alloc, ""),
+        UnrolledForm::Ascii => String::from_str(alloc, "ascii "),
+        UnrolledForm::Clauses { bad } => {
+            let bad = shown_bad(alloc, bad)?;
+            format!(in alloc; "clauses of {bad} ")
+        }
+    }
+}
+
 fn shown_unrolling(alloc: Global, request: &Unroll) -> Result<String, AllocError> {
     let frames = request.frames;
-    let ascii = if request.ascii { "ascii " } else { "" };
-    let source = shown(&request.source);
-    let destination = shown(&request.destination);
+    let form = shown_form(alloc, request.form)?;
+    let source = show_file(&request.source);
+    let destination = show_file(&request.destination);
     let limit = request.max_var;
-    format!(in alloc; "{frames} {ascii}{limit} {source} {destination}")
+    format!(in alloc; "{frames} {form}{limit} {source} {destination}")
+}
+
+fn shown_reaching(alloc: Global, request: &Reach) -> Result<String, AllocError> {
+    let frames = request.frames;
+    let bad = shown_bad(alloc, request.bad)?;
+    let model = show_file(&request.model);
+    let answer = show_file(&request.answer);
+    let destination = show_file(&request.destination);
+    let limit = request.max_var;
+    format!(in alloc; "{frames} {bad} {limit} {model} {answer} {destination}")
 }
 
 fn shown_answer(alloc: Global, answered: &Result<Command, Usage>) -> Result<String, AllocError> {
@@ -317,6 +421,7 @@ fn shown_answer(alloc: Global, answered: &Result<Command, Usage>) -> Result<Stri
         Ok(Command::ToAig(request)) => shown_conversion(alloc, request),
         Ok(Command::Sim(request)) => shown_simulation(alloc, request),
         Ok(Command::Unroll(request)) => shown_unrolling(alloc, request),
+        Ok(Command::Reach(request)) => shown_reaching(alloc, request),
         Ok(Command::Help(_)) => String::from_str(alloc, "help"),
         Ok(Command::Version(_)) => String::from_str(alloc, "version"),
         Err(Usage::Words(_)) => String::from_str(alloc, "words"),
@@ -329,7 +434,7 @@ fn answered_to(alloc: Global, line: &str) -> Result<Result<Command, Usage>, Allo
     Ok(command(alloc, words.as_slice()))
 }
 
-fn answer(alloc: Global, line: &str) -> Result<String, AllocError> {
+fn answer_text(alloc: Global, line: &str) -> Result<String, AllocError> {
     let answered = answered_to(alloc, line)?;
     shown_answer(alloc, &answered)
 }
@@ -338,7 +443,7 @@ fn answer(alloc: Global, line: &str) -> Result<String, AllocError> {
 fn first_wrong(alloc: Global, rows: &str) -> Result<Option<String>, Fail> {
     for row in rows.split(';') {
         let (line, wanted) = row.split_once(" => ").ok_or("a row has an answer")?;
-        let answer = answer(alloc, line)?;
+        let answer = answer_text(alloc, line)?;
         if answer.as_str() != wanted {
             return Ok(Some(format!(in alloc; "{line} => {answer}")?));
         }
@@ -368,13 +473,20 @@ fn unrollings(rt: HostRuntime) -> Result<(), Fail> {
 }
 
 #[test]
+fn reachings(rt: HostRuntime) -> Result<(), Fail> {
+    let wrong = first_wrong(rt.alloc(), REACHINGS)?;
+    assert!(rt; wrong.is_none(), "{wrong:?}");
+    Ok(())
+}
+
+#[test]
 fn refusals(rt: HostRuntime) -> Result<(), Fail> {
     let wrong = first_wrong(rt.alloc(), REFUSALS)?;
     assert!(rt; wrong.is_none(), "{wrong:?}");
     Ok(())
 }
 
-fn longest(text: &str) -> usize {
+fn longest_line(text: &str) -> usize {
     let mut longest = 0;
     for line in text.split('\n') {
         longest = longest.max(line.len());
@@ -384,7 +496,7 @@ fn longest(text: &str) -> usize {
 
 fn longest_of_help(answered: &Result<Command, Usage>) -> Option<usize> {
     match answered {
-        Ok(Command::Help(text)) => Some(longest(text.as_str())),
+        Ok(Command::Help(text)) => Some(longest_line(text.as_str())),
         _ => None,
     }
 }

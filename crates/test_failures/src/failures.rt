@@ -164,7 +164,7 @@ fn texts(alloc: Global) -> Result<String, AllocError> {
 }
 
 /// The words of a row, what is read, and what is written.
-pub(crate) fn parts(row: &str) -> (&str, &[u8], &[u8]) {
+pub(crate) fn row_parts(row: &str) -> (&str, &[u8], &[u8]) {
     let (words, texts) = row
         .split_once('$')
         .unwrap_or(("aiger aigtoaig --ascii", row));
@@ -178,19 +178,19 @@ fn in_a_dozen(text: &[u8]) -> Behaviour {
 }
 
 fn calls_of<R: Files + AllocGlobal>(rt: &R, row: &str) -> Result<(u64, u64), AllocError> {
-    let (words, text, _) = parts(row);
+    let (words, text, _) = row_parts(row);
     let outcome = run(rt, rt.alloc(), words, text, in_a_dozen(text))?;
     Ok((outcome.reads, outcome.output.calls))
 }
 
 /// Whether a row's run whose read of this number fails tells so, wrote no byte, and reads no more.
 fn stops_at_read<R: Files + AllocGlobal>(rt: &R, row: &str, call: u64) -> bool {
-    let (words, text, _) = parts(row);
+    let (words, text, _) = row_parts(row);
     let mut behaviour = in_a_dozen(text);
     behaviour.failing_read = call;
     match run(rt, rt.alloc(), words, text, behaviour) {
         Ok(outcome) => {
-            outcome.told(1, "aiger: -: cannot read\n")
+            outcome.has_told(1, "aiger: -: cannot read\n")
                 && outcome.reads == call.saturating_add(1)
                 && outcome.output.calls == 0
         }
@@ -224,12 +224,12 @@ fn failed_reads(rt: HostRuntime) -> Result<(), Fail> {
 
 /// Whether a run whose write of this number fails tells so, wrote a beginning, and writes no more.
 fn stops_at_write<R: Files + AllocGlobal>(rt: &R, row: &str, call: u64) -> bool {
-    let (words, text, written) = parts(row);
+    let (words, text, written) = row_parts(row);
     let mut behaviour = in_a_dozen(text);
     behaviour.failing_write = call;
     match run(rt, rt.alloc(), words, text, behaviour) {
         Ok(outcome) => {
-            outcome.told(1, "aiger: -: cannot write\n")
+            outcome.has_told(1, "aiger: -: cannot write\n")
                 && written.starts_with(outcome.output.taken.as_slice())
                 && outcome.output.calls == call.saturating_add(1)
         }
@@ -265,10 +265,10 @@ fn failed_writes(rt: HostRuntime) -> Result<(), Fail> {
 
 /// Whether a run over devices of so many bytes writes what it should, in slices up to a block.
 fn is_written_in<R: Files + AllocGlobal>(rt: &R, row: &str, piece: usize) -> bool {
-    let (words, text, written) = parts(row);
+    let (words, text, written) = row_parts(row);
     match run(rt, rt.alloc(), words, text, Behaviour::pieces_of(piece)) {
         Ok(outcome) => {
-            outcome.told(0, "")
+            outcome.has_told(0, "")
                 && outcome.output.taken.as_slice() == written
                 && outcome.output.longest <= 8192
         }

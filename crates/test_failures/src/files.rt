@@ -1,6 +1,6 @@
 //! Conversions and unrollings between files in memory that fail, and files that move few bytes in a
 //! call.
-use crate::failures::parts;
+use crate::failures::row_parts;
 use crate::memory_files::{Calls, MemoryFiles, Readable};
 use crate::run::{Behaviour, run};
 use crate::streams::NEVER;
@@ -12,7 +12,13 @@ use std::test::Fail;
 
 /// Whether the program answers this status and reports this, over these files: no byte is read from
 /// the standard input or written to the standard output, since their first call would fail.
-fn told(alloc: Global, files: &MemoryFiles<'_, '_>, line: &str, status: u8, message: &str) -> bool {
+fn is_reported(
+    alloc: Global,
+    files: &MemoryFiles<'_, '_>,
+    line: &str,
+    status: u8,
+    message: &str,
+) -> bool {
     let behaviour = Behaviour {
         piece: 1,
         failing_read: 0,
@@ -20,7 +26,7 @@ fn told(alloc: Global, files: &MemoryFiles<'_, '_>, line: &str, status: u8, mess
     };
     match run(files, alloc, line, b"aag 0 0 0 0 0\n", behaviour) {
         Ok(outcome) => {
-            outcome.told(status, message) && outcome.reads == 0 && outcome.output.calls == 0
+            outcome.has_told(status, message) && outcome.reads == 0 && outcome.output.calls == 0
         }
         Err(_) => false,
     }
@@ -92,7 +98,7 @@ fn on_disk<T: Files>(rt: &T) -> Result<Metadata, Fail> {
 
 /// The words of a row and its files, which move three bytes in a call; none can be closed yet.
 fn row_of<'a>(row: &'a str, calls: &'a Calls) -> (&'a str, MemoryFiles<'a, 'a>) {
-    let (words, text, wanted) = parts(row);
+    let (words, text, wanted) = row_parts(row);
     let source = Readable {
         name: "source",
         text,
@@ -127,7 +133,7 @@ fn files_in_pieces(rt: HostRuntime) -> Result<(), Fail> {
             let (words, mut files) = row_of(row, &calls);
             files.piece = piece;
             files.metadata = Some(&metadata);
-            let held = told(rt.alloc(), &files, words, 0, "") && calls.are(1, 1, 1);
+            let held = is_reported(rt.alloc(), &files, words, 0, "") && calls.are(1, 1, 1);
             assert!(rt; held, "in pieces of {piece}");
         }
     }
@@ -142,7 +148,7 @@ fn unsynced_files(rt: HostRuntime) -> Result<(), Fail> {
         let calls = Calls::none();
         let (words, mut files) = row_of(row, &calls);
         files.metadata = Some(&metadata);
-        assert!(rt; told(rt.alloc(), &files, words, 0, "") && calls.are(1, 1, 0));
+        assert!(rt; is_reported(rt.alloc(), &files, words, 0, "") && calls.are(1, 1, 0));
     }
     Ok(())
 }
@@ -154,13 +160,16 @@ fn failed_sources(rt: HostRuntime) {
     for row in ROWS.split('#') {
         let calls = Calls::none();
         let (words, mut files) = row_of(row, &calls);
-        for read in 0..parts(row).1.len() as u64 / 3 {
+        for read in 0..row_parts(row).1.len() as u64 / 3 {
             files.readable[0].failing = read;
-            assert!(rt; told(rt.alloc(), &files, words, 1, line), "read {read}");
+            assert!(rt;
+                is_reported(rt.alloc(), &files, words, 1, line),
+                "read {read}"
+            );
         }
         let words = "aiger aigtoaig another destination";
         let line = "aiger: another: cannot read\n";
-        assert!(rt; told(rt.alloc(), &files, words, 1, line));
+        assert!(rt; is_reported(rt.alloc(), &files, words, 1, line));
     }
 }
 
@@ -171,13 +180,16 @@ fn failed_destinations(rt: HostRuntime) {
         let calls = Calls::none();
         let (words, mut files) = row_of(row, &calls);
         let line = unwritten(words);
-        assert!(rt; told(rt.alloc(), &files, words, 1, line), "close");
-        for write in 0..parts(row).2.len() as u64 / 3 {
+        assert!(rt; is_reported(rt.alloc(), &files, words, 1, line), "close");
+        for write in 0..row_parts(row).2.len() as u64 / 3 {
             files.failing_write = write;
-            assert!(rt; told(rt.alloc(), &files, words, 1, line), "write {write}");
+            assert!(rt;
+                is_reported(rt.alloc(), &files, words, 1, line),
+                "write {write}"
+            );
         }
         files.wanted = None;
-        assert!(rt; told(rt.alloc(), &files, words, 1, line), "create");
+        assert!(rt; is_reported(rt.alloc(), &files, words, 1, line), "create");
     }
 }
 
@@ -202,6 +214,6 @@ fn refused_sources(rt: HostRuntime) {
         let calls = Calls::none();
         let (words, files) = row_of(row, &calls);
         let (_, line) = row.split_once('=').unwrap_or((row, row));
-        assert!(rt; told(rt.alloc(), &files, words, 1, line) && calls.are(1, 0, 0));
+        assert!(rt; is_reported(rt.alloc(), &files, words, 1, line) && calls.are(1, 0, 0));
     }
 }

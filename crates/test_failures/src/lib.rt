@@ -3,13 +3,9 @@
 #![tactic(auto)]
 
 #[cfg(test)]
-mod conversions;
-#[cfg(test)]
 mod failures;
 #[cfg(test)]
 mod files;
-#[cfg(test)]
-mod large;
 #[cfg(test)]
 mod memory_files;
 #[cfg(test)]
@@ -18,7 +14,5 @@ mod run;
 mod simulations;
 #[cfg(test)]
 mod streams;
-#[cfg(test)]
-mod unrollings;
 #[cfg(test)]
 mod witnesses;

@@ -35,7 +35,7 @@ impl Calls {
     }
 }
 
-fn count(calls: &Cell<u32>) {
+fn count_call(calls: &Cell<u32>) {
     calls.set(calls.get().saturating_add(1));
 }
 
@@ -90,7 +90,7 @@ impl<'a, 'c> MemoryFiles<'a, 'c> {
 
     /// The answer to all that the program is not to call.
     fn refuse<T>(&self) -> io::Result<T> {
-        count(&self.calls.others);
+        count_call(&self.calls.others);
         Err(io::Error::from(ErrorKind::Unsupported))
     }
 }
@@ -131,7 +131,7 @@ impl Write for MemoryFile<'_, '_> {
 
 impl Seek for MemoryFile<'_, '_> {
     fn seek(&mut self, _to: SeekFrom) -> io::Result<u64> {
-        count(&self.calls.others);
+        count_call(&self.calls.others);
         Err(io::Error::from(ErrorKind::Unsupported))
     }
 }
@@ -146,17 +146,17 @@ impl OpenFile for MemoryFile<'_, '_> {
     }
 
     fn set_len(&self, _size: u64) -> io::Result<()> {
-        count(&self.calls.others);
+        count_call(&self.calls.others);
         Ok(())
     }
 
     fn sync_all(&self) -> io::Result<()> {
-        count(&self.calls.others);
+        count_call(&self.calls.others);
         Ok(())
     }
 
     fn sync_data(&self) -> io::Result<()> {
-        count(&self.calls.synced);
+        count_call(&self.calls.synced);
         Ok(())
     }
 }
@@ -169,11 +169,11 @@ impl<'a, 'c> Files for MemoryFiles<'a, 'c> {
     fn open_file(&self, how: &OpenOptions, path: &str) -> io::Result<Self::File> {
         let writes = how.asks_write() || how.asks_append();
         if how.asks_read() && !writes {
-            count(&self.calls.opened);
+            count_call(&self.calls.opened);
             return self.readable(path);
         }
         if path.starts_with("destination") && how.asks_create() && how.asks_truncate() {
-            count(&self.calls.made);
+            count_call(&self.calls.made);
             let wanted = self.wanted.ok_or(io::Error::from(ErrorKind::NotFound))?;
             return Ok(self.file(b"", 0, wanted));
         }

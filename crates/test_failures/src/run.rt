@@ -1,7 +1,7 @@
 //! A run of the program's engine over devices in memory.
 use crate::streams::{NEVER, OnceReader, OnceWriter};
 use aig_core::{ReadSource, WriteSink};
-use aig_tools::start;
+use aig_tools::{HostFiles, start};
 use std::alloc::{AllocError, Global};
 use std::rt::Files;
 
@@ -46,7 +46,7 @@ pub(crate) struct Outcome {
 }
 
 impl Outcome {
-    pub(crate) fn told(&self, status: u8, errors: &str) -> bool {
+    pub(crate) fn has_told(&self, status: u8, errors: &str) -> bool {
         self.status == status && self.errors.taken.as_slice() == errors.as_bytes()
     }
 }
@@ -71,7 +71,7 @@ pub(crate) fn run<T: Files>(
     let mut output = behaviour.writer(alloc);
     let mut errors = Behaviour::pieces_of(100).writer(alloc);
     let status = start(
-        files,
+        &mut HostFiles::new(files),
         alloc,
         words.as_slice(),
         &mut ReadSource::new(&mut reader),

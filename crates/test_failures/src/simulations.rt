@@ -118,7 +118,7 @@ impl<'a> Devices<'a> {
     ) -> bool {
         match self.run(alloc, words, &Calls::none()) {
             Ok(outcome) => {
-                outcome.told(status, told) && outcome.output.taken.as_slice() == written
+                outcome.has_told(status, told) && outcome.output.taken.as_slice() == written
             }
             Err(_) => false,
         }
@@ -127,7 +127,7 @@ impl<'a> Devices<'a> {
     /// Whether a run with these words fails, tells this, and makes no write.
     pub(crate) fn fails_unwritten(&self, alloc: Global, words: &str, told: &str) -> bool {
         match self.run(alloc, words, &Calls::none()) {
-            Ok(outcome) => outcome.told(1, told) && outcome.output.calls == 0,
+            Ok(outcome) => outcome.has_told(1, told) && outcome.output.calls == 0,
             Err(_) => false,
         }
     }
@@ -137,7 +137,7 @@ impl<'a> Devices<'a> {
     pub(crate) fn stops_at_write(&self, alloc: Global, words: &str, text: &[u8]) -> bool {
         match self.run(alloc, words, &Calls::none()) {
             Ok(outcome) => {
-                outcome.told(1, "aiger: -: cannot write\n")
+                outcome.has_told(1, "aiger: -: cannot write\n")
                     && text.starts_with(outcome.output.taken.as_slice())
                     && outcome.output.calls == self.failing_trace.saturating_add(1)
             }

@@ -12,7 +12,7 @@ use std::test::Fail;
 const WIDTH: u32 = 5_000;
 
 /// Puts a line for each of so many variables from this one on: its literal and this end.
-fn put_lines(alloc: Global, text: &mut String, first: u32, end: &str) -> Result<(), AllocError> {
+fn push_lines(alloc: Global, text: &mut String, first: u32, end: &str) -> Result<(), AllocError> {
     for place in 0..WIDTH {
         let literal = first.saturating_add(place).saturating_mul(2);
         let line = format!(in alloc; "{literal}{end}\n")?;
@@ -24,9 +24,9 @@ fn put_lines(alloc: Global, text: &mut String, first: u32, end: &str) -> Result<
 /// The text of latches, each of which is the first input then, and an output.
 fn wide_text(alloc: Global) -> Result<String, AllocError> {
     let mut text = format!(in alloc; "aag {} {WIDTH} {WIDTH} {WIDTH} 0\n", 2 * WIDTH)?;
-    put_lines(alloc, &mut text, 1, "")?;
-    put_lines(alloc, &mut text, WIDTH + 1, " 2")?;
-    put_lines(alloc, &mut text, WIDTH + 1, "")?;
+    push_lines(alloc, &mut text, 1, "")?;
+    push_lines(alloc, &mut text, WIDTH + 1, " 2")?;
+    push_lines(alloc, &mut text, WIDTH + 1, "")?;
     Ok(text)
 }
 

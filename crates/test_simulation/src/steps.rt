@@ -86,7 +86,7 @@ fn simulator_of(alloc: Global, text: &str) -> Option<Simulator> {
 }
 
 fn steps_to(simulator: &mut Simulator, given: &[Val], row: &str) -> bool {
-    if given.len() != simulator.inputs() {
+    if given.len() != simulator.count_inputs() {
         return false;
     }
     simulator.step(given);

@@ -55,7 +55,7 @@ aag 1 0 1 0 0 1
 2/=line 1: bad witness line";
 
 /// The bytes of a witness file, by the characters that stand for them.
-fn bytes_of(alloc: Global, text: &str) -> Result<Vec<u8>, AllocError> {
+fn witness_bytes(alloc: Global, text: &str) -> Result<Vec<u8>, AllocError> {
     let mut bytes = Vec::new(alloc);
     for byte in text.as_bytes() {
         bytes.push(match *byte {
@@ -67,7 +67,7 @@ fn bytes_of(alloc: Global, text: &str) -> Result<Vec<u8>, AllocError> {
     Ok(bytes)
 }
 
-fn words(alloc: Global, outcome: &Result<Verdict, SimFault>) -> Result<String, AllocError> {
+fn outcome_words(alloc: Global, outcome: &Result<Verdict, SimFault>) -> Result<String, AllocError> {
     match outcome {
         Ok(Verdict::Confirmed(at)) => format!(in alloc; "confirmed {at}"),
         Ok(Verdict::NotConfirmed) => format!(in alloc; "not confirmed"),
@@ -79,7 +79,7 @@ fn words(alloc: Global, outcome: &Result<Verdict, SimFault>) -> Result<String, A
 fn source_of(alloc: Global, witness: &str, fails_at: u64) -> Option<MemorySource>
     ensures { IfSome result (λ source. source.past.failures ≡ 0) }
 {
-    let bytes = bytes_of(alloc, witness).ok()?;
+    let bytes = witness_bytes(alloc, witness).ok()?;
     if bytes.len() > 1000 {
         return None;
     }
@@ -88,7 +88,7 @@ fn source_of(alloc: Global, witness: &str, fails_at: u64) -> Option<MemorySource
 
 fn outcome_of(alloc: Global, circuit: &Checked, witness: &str) -> Option<String> {
     let mut source = source_of(alloc, witness, 0)?;
-    words(alloc, &confirm(alloc, circuit, &mut source)).ok()
+    outcome_words(alloc, &confirm(alloc, circuit, &mut source)).ok()
 }
 
 fn comes_to(alloc: Global, circuit: &Checked, witness: &str, wanted: &str) -> bool {

@@ -1,8 +1,9 @@
 """What holds of the answers about a text that is accepted."""
 import dataclasses
 import itertools
+import re
 
-from lib import images, refusals, traces, unrolled, waves, witnesses
+from lib import answers, images, refusals, traces, unrolled, waves, witnesses
 from lib.soak.calls import Call, Failed
 from lib.soak.editors import edited
 from lib.soak.generators import parsed, simulation, some_rows, stimulus
@@ -23,12 +24,14 @@ def relations(here, text):
     here.converts("without symbols and comment the image is the same", bodies[1], text, "--strip")
     by_name(here, text, canonical, image)
     limited(here, text, canonical, made)
+    turned(here, text, made, end)
     undone(here, text, image)
     if len(made.inputs) > MANY_INPUTS:
         return
     models = [text, image, mapped, canonical]
     traces_alike(here, models, made, waves.names_of(end))
     unrolled_alike(here, models, made)
+    clauses_alike(here, models, made)
     witnesses_alike(here, models, made)
 
 
@@ -68,6 +71,21 @@ def limited(here, text, canonical, made):
         came = here.ask(call)
         if came[2] != 1 or not came[1].endswith(b": number above the limit\n"):
             raise Failed("a limit that is not kept", call, "number above the limit", came)
+
+
+def turned(here, text, made, end):
+    """With its outputs as bad states a circuit is the same in all else; one that has bad states is refused."""
+    words = ["--outputs-as-bad", "--ascii"]
+    if made.bad:
+        told = b"aiger: -: bad states are there already\n"
+        here.expect("bad states are refused", Call(["aigtoaig", *words], text), b"", told, 1)
+        return
+    symbols = re.match(rb"(?:[a-z]\d+ [^\n]*\n)*", end)[0]
+    named = re.sub(rb"^o", b"b", symbols, flags=re.MULTILINE) + end[len(symbols) :]
+    of_bad = dataclasses.replace(made, bad=made.outputs, outputs=[])
+    here.converts("outputs as bad states", images.ascii_text(of_bad) + named, text, *words)
+    here.converts("outputs as bad states, to binary", images.image(of_bad) + named, text, words[0])
+    here.converts("outputs as bad states, stripped", images.ascii_text(of_bad), text, *words, "--strip")
 
 
 def undone(here, text, image):
@@ -161,6 +179,33 @@ def unrolled_trace(here, model, made, text, frames):
     wanted = f"{unrolled.side_by_side(first, program_trace(here, model, rows))}.\n".encode()
     call, _ = simulation(here.chance, text, f"{first}{''.join(rows)}\n".encode(), "--properties")
     here.expect("the unrolled row is the trace", call, wanted)
+
+
+def clauses_alike(here, models, made):
+    """The clauses are those of the unrolled circuit, and a solver's answer has the witness that is evaluated here."""
+    chance = here.chance
+    frames = chance.randrange(1, 4 if len(made.gates) < 50 else 2)
+    bad = chance.choice([None, chance.randrange(len(made.bad) + 1)])
+    words = answers.words_of(frames, bad)
+    for model in models[:2]:
+        here.expect("the clauses", Call([*words, "--cnf"], model), *answers.wanted_clauses(made, frames, bad))
+    if not answers.refusal(made, bad):
+        text = answers.given(chance, made, frames)
+        same_run(here, models, made, frames, bad, edited(chance, text, text) if chance.randrange(2) else text)
+
+
+def same_run(here, models, made, frames, bad, text):
+    """The models have the witness of a solver's answer that is worked out here, and it is confirmed."""
+    words, run = answers.words_of(frames, bad), b""
+    for model in models:
+        call, name = Call([*words, "--answer", "-", "model"], text, {"model": model}), "-"
+        if here.chance.randrange(2):
+            call, name = Call([*words, "-", "--answer", "answer"], model, {"answer": text}), "answer"
+        run, *rest = answers.wanted(made, frames, bad, name, text)
+        here.expect("the witness of a solver's answer", call, run, *rest)
+    if run:
+        said = b"confirmed %d\n" % (run.count(b"\n") - 5)
+        here.expect("it is confirmed", simulation(here.chance, models[0], run, "--witness")[0], said)
 
 
 def same_answer(here, models, made, text):

@@ -9,17 +9,24 @@ from lib.soak.generators import bare, circuit, parsed, source, stimulus
 from lib.soak.oracles import relations, same_answer, same_trace, undone
 
 LARGEST = 2**31 - 1
-WORDS = """aigtoaig aigtoaig aigsim aigsim aigunroll aigunroll --ascii --strip --keep-map --undo-map --max-var
-    --max-var=9 --max-var=2147483648 --frames --frames=2 --frames=0 --batch --properties --vcd --witness --help -h -- -
-    source source source out.aag out.aig out.gz 3 --unknown""".split() + [""]
+WORDS = """aigtoaig aigtoaig aigsim aigsim aigunroll aigunroll --ascii --strip --keep-map --undo-map
+    --outputs-as-bad --max-var --max-var=9 --max-var=2147483648 --frames --frames=2 --frames=0 --batch --properties
+    --vcd --witness --cnf --cnf --bad=0 --bad=1 --answer=source --answer --help -h -- - source source source out.aag
+    out.aig out.gz 3 --unknown""".split() + [""]
 # what the arguments that refusals.py lists are refused for, in this order; and names of files that cannot be there
 REFUSED_WORDS = """aigtoaig --keep-map --ascii
 aigtoaig --strip --keep-map
 aigtoaig --undo-map --keep-map
+aigtoaig --keep-map --outputs-as-bad
+aigtoaig --undo-map --outputs-as-bad
 aigsim - -
 aigunroll --frames 2 - out.aig.gz
 aigsim --witness --batch model
 aigsim --vcd --properties model
+aigunroll --frames 2 --cnf --ascii
+aigunroll --frames 2 --answer model --cnf
+aigunroll --frames 2 --bad 0
+aigunroll --frames 2 --answer - -
 aigtoaig \udcff""".split("\n")
 NO_FILES = {
     "aigtoaig none/source": "none/source: cannot read",
@@ -59,13 +66,14 @@ def hostile_circuit(here):
 def refused_alike(here, text, errors, limit):
     """Every tool refuses the text with these words, and with the file's name where it has one."""
     steps, old = {"steps": b"0\n"}, {"out.aag": b"as it was\n"}
-    for words in ([], ["--strip"], ["--keep-map"], ["--undo-map"], ["--undo-map", "--ascii"]):
+    for words in ([], ["--strip"], ["--keep-map"], ["--undo-map"], ["--undo-map", "--ascii"], ["--outputs-as-bad"]):
         here.expect("a refusal is one of all tools", Call(["aigtoaig", *words, *limit], text), b"", errors, 1)
     for words in ([], ["--batch"], ["--properties"], ["--vcd"], ["--witness"], ["--witness", "--vcd"]):
         call = Call(["aigsim", *words, *limit, "-", "steps"], text, steps)
         here.expect("a refusal is one of all tools", call, b"", errors, 1)
     unroll = ["aigunroll", "--frames", "2", *limit]
-    here.expect("a refusal is one of all tools", Call(unroll, text), b"", errors, 1)
+    for words in ([], ["--cnf"], ["-", "--answer", "steps"]):
+        here.expect("a refusal is one of all tools", Call([*unroll, *words], text, steps), b"", errors, 1)
     told = errors.replace(b"aiger: -: ", b"aiger: source: ", 1)
     named = [["aigtoaig", *limit, "source", "out.aag"], [*unroll, "source", "out.aag"], ["aigsim", *limit, "source"]]
     for words in named:
@@ -158,7 +166,7 @@ def large_unrolling(here):
     lines = b"%d\n" % chance.randrange(2) * count
     texts = [b"aig %d %d 0 0 0\n" % (count, count), b"aag 0 0 0 %d 0\n" % count + lines]
     for here.source in [*texts, b"aag 0 0 0 0 0 %d\n" % count + lines]:
-        call = Call(["aigunroll", "--frames", str(frames), *chance.choice([[], ["--ascii"]])], here.source)
+        call = Call(["aigunroll", "--frames", str(frames), *chance.choice([[], ["--ascii"], ["--cnf"]])], here.source)
         here.expect("what would be too large is refused", call, b"", b"aiger: -: too large to unroll\n", 1)
 
 

@@ -21,11 +21,11 @@ use Rattle.aig_step.proofs.LineValues.{vector_long, vector_says}
 use Rattle.aig_lanes.specs.declared.run.Run.{Run}
 use Rattle.aig_lanes.specs.Parts.Vectors.{AreVectors, said, vectors_in}
 use Rattle.aig_lanes.proofs.Side.Sheets.{more_vectors, vectors_push}
-use Rattle.aig_batch.specs.Parts.RunsRead.{Says, entries_of_run, HasNoBadLine}
+use Rattle.aig_batch.specs.Parts.RunsRead.{SaysEntries, entries_of_run, HasNoBadLine}
 
 -- lines behind lines
-pub says_then : (inputs : ℕ) (bytes mid rest : List ℕ) (es fs : List Entry) → Says inputs bytes es mid
-    → Says inputs mid fs rest → Says inputs bytes (es ++ fs) rest
+pub says_then : (inputs : ℕ) (bytes mid rest : List ℕ) (es fs : List Entry) → SaysEntries inputs bytes es mid
+    → SaysEntries inputs mid fs rest → SaysEntries inputs bytes (es ++ fs) rest
 says_then inputs bytes mid rest es fs p q = record {
   parted = p.parted ∙ ap (λ (gs : List Entry). es ++ gs) q.parted
       ∙ sym (append_assoc es fs (stimulus inputs rest true).entries);
@@ -54,7 +54,7 @@ same_entries inputs m n (l ∷ ls) =
 pub says_line : (inputs : ℕ) (bytes : List ℕ) (next : ℕ) (e : Entry)
     → IsFirstByte (is_byte 10) bytes (Some next)
     → entry_in inputs (without_return (take next bytes)) ≡ Some e
-    → Says inputs bytes (e ∷ []) (drop 1 (drop next bytes))
+    → SaysEntries inputs bytes (e ∷ []) (drop 1 (drop next bytes))
 says_line inputs bytes next e found is =
     let rest = judged_lines (drop 1 (drop next bytes)) true in
     record {
@@ -72,31 +72,31 @@ vector_is : (inputs : ℕ) (text : List ℕ) → length text ≡ inputs → vect
 vector_is inputs text long = rw (eq-eqb (length text) inputs long) refl
 
 module _ (inputs : ℕ) (bytes : List ℕ) (steps : List (List Val)) (before rest : List ℕ) (next : ℕ)
-    (says : Says inputs bytes (map Step steps) before)
+    (says : SaysEntries inputs bytes (map Step steps) before)
     (found : IsFirstByte (is_byte 10) before (Some next)) (same : rest ≡ drop 1 (drop next before)) where
   one_more : (e : Entry) → entry_in inputs (without_return (take next before)) ≡ Some e
-      → Says inputs bytes (map Step steps ++ e ∷ []) rest
+      → SaysEntries inputs bytes (map Step steps ++ e ∷ []) rest
   one_more e is =
-      subst (Says inputs bytes (map Step steps ++ e ∷ [])) (sym same)
+      subst (SaysEntries inputs bytes (map Step steps ++ e ∷ [])) (sym same)
       (says_then inputs bytes before (drop 1 (drop next before)) (map Step steps) (e ∷ []) says
       (says_line inputs before next e found is))
 
   -- the run ends
   pub run_ends : bytes_eq (without_return (take next before)) (codes ".") ≡ true
-      → Says inputs bytes (map Step steps ++ Stop ∷ []) rest
+      → SaysEntries inputs bytes (map Step steps ++ Stop ∷ []) rest
   run_ends is = one_more Stop (stop_says inputs (without_return (take next before)) is)
 
   -- it has one more step
   pub one_step : (given : List Val) (now : List (List Val)) → now ≡ steps ++ given ∷ []
       → vector_in inputs (without_return (take next before)) ≡ Some given
-      → Says inputs bytes (map Step now) rest
+      → SaysEntries inputs bytes (map Step now) rest
   one_step given now is said = search (rules, map-append, one_more, vector_says)
 
 -- one more run
 pub one_run : (inputs : ℕ) (bytes before rest : List ℕ) (runs now : List Run) (run : Run)
-    → now ≡ runs ++ run ∷ [] → Says inputs bytes (flat_map entries_of_run runs) before
-    → Says inputs before (entries_of_run run) rest
-    → Says inputs bytes (flat_map entries_of_run now) rest
+    → now ≡ runs ++ run ∷ [] → SaysEntries inputs bytes (flat_map entries_of_run runs) before
+    → SaysEntries inputs before (entries_of_run run) rest
+    → SaysEntries inputs bytes (flat_map entries_of_run now) rest
 one_run inputs bytes before rest runs now run is front next = search (rules, append-nil, flat_map-append, says_then)
 
 last_cut : (p : Bool) (b : ℕ) → (if p then [] else b ∷ []) ≡ take (length (if p then [] else b ∷ [])) (b ∷ [])

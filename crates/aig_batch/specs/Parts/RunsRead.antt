@@ -21,7 +21,7 @@ abbrev pub HasNoBadLine : ℕ → List ℕ → Type 0
 HasNoBadLine inputs bytes = (number : ℕ) × ((lines_say inputs number (judged_lines bytes true)).bad ≡ None)
 
 -- The lines of the bytes say these entries first, and then what those of the rest say.
-pub record Says (inputs : ℕ) (bytes : List ℕ) (entries : List Entry) (rest : List ℕ) : Type 0 where
+pub record SaysEntries (inputs : ℕ) (bytes : List ℕ) (entries : List Entry) (rest : List ℕ) : Type 0 where
   pub parted : (stimulus inputs bytes true).entries ≡ entries ++ (stimulus inputs rest true).entries
 
 abbrev pub entries_of_group : List Run → List Entry

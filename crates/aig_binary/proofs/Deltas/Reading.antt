@@ -178,6 +178,8 @@ delta_of_three (x ∷ y ∷ z ∷ bytes) a b c some ea eb ec high byte high_too 
     ∙ ap (put_low a) (read_more 3 b (c ∷ bytes) high_too byte_too ∙ ap (put_low b) (read_last 2 c bytes low))))
     (omega arith)
 
+pub ruleset short_deltas = (delta_of_one, delta_of_two, delta_of_three)
+
 -- What is answered of a front is exactly the number that it spells, and how long it is.
 front_is : (bytes : List ℕ) (value count : ℕ) → delta_at bytes ≡ Some (value, drop count bytes)
     → IsDelta (take count bytes) value

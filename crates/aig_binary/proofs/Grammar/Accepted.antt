@@ -28,25 +28,22 @@ use Rattle.aig_text.specs.declared.section.Section.TheVariants.{Inputs}
 use Rattle.aig_text.specs.Reading.{header_of, header_at, sections_at, empty_circuit, tail_at}
 use Rattle.aig_text.proofs.Grammar.Headers.{TellsHeader, header_tells, HasCounts, heads, limited, sizes_within_limit}
 use Rattle.aig_text.proofs.Grammar.Headers.{within_limits}
-use Rattle.aig_text.proofs.Grammar.Sections.{FoundIn, rows_under, AllFit, sections_found}
+use Rattle.aig_text.proofs.Grammar.Sections.{AreSections, sections_found}
 use Rattle.aig_text.proofs.Grammar.Tail.{TellsTail, tail_tells, with_tail, tail_holds, good_symbols}
 use Rattle.aig_binary.specs.BinaryGrammar.{binary_word, binary_rows_of, EndsBefore, IsBinaryText}
 use Rattle.aig_binary.specs.BinaryReading.{filled, gates_at, with_definitions, binary_at, binary_reading}
-use Rattle.aig_binary.proofs.Grammar.Lines.{numbered_circuit, AreGates, gates_are, rows_are, literals_are, sizes_within}
-use Rattle.aig_binary.proofs.Grammar.Lines.{counts_are, order_is}
+use Rattle.aig_binary.proofs.Grammar.Lines.{numbered_circuit, AreGates, gates_are, literals_are, sizes_within, counts_are}
+use Rattle.aig_binary.proofs.Grammar.Lines.{order_is, tells, apart}
 
 -- lines that tell rows, with gates and the lines of a tail behind them
 pub record TellsNumbers (h : Header) (ls : List Line) (c : Circuit) : Type 0 where
-  pub found : FoundIn sections
+  pub numbered : Circuit
   pub gates : List Gate
-  pub front : List Line
   pub last : List Line
   pub rest : List ℕ
-  pub lines : ls ≡ front ++ last
-  pub spelled : AllZip IsRowLine front (rows_under in_binary h sections found)
-  pub fit : AllFit in_binary h sections found (empty_circuit h.max_var)
+  pub sections : AreSections in_binary h sections (empty_circuit h.max_var) numbered ls last
   pub are_gates : AreGates (1 + h.inputs + h.latches) h.gates (bytes_of last) gates rest
-  pub tail : TellsTail h nothing_named (numbered_circuit h found gates) c (lines_of rest)
+  pub tail : TellsTail h nothing_named (numbered_circuit h numbered gates) c (lines_of rest)
 
 pub record TellsBinary (limit : ℕ) (ls : List Line) (c : Circuit) : Type 0 where
   pub first : Line
@@ -82,22 +79,21 @@ numbers_found : (h : Header) (at : Ahead) (c : Circuit) → numbers_at h at ≡ 
 numbers_found h at c is =
     let a = both_ok (sections_at in_binary h sections (empty_circuit h.max_var) at) (then_gates h) c is in
     let b = both_ok (gates_at (1 + h.inputs + h.latches) 1 h.gates (bytes_of a.0.1.lines)) (then_tail h a.0) c a.2 in
-    let s = sections_found in_binary h forms_are_sound sections (empty_circuit h.max_var) at a.0 a.1 in
+    let s =
+    sections_found in_binary h forms_are_sound (tells h) sections (empty_circuit h.max_var) at a.0 (apart h)
+    (search rules) a.1 in
     let tail =
     ap (λ (d : Circuit). tail_at h nothing_named (with_definitions h b.0.0 d) a.0.1.number (lines_of b.0.1)) s.circuit
     ∙ b.2 in
     record {
-      found = s.found;
+      numbered = a.0.0;
       gates = b.0.0;
-      front = s.front;
       last = a.0.1.lines;
       rest = b.0.1;
-      lines = s.lines;
-      spelled = s.spelled;
-      fit = s.fit;
+      sections = s;
       are_gates = gates_are (1 + h.inputs + h.latches) 1 h.gates (bytes_of a.0.1.lines) b.0 b.1;
       tail =
-          tail_tells h nothing_named (numbered_circuit h s.found b.0.0) a.0.1.number (lines_of b.0.1) c refl tail;
+          tail_tells h nothing_named (numbered_circuit h a.0.0 b.0.0) a.0.1.number (lines_of b.0.1) c refl tail;
     }
 
 -- a header whose definitions are all the variables
@@ -136,7 +132,7 @@ order_kept c ss comment o = record { inputs = o.inputs; latches = o.latches; gat
 
 module _ (limit : ℕ) (ls : List Line) (c : Circuit) (t : TellsBinary limit ls c) where
   abbrev numbered : Circuit
-  numbered = numbered_circuit t.header t.numbers.found t.numbers.gates
+  numbered = numbered_circuit t.header t.numbers.numbered t.numbers.gates
 
   counts : HasCounts t.header c
   counts = search (rules, counts_are)
@@ -148,7 +144,7 @@ module _ (limit : ℕ) (ls : List Line) (c : Circuit) (t : TellsBinary limit ls 
   literals : HasLiteralsUpTo c
   literals =
       subst HasLiteralsUpTo t.numbers.tail.circuit
-      (literals_are t.header t.numbers.found t.numbers.fit t.numbers.gates)
+      (literals_are t.header t.numbers.numbered t.numbers.sections.fit t.numbers.gates)
 
   sizes : sum c.justice.sizes ≡ length c.justice.literals
   sizes = grind (arith, common_steps)
@@ -156,7 +152,7 @@ module _ (limit : ℕ) (ls : List Line) (c : Circuit) (t : TellsBinary limit ls 
   pub small_sizes : sum c.justice.sizes ≤ t.header.limit
   small_sizes =
       subst (λ (d : Circuit). sum d.justice.sizes ≤ t.header.limit) t.numbers.tail.circuit
-      (sizes_within t.header t.numbers.found t.numbers.fit t.numbers.gates)
+      (sizes_within t.header t.numbers.numbered t.numbers.sections.fit t.numbers.gates)
 
   pub sound : IsWellFormed c
   sound =
@@ -167,17 +163,16 @@ module _ (limit : ℕ) (ls : List Line) (c : Circuit) (t : TellsBinary limit ls 
 
   -- the lines in front of the gates
   abbrev front : List Line
-  front = t.first ∷ t.numbers.front
+  front = t.first ∷ t.numbers.sections.front
 
   lines : ls ≡ front ++ t.numbers.last
-  lines = t.are ∙ ap (λ (ks : List Line). t.first ∷ ks) t.numbers.lines
+  lines = t.are ∙ ap (λ (ks : List Line). t.first ∷ ks) t.numbers.sections.lines
 
-  rows_spelled : AllZip IsRowLine t.numbers.front (binary_rows_of c)
+  rows_spelled : AllZip IsRowLine t.numbers.sections.front (binary_rows_of c)
   rows_spelled =
-      subst (λ (rs : List Row). AllZip IsRowLine t.numbers.front rs)
-      (rows_are t.header t.numbers.found t.numbers.fit t.numbers.gates
-      ∙ ap binary_rows_of t.numbers.tail.circuit)
-      t.numbers.spelled
+      subst (λ (rs : List Row). AllZip IsRowLine t.numbers.sections.front rs)
+      (ap binary_rows_of (sym t.numbers.sections.circuit) ∙ ap binary_rows_of t.numbers.tail.circuit)
+      t.numbers.sections.spelled
 
 -- a text whose lines tell a circuit is its file
 found_is_accepted : (limit : ℕ) (text : List ℕ) (c : Circuit) → TellsBinary limit (lines_of text) c
@@ -193,7 +188,7 @@ found_is_accepted limit text c t =
       gates = t.numbers.are_gates.spelling;
       rest = t.numbers.rest;
       header = t.first;
-      numbered = t.numbers.front;
+      numbered = t.numbers.sections.front;
       text_is =
           sym (pieces text).joined ∙ ap bytes_of cut ∙ bytes_joined (front limit ls c t) t.numbers.last
           ∙ ap (λ (bytes : List ℕ). bytes_of (front limit ls c t) ++ bytes) t.numbers.are_gates.are;

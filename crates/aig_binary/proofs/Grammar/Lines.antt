@@ -1,7 +1,7 @@
 -- Gates and numbered lines of a binary file: what is read spells the grammar's, and the other way round.
 use Rattle.std.proofs.Common.{◌≡◌, ◌+◌, ◌-◌, ◌<◌, ◌≤◌, ◌∷◌, ◌++◌, ◌∙◌, ◌||◌, rules, ℕ, zero, suc, List, [], length}
-use Rattle.std.proofs.Common.{Option, None, Some, Result, Ok, Err, refl, sym, ap, subst, arith, append_assoc, drop}
-use Rattle.std.proofs.Common.{get_or, map, ap₂, add-one, sum, ltb-false, le-ltb, ltb}
+use Rattle.std.proofs.Common.{Option, None, Some, Result, Ok, Err, refl, sym, ap, subst, arith, append_assoc, map}
+use Rattle.std.proofs.Common.{ap₂, add-one, sum, ltb-false, le-ltb, ltb}
 use Rattle.std.specs.List.{AllByRecursion, range_with_len}
 use Rattle.std.proofs.lemmas.Bool.{or_parts, or_from}
 use Rattle.std.proofs.lemmas.Grind.{common_steps}
@@ -17,17 +17,19 @@ use Rattle.aig_rows.specs.declared.fault.ReadKind.{ReadKind}
 use Rattle.aig_rows.specs.declared.fault.ReadKind.TheVariants as kinds
 use Rattle.aig_rows.specs.declared.fault.ReadFault.{ReadFault}
 use Rattle.aig_rows.specs.Reading.{◌>>=◌}
-use Rattle.aig_rows.specs.Rows.{Form, Row, row, next_form, next_row}
+use Rattle.aig_rows.specs.Rows.{Form, next_form, next_row}
 use Rattle.aig_rows.proofs.Steps.{both_ok, ok_same, passed}
 use Rattle.aig_rows.proofs.Grammar.Entries.{AreGoodRows, reset_again}
 use Rattle.aig_text.specs.declared.header_line.Header.{Header}
+use Rattle.aig_text.specs.declared.section.Section.TheVariants.{Inputs, Latches, Gates}
+use Rattle.aig_text.specs.declared.section.Section.{Section}
 use Rattle.aig_text.specs.Sections.{latches_from, sections, in_ascii, in_binary}
 use Rattle.aig_text.specs.Reading.{empty_circuit}
 use Rattle.aig_text.proofs.Grammar.Headers.{HasCounts}
-use Rattle.aig_text.proofs.Grammar.Sections.{FoundIn, FitRows, AllFit, rows_under, with_all, same_rows, same_counts}
+use Rattle.aig_text.proofs.Grammar.Sections.{FitRows, AllFit, AllApart, TellsRows, rows_by, with_all, tells_rows}
 use Rattle.aig_text.proofs.Grammar.Sections.{same_sizes, small_sizes, entries_in_range}
 use Rattle.aig_binary.specs.Delta.{IsDelta, delta_at}
-use Rattle.aig_binary.specs.BinaryGrammar.{SpellsGate, SpellsGates, binary_rows_of}
+use Rattle.aig_binary.specs.BinaryGrammar.{SpellsGate, SpellsGates}
 use Rattle.aig_binary.specs.BinaryReading.{no_delta, lowered, lowered_at, gate_at, at_gate, gates_at, with_definitions}
 use Rattle.aig_binary.proofs.Deltas.Reading.{delta_is, delta_read}
 
@@ -172,10 +174,10 @@ gates_found variable n bytes rest (g ∷ gs) s o =
 -- The numbered lines of a binary file: latches by their next states, the sections that ASCII files list alike, and what
 -- they make of a circuit.
 
--- the circuit with the rows of all sections, and with what no line tells
-abbrev pub numbered_circuit : Header → FoundIn sections → List Gate → Circuit
-numbered_circuit h found gates =
-    with_definitions h gates (with_all in_binary h sections found (empty_circuit h.max_var))
+-- the circuit with the rows that another one has in all sections, and with what no line tells
+abbrev pub numbered_circuit : Header → Circuit → List Gate → Circuit
+numbered_circuit h d gates =
+    with_definitions h gates (with_all in_binary h (rows_by in_binary d) sections (empty_circuit h.max_var))
 
 -- latches by the rows of their next states
 next_literal : (v : ℕ) → literal_of v + 2 ≡ literal_of (suc v)
@@ -213,65 +215,61 @@ unfolding latches_from
 as_many variable [] = refl
 as_many variable (ns ∷ rows) = ap suc (as_many (suc variable) rows)
 
-none : (rows : List (List ℕ)) → length rows ≡ 0 → rows ≡ []
+-- The laws of sections.
+none : (rows : List (List ℕ)) → length rows ≡ 0 → [] ≡ rows
 none [] e = refl
 none (ns ∷ rows) e = absurd (omega arith)
 
+pub tells : (h : Header) (s : Section) → TellsRows in_binary h s
+tells h Inputs rows c empty fit = none rows fit.counted
+tells h Latches rows c empty fit = next_rows_again h.max_var (1 + h.inputs) rows fit.good
+tells h Gates rows c empty fit = none rows fit.counted
+tells h s rows c empty fit = tells_rows h s rows c empty fit
+
+pub apart : (h : Header) → AllApart in_binary h sections
+apart h = search rules
+
 -- The sections between latches and gates are those of an ASCII file that has no inputs, no latches and no gates: this
--- is its header, and these are its rows.
+-- is its header, and this its circuit.
 abbrev header_between : Header → Header
 header_between h = record h { inputs = 0; latches = 0; gates = 0 }
 
-abbrev rows_between : FoundIn sections → FoundIn sections
-rows_between found =
-    let r = found.1.1 in
-    ([], ([], (r.0, (r.1.0, (r.1.1.0, (r.1.1.1.0, (r.1.1.1.1.0, (r.1.1.1.1.1.0, ([], tt)))))))))
+abbrev circuit_between : Circuit → Circuit
+circuit_between d = record d { inputs = []; latches = []; gates = [] }
 
 -- a section of no lines
 pub no_rows : {form : Form} {bound start : ℕ} → FitRows form bound start 0 []
 no_rows = record { good = tt; counted = refl }
 
-module _ (h : Header) (found : FoundIn sections) (fit : AllFit in_binary h sections found (empty_circuit h.max_var))
-  where
-    fit_between : AllFit in_ascii (header_between h) sections (rows_between found) (empty_circuit h.max_var)
-    fit_between = search (rules, no_rows)
+module _ (h : Header) (d : Circuit)
+    (fit : AllFit in_binary h (rows_by in_binary d) sections (empty_circuit h.max_var)) where
+  fit_between : AllFit in_ascii (header_between h) (rows_by in_ascii (circuit_between d)) sections
+      (empty_circuit h.max_var)
+  fit_between = search (rules, no_rows)
 
-    abbrev nexts : List (List ℕ)
-    nexts = found.1.0
+  abbrev nexts : List (List ℕ)
+  nexts = map next_row d.latches
 
-    module _ (gates : List Gate) where
-      abbrev numbered : Circuit
-      numbered = numbered_circuit h found gates
+  module _ (gates : List Gate) where
+    abbrev numbered : Circuit
+    numbered = numbered_circuit h d gates
 
-      -- the rows of the circuit are those that were read
-      pub rows_are : rows_under in_binary h sections found ≡ binary_rows_of numbered
-      rows_are =
-          let between = same_rows (header_between h) (rows_between found) fit_between in
-          let latches = next_rows_again h.max_var (1 + h.inputs) nexts fit.1.0.good in
-          let inputs = none found.0 fit.0.counted in
-          let gates = none found.1.1.1.1.1.1.1.1.0 fit.1.1.1.1.1.1.1.1.0.counted in
-          rw (inputs, gates, latches) (ap (λ (rows : List Row). map (row next_form) nexts ++ rows) between)
+    pub literals_are : HasLiteralsUpTo numbered
+    literals_are = (
+      nexts_up_to h.max_var (literal_of (1 + h.inputs)) (1 + h.inputs) nexts fit.1.0.good,
+      (entries_in_range (header_between h) (circuit_between d) fit_between).literals,
+    )
 
-      pub literals_are : HasLiteralsUpTo numbered
-      literals_are = (
-        nexts_up_to h.max_var (literal_of (1 + h.inputs)) (1 + h.inputs) nexts fit.1.0.good,
-        (entries_in_range (header_between h) (rows_between found) fit_between).literals,
-      )
+    -- the sizes are those of the literals, and their sum is within the limit
+    sizes_are : sum numbered.justice.sizes ≡ length numbered.justice.literals
+    sizes_are = same_sizes (header_between h) (circuit_between d) fit_between
 
-      -- the sizes are those of the literals, and their sum is within the limit
-      sizes_are : sum numbered.justice.sizes ≡ length numbered.justice.literals
-      sizes_are = same_sizes (header_between h) (rows_between found) fit_between
+    pub sizes_within : sum numbered.justice.sizes ≤ h.limit
+    sizes_within = small_sizes (header_between h) (circuit_between d) fit_between
 
-      pub sizes_within : sum numbered.justice.sizes ≤ h.limit
-      sizes_within = small_sizes (header_between h) (rows_between found) fit_between
+    pub counts_are : length gates ≡ h.gates → HasCounts h numbered
+    counts_are g = grind (arith, common_steps, length-range_with_len, as_many)
 
-      -- the counts of the definitions, in a header row
-      abbrev with_counts : ℕ → ℕ → ℕ → List ℕ → List ℕ
-      with_counts inputs latches gates row = get_or row 0 0 ∷ inputs ∷ latches ∷ get_or row 3 0 ∷ gates ∷ drop 5 row
-
-      pub counts_are : length gates ≡ h.gates → HasCounts h numbered
-      counts_are g = grind (arith, common_steps, length-range_with_len, as_many, same_counts, fit_between)
-
-      pub order_is : length gates ≡ h.gates → h.max_var ≡ h.inputs + h.latches + h.gates
-          → AreOrderedGates (1 + h.inputs + h.latches) gates → IsInBinaryOrder numbered
-      order_is g full ordered = search (rules, length-range_with_len, as_many, define)
+    pub order_is : length gates ≡ h.gates → h.max_var ≡ h.inputs + h.latches + h.gates
+        → AreOrderedGates (1 + h.inputs + h.latches) gates → IsInBinaryOrder numbered
+    order_is g full ordered = search (rules, length-range_with_len, as_many, define)

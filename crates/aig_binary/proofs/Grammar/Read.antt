@@ -25,7 +25,7 @@ use Rattle.aig_text.specs.declared.header_line.Header.{Header}
 use Rattle.aig_text.specs.Sections.{latches_from, sections, in_binary}
 use Rattle.aig_text.specs.Reading.{header_of, sections_at, empty_circuit, tail_at, fault_of, IsFirstFault}
 use Rattle.aig_text.proofs.Grammar.Headers.{own_header, header_is_found, sizes_in_both}
-use Rattle.aig_text.proofs.Grammar.Sections.{FoundIn, AllFit, with_all, own_found, own_rows, sections_are_found, bare}
+use Rattle.aig_text.proofs.Grammar.Sections.{AllFit, rows_by, with_all, own_rows, sections_are_found, bare}
 use Rattle.aig_text.proofs.Grammar.Sections.{latches_up_to, literals_again}
 use Rattle.aig_text.proofs.Grammar.Tail.{own_tail}
 use Rattle.aig_binary.specs.BinaryGrammar.{binary_word, IsBinaryText}
@@ -73,17 +73,14 @@ module _ (limit : ℕ) (c : Circuit) where
   abbrev own : Header
   own = own_header limit c
 
-  abbrev rows : FoundIn sections
-  rows = own_found in_binary own sections c
-
   nexts_up_to : IsInForm c → AllByRecursion (IsLiteralUpTo c.max_var) (map (λ (l : Latch). l.next) c.latches)
   nexts_up_to form =
-      all_mapped (IsLatchUpTo c.max_var) (IsLiteralUpTo c.max_var) (λ (l : Latch). l.next) (λ l p. p.1) c.latches
+      all_mapped (IsLatchUpTo c.max_var) (IsLiteralUpTo c.max_var) (λ (l : Latch). l.next) (λ l p. p.1.0) c.latches
       (latches_up_to c form)
 
   -- each section has the rows that its lines may have; those between latches and gates are as in an ASCII file
   rows_fit : IsInForm c → IsInBinaryOrder c → sum c.justice.sizes ≤ limit
-      → AllFit in_binary own sections rows (empty_circuit c.max_var)
+      → AllFit in_binary own (rows_by in_binary c) sections (empty_circuit c.max_var)
   rows_fit form order small =
       let f = (own_rows limit c form small).1.1 in
       let nexts = next_rows_good c.max_var (1 + length c.inputs) c.latches order.latches (nexts_up_to form) in (
@@ -94,7 +91,7 @@ module _ (limit : ℕ) (c : Circuit) where
         ),
       )
 
-  numbers_tell : IsInBinaryOrder c → numbered_circuit own rows c.gates ≡ bare c
+  numbers_tell : IsInBinaryOrder c → numbered_circuit own c c.gates ≡ bare c
   numbers_tell order = search (rules, latches_again, literals_again)
 
   own_filled : IsInBinaryOrder c → filled own ≡ Ok own
@@ -131,21 +128,20 @@ module _ (text : List ℕ) (limit : ℕ) (c : Circuit) (a : IsBinaryText text li
   fits : length c.inputs + length c.latches + length c.gates ≤ c.max_var
   fits = let all : c.max_var ≡ length c.inputs + length c.latches + length c.gates = a.ordered.all in omega arith
 
-  fit : AllFit in_binary header sections (rows (min limit LARGEST) c) (empty_circuit c.max_var)
+  fit : AllFit in_binary header (rows_by in_binary c) sections (empty_circuit c.max_var)
   fit = rows_fit (min limit LARGEST) c form a.ordered (sizes_in_both limit c a.well_formed.limits a.sizes_limited)
 
   pub accepted_is_read : binary_reading limit text ≡ Ok c
   accepted_is_read =
       let s =
-      sections_are_found in_binary header sections (rows (min limit LARGEST) c) (empty_circuit c.max_var) 2 a.numbered
-      behind a.are_rows fit in
+      sections_are_found in_binary header c sections (empty_circuit c.max_var) 2 a.numbered behind a.are_rows fit in
       let t =
       ap (λ (d : Circuit). tail_at header nothing_named d s.0 (lines_of a.rest))
       (numbers_tell (min limit LARGEST) c a.ordered)
       ∙ own_tail (min limit LARGEST) c s.0 (lines_of a.rest) a.well_formed.symbols a.is_tail in
       ap (binary_at limit) lines
       ∙ steps limit s.0 a.header (a.numbered ++ behind) behind (a.gates ++ a.rest) a.rest header c.gates c
-      (with_all in_binary header sections (rows (min limit LARGEST) c) (empty_circuit c.max_var))
+      (with_all in_binary header (rows_by in_binary c) sections (empty_circuit c.max_var))
       (header_is_found binary_word limit a.header c
       (refl, (refl, (refl, tt))) a.is_header a.limited a.well_formed.limits fits)
       (own_filled (min limit LARGEST) c a.ordered) s.1 (pieces (a.gates ++ a.rest)).joined

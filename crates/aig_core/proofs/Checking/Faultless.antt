@@ -285,7 +285,8 @@ one_more parts more all x are e =
                 subst (λ j. slice_index_or (slice_set parts at grown) j [] ≡ filter (is_in_part j) (all ++ x ∷ []))
                 (sym same) here
             | inr other ↦
-                get_or-set_other parts at k grown [] other ∙ are.each k low ∙ sym (append-nil (filter (is_in_part k) all))
+                get_or-set_other parts at k grown [] other ∙ are.each k low
+                ∙ sym (append-nil (filter (is_in_part k) all))
                 ∙ sym (part_more k x all false (ne_eqb at k (λ (e : at ≡ k). other (sym e))))
           ];
     }
@@ -301,11 +302,13 @@ pub of_circuit : (c : Circuit) (parts : List (List ℕ)) (once : Bool)
     → AreParts parts ((([] ++ defined_inputs c.inputs) ++ defined_latches c.latches) ++ defined_gates c.gates)
     → (IsTrue once ↔ ((k : ℕ) → k < length parts → AreDistinct (slice_index_or parts k [])))
     → IsTrue once ↔ AreDistinct (defined_variables c)
-of_circuit c parts once are is = distinct_parts parts (defined_variables c) once (subst (AreParts parts) (defined_is c) are) is
+of_circuit c parts once are is =
+    distinct_parts parts (defined_variables c) once (subst (AreParts parts) (defined_is c) are) is
 
 -- parts that stand where as many stood
 pub whole : (all : List ℕ) (parts behind : List (List ℕ)) (len : ℕ) → length parts ≡ len → AreParts parts all
     → AreParts (take len (parts ++ behind)) all
 whole all parts behind len long are =
-    subst (λ ps. AreParts ps all) (sym (subst (λ n. take n (parts ++ behind) ≡ parts) long (take-append_seam parts behind)))
+    subst (λ ps. AreParts ps all)
+    (sym (subst (λ n. take n (parts ++ behind) ≡ parts) long (take-append_seam parts behind)))
     are

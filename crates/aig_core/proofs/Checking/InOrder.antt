@@ -139,6 +139,7 @@ module _ (c : Circuit) (once : first_repeat set.empty (defined_variables c) ≡ 
 
   -- where what is used outside of gates is known too, there is no fault
   pub in_order_faultless : IsInForm c
-      → first_unknown (with_all set.empty (defined_variables c)) (map (λ (l : Latch). l.next) c.latches ++ concat (literal_lists c))
+      → first_unknown (with_all set.empty (defined_variables c))
+      (map (λ (l : Latch). l.next) c.latches ++ concat (literal_lists c))
       ≡ None → first_structural_fault c ≡ None
   in_order_faultless form ends = search (rules, unknown_append, gates_known, none_cyclic)

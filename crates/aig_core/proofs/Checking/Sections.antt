@@ -193,7 +193,8 @@ pub fault_of_gates : (c : Circuit) → first_repeat set.empty (defined_variables
     → first_structural_fault c
     ≡ option_or (first_undefined (with_all set.empty (defined_variables c)) (flat_map operands c.gates))
     (option_map Cyclic (first_cyclic c.gates))
-fault_of_gates c once ends = grind (arith, common_steps, once, ends, unknowns (with_all set.empty (defined_variables c)) c)
+fault_of_gates c once ends =
+    grind (arith, common_steps, once, ends, unknowns (with_all set.empty (defined_variables c)) c)
 
 -- What is known of operands by what gates need.
 

@@ -25,7 +25,7 @@ use Rattle.aig_image.specs.Parts.InOrder.{StandInOrder}
 use Rattle.aig_image.specs.declared.image.Renumbering.{Renumbering}
 use Rattle.aig_image.specs.declared.in_turn.InTurn.{InTurn}
 use Rattle.aig_image.specs.Parts.InTurn.{numbered_gate, AreMadeOf, IsMadeInTurn}
-use Rattle.aig_image.specs.Parts.Numbers.{number_of, AreNumbered, IsRenumberingOf}
+use Rattle.aig_image.specs.Parts.Numbers.{number_of, HaveNumbers, IsRenumberingOf}
 use Rattle.aig_image.specs.Relabelled.{FitIntoLiterals, relabelled}
 use Rattle.aig_image.specs.Renumbering.{renumbered, in_new_order}
 use Rattle.aig_image.specs.Reordered.{taken, operands_sorted, converted, with_operands_sorted}
@@ -133,7 +133,7 @@ module _ (c : Circuit) (good : IsWellFormed c) where
 
   -- so the gates as they stand, and numbers that were noted in their order, make the image
   pub in_place : (r : Renumbering) → r.taken ≡ None → StandInOrder first c.gates
-      → AreNumbered r.numbers (defined_variables c)
+      → HaveNumbers r.numbers (defined_variables c)
       → FitIntoLiterals (number_of r.numbers) → IsRenumberingOf c r
   in_place r none stand numbered small = search (rules, least_as_they_stand, taken_as_they_stand, variables)
 
@@ -142,7 +142,7 @@ module _ (c : Circuit) (good : IsWellFormed c) where
   made_as_they_stand m a = record {
     order = as_they_stand;
     least = least_as_they_stand a.in_order;
-    numbers = subst (λ gs. AreNumbered m.numbers (first ++ variables gs)) (sym taken_as_they_stand) a.numbers;
+    numbers = subst (λ gs. HaveNumbers m.numbers (first ++ variables gs)) (sym taken_as_they_stand) a.numbers;
     gates =
         subst (λ gs. m.gates.items ≡ map (numbered_gate (renumbered (first ++ variables gs))) gs)
         (sym taken_as_they_stand) a.made;

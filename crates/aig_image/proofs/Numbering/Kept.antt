@@ -27,7 +27,7 @@ use Rattle.aig_topo.proofs.Ordering.Cyclic.{among_last}
 use Rattle.aig_meaning.proofs.Related.{distinct_front}
 use Rattle.aig_image.specs.declared.numbers.Numbers.{Numbers}
 use Rattle.aig_image.specs.Parts.InTurn.{HasNumber, AreMadeOf, next_numbered, numbered_gate}
-use Rattle.aig_image.specs.Parts.Numbers.{number_of, number_in, AreNumbered}
+use Rattle.aig_image.specs.Parts.Numbers.{number_of, number_in, HaveNumbers}
 use Rattle.aig_image.specs.Renumbering.{renumbered}
 use Rattle.aig_image.specs.Relabelled.{FitIntoLiterals}
 use Rattle.aig_image.specs.Reordered.{operands_sorted}
@@ -39,7 +39,7 @@ number_push : (xs : List ℕ) (x v : ℕ)
 number_push xs x v = grind (arith, common_steps, position_or_len_push, prefix_len-le-length)
 
 -- where none was noted
-pub none_noted : (n : Numbers) → n.noted ≡ 0 → n.numbers ≡ empty → AreNumbered n []
+pub none_noted : (n : Numbers) → n.noted ≡ 0 → n.numbers ≡ empty → HaveNumbers n []
 none_noted n none nothing =
     let has : (v : ℕ) → get n.numbers v ≡ None = λ v. ap (λ m. get m v) nothing ∙ get-empty nat_cmp v in
     search rules
@@ -47,7 +47,7 @@ none_noted n none nothing =
 -- one variable more
 pub one_more : (old new : Numbers) (var : ℕ) → new.noted ≡ old.noted + 1
     → new.numbers ≡ with_new old.numbers var (old.noted + 1)
-    → (variables : List ℕ) → AreNumbered old variables → AreNumbered new (variables ++ var ∷ [])
+    → (variables : List ℕ) → HaveNumbers old variables → HaveNumbers new (variables ++ var ∷ [])
 one_more old new var counted told variables numbered =
     search (rules, get-with_new, length-append, number_push, eqb_comm, common_steps)
 
@@ -73,23 +73,23 @@ in_place v xs some fits = let b = ne_eqb v 0 some in grind (arith, common_steps,
 -- what is noted of two sections
 pub two_sections : {L : Type 0} (of_latch : L → ℕ) (n : Numbers) (inputs inputs_too : List ℕ)
     (latches latches_too : List L)
-    → inputs ≡ inputs_too → latches ≡ latches_too → AreNumbered n ([] ++ map (λ v. v) inputs ++ map of_latch latches)
-    → AreNumbered n (inputs_too ++ map of_latch latches_too)
+    → inputs ≡ inputs_too → latches ≡ latches_too → HaveNumbers n ([] ++ map (λ v. v) inputs ++ map of_latch latches)
+    → HaveNumbers n (inputs_too ++ map of_latch latches_too)
 two_sections of_latch n inputs inputs_too latches latches_too same same_latches numbered = search (rules, map-id)
 
 -- a number is not above how many were noted
 pub few : {L G : Type 0} (of_latch : L → ℕ) (of_gate : G → ℕ) (n : Numbers) (inputs : List ℕ) (latches : List L)
     (gates : List G)
-    → AreNumbered n (inputs ++ map of_latch latches ++ map of_gate gates)
+    → HaveNumbers n (inputs ++ map of_latch latches ++ map of_gate gates)
     → (v : ℕ) → number_of n v ≤ length inputs + length latches + length gates
 few of_latch of_gate n inputs latches gates numbered v = grind (arith, common_steps)
 
 -- what has a number is noted
-was_noted : (n : Numbers) (variables : List ℕ) → AreNumbered n variables → (v : ℕ) → 0 < number_of n v
+was_noted : (n : Numbers) (variables : List ℕ) → HaveNumbers n variables → (v : ℕ) → 0 < number_of n v
     → IsAmong v variables
 was_noted n variables numbered v some = has_number variables v (rw (← numbered.numbers v) some)
 
-known : (n : Numbers) (vars : List ℕ) → AreNumbered n vars → (l : ℕ) → HasNumber n l → IsKnown vars l
+known : (n : Numbers) (vars : List ℕ) → HaveNumbers n vars → (l : ℕ) → HasNumber n l → IsKnown vars l
 known n vars numbered l has = search (rules, was_noted)
 
 module _ (before : List ℕ) (gates : List Gate) where
@@ -98,7 +98,7 @@ module _ (before : List ℕ) (gates : List Gate) where
   IsOverKnown k = AllByRecursion (IsKnown (before ++ variables (take k gates))) (operands (at gates k))
 
   -- of the next gate too
-  pub next_over_known : (n : Numbers) (i : ℕ) (g : Gate) → AreNumbered n (before ++ variables (take i gates))
+  pub next_over_known : (n : Numbers) (i : ℕ) (g : Gate) → HaveNumbers n (before ++ variables (take i gates))
       → i < length gates
       → g ≡ get_or gates i g → HasNumber n g.left → HasNumber n g.right
       → ((k : ℕ) → k < i → IsOverKnown k) → (k : ℕ) → k < i + 1 → IsOverKnown k
@@ -106,7 +106,7 @@ module _ (before : List ℕ) (gates : List Gate) where
       search (rules, variables, known, below_more, get_or_default, no_gate)
 
 -- A number that was given stays, so a gate that is made over those that there are is the gate of the image.
-module _ (n : Numbers) (xs ys : List ℕ) (numbered : AreNumbered n xs) (once : AreDistinct (xs ++ ys))
+module _ (n : Numbers) (xs ys : List ℕ) (numbered : HaveNumbers n xs) (once : AreDistinct (xs ++ ys))
     (some : AllByRecursion (λ v. 1 ≤ v) (xs ++ ys)) where
   -- what is noted later does not change a number
   later_keeps : (v : ℕ) → IsAmong v xs → renumbered xs v ≡ renumbered (xs ++ ys) v
@@ -136,7 +136,7 @@ module _ (n : Numbers) (xs ys : List ℕ) (numbered : AreNumbered n xs) (once : 
       numbered.numbers v ∙ in_place v xs (λ e. absurd (omega (arith, low, e))) fits ∙ later_keeps v a) has
 
 -- a gate over what has numbers, which gets the next one
-own_gate : (n : Numbers) (xs ys : List ℕ) (g : Gate) → AreNumbered n xs → AreDistinct (xs ++ g.var ∷ ys)
+own_gate : (n : Numbers) (xs ys : List ℕ) (g : Gate) → HaveNumbers n xs → AreDistinct (xs ++ g.var ∷ ys)
     → AllByRecursion (λ v. 1 ≤ v) (xs ++ g.var ∷ ys) → HasNumber n g.left → HasNumber n g.right
     → next_numbered n g ≡ numbered_gate (renumbered (xs ++ g.var ∷ ys)) g
 own_gate n xs ys g numbered once some left right =
@@ -158,7 +158,7 @@ around before gs i g there is =
     ∙ search (rules, map-append, append_assoc)
 
 next_made : (n : Numbers) (before : List ℕ) (gs : List Gate) (i : ℕ) (g : Gate)
-    → AreNumbered n (before ++ variables (take i gs)) → AreDistinct (before ++ variables gs)
+    → HaveNumbers n (before ++ variables (take i gs)) → AreDistinct (before ++ variables gs)
     → AllByRecursion (λ v. 1 ≤ v) (before ++ variables gs) → i < length gs → g ≡ get_or gs i g
     → HasNumber n g.left → HasNumber n g.right
     → next_numbered n g ≡ numbered_gate (renumbered (before ++ variables gs)) g
@@ -169,11 +169,11 @@ next_made n before gs i g numbered once some there is left right =
 
 -- the first gates were made, and their variables have numbers; the others stand as they stood
 pub record AreMadeSoFar (before : List ℕ) (gs news : List Gate) (n : Numbers) (i : ℕ) : Type 0 where
-  pub numbers : AreNumbered n (before ++ variables (take i gs))
+  pub numbers : HaveNumbers n (before ++ variables (take i gs))
   pub known : (k : ℕ) → k < i → IsOverKnown before gs k
   pub made : news ≡ map (numbered_gate (renumbered (before ++ variables gs))) (take i gs) ++ drop i gs
 
-pub none_made : (before : List ℕ) (gs : List Gate) (n : Numbers) → AreNumbered n before → AreMadeSoFar before gs gs n 0
+pub none_made : (before : List ℕ) (gs : List Gate) (n : Numbers) → HaveNumbers n before → AreMadeSoFar before gs gs n 0
 none_made before gs n numbered = record {
   numbers = rw append-nil numbered;
   known = λ k below. absurd (omega (arith, below));
@@ -211,8 +211,8 @@ module _ (before : List ℕ) (gs made : List Gate) (n : Numbers) (i : ℕ) (sofa
       let next : h ≡ f g = is ∙ next_made n before gs i g sofar.numbers once some there stands left right in
       record {
         numbers =
-            subst (AreNumbered m) (variables_more (λ (g : Gate). g.var) before gs i g there)
-            (subst (λ (x : Gate). AreNumbered m ((before ++ variables (take i gs)) ++ x.var ∷ [])) stands
+            subst (HaveNumbers m) (variables_more (λ (g : Gate). g.var) before gs i g there)
+            (subst (λ (x : Gate). HaveNumbers m ((before ++ variables (take i gs)) ++ x.var ∷ [])) stands
             (one_more n m g.var count told (before ++ variables (take i gs)) sofar.numbers));
         known = next_over_known before gs n i g sofar.numbers there stands left right sofar.known;
         made =
@@ -224,7 +224,7 @@ module _ (before : List ℕ) (gs made : List Gate) (n : Numbers) (i : ℕ) (sofa
 pub all_made : (before : List ℕ) (gs made : List Gate) (n : Numbers) (i : ℕ) → AreMadeSoFar before gs made n i
     → length gs ≤ i → AreMadeOf before gs made n
 all_made before gs made n i sofar end = record {
-  numbers = subst (λ xs. AreNumbered n (before ++ variables xs)) (take_all i gs end) sofar.numbers;
+  numbers = subst (λ xs. HaveNumbers n (before ++ variables xs)) (take_all i gs end) sofar.numbers;
   in_order = λ k there. sofar.known k (omega (arith, there, end));
   made = sofar.made ∙ rw (take_all i gs end, drop_all i gs end, append-nil) refl;
 }

@@ -10,7 +10,7 @@ use Rattle.aig_topo.specs.Order.{IsLeastReadyOrder}
 use Rattle.aig_image.specs.declared.in_turn.InTurn.{InTurn}
 use Rattle.aig_image.specs.declared.numbers.Numbers.{Numbers}
 use Rattle.aig_image.specs.Parts.InOrder.{StandInOrder}
-use Rattle.aig_image.specs.Parts.Numbers.{number_of, variables_with, AreNumbered}
+use Rattle.aig_image.specs.Parts.Numbers.{number_of, variables_with, HaveNumbers}
 use Rattle.aig_image.specs.Relabelled.{relabelled_gate, relabelled_literal}
 use Rattle.aig_image.specs.Renumbering.{in_new_order, renumbered}
 use Rattle.aig_image.specs.Reordered.{operands_sorted, taken}
@@ -39,7 +39,7 @@ pub record DefineApart (c : Circuit) (gates : List Gate) : Type 0 where
 
 -- the gates of the image are made of gates that stand in order, and their variables have numbers behind these
 pub record AreMadeOf (before : List ℕ) (gates news : List Gate) (n : Numbers) : Type 0 where
-  pub numbers : AreNumbered n (before ++ map (λ (g : Gate). g.var) gates)
+  pub numbers : HaveNumbers n (before ++ map (λ (g : Gate). g.var) gates)
   pub in_order : StandInOrder before gates
   pub made : news ≡ map (numbered_gate (renumbered (before ++ map (λ (g : Gate). g.var) gates))) gates
 
@@ -47,5 +47,5 @@ pub record AreMadeOf (before : List ℕ) (gates news : List Gate) (n : Numbers) 
 pub record IsMadeInTurn (c : Circuit) (m : InTurn) : Type 0 where
   pub order : List ℕ
   pub least : IsLeastReadyOrder c order
-  pub numbers : AreNumbered m.numbers (in_new_order c order)
+  pub numbers : HaveNumbers m.numbers (in_new_order c order)
   pub gates : m.gates.items ≡ map (numbered_gate (renumbered (in_new_order c order))) (taken c.gates order)

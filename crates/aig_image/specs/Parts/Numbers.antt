@@ -31,7 +31,7 @@ number_in variables v =
     then 1 + position_or_len (λ w. w == v) variables else 0
 
 -- so many variables have numbers, those of this list, and the others have none
-pub record AreNumbered (n : Numbers) (variables : List ℕ) : Type 0 where
+pub record HaveNumbers (n : Numbers) (variables : List ℕ) : Type 0 where
   pub count : n.noted ≡ length variables
   pub numbers : (v : ℕ) → number_of n v ≡ number_in variables v
   pub others : (v : ℕ) → number_in variables v ≡ 0 → get n.numbers v ≡ None
@@ -41,5 +41,5 @@ pub record IsRenumberingOf (c : Circuit) (r : Renumbering) : Type 0 where
   pub order : List ℕ
   pub least : IsLeastReadyOrder c order
   pub gates : unwrap_or r.taken c.gates ≡ taken c.gates order
-  pub numbers : AreNumbered r.numbers (in_new_order c order)
+  pub numbers : HaveNumbers r.numbers (in_new_order c order)
   pub small : FitIntoLiterals (number_of r.numbers)

@@ -149,9 +149,9 @@ keeps_still c vectors shown end before after rows within same keeps = record {
 }
 
 -- one more step is kept
-pub keeps_more : (c : Circuit) (vectors : List (List Val)) (shown : LaneColumns) (text : List ℕ) (rows : List Row) (n : ℕ)
-    (row : Row) → KeepsTrace c vectors shown text rows → IsRow c row → row.state ≡ state_after (reset_state c) rows
-    → length vectors ≡ n → RowStands shown n row.inputs text row
+pub keeps_more : (c : Circuit) (vectors : List (List Val)) (shown : LaneColumns) (text : List ℕ) (rows : List Row)
+    (n : ℕ) (row : Row) → KeepsTrace c vectors shown text rows → IsRow c row
+    → row.state ≡ state_after (reset_state c) rows → length vectors ≡ n → RowStands shown n row.inputs text row
     → KeepsTrace c (vectors ++ row.inputs ∷ []) shown text (rows ++ row ∷ [])
 keeps_more c vectors shown text rows n row keeps is from size stands =
     let long : length (vectors ++ row.inputs ∷ []) ≡ n + 1 =

@@ -1,6 +1,6 @@
 -- Steps of runs side by side, and the room that a bench has for them.
 use Rattle.std.proofs.Common.{◌≡◌, ◌*◌, ◌^◌, ◌<◌, ◌≤◌, ◌+◌, ◌-◌, ◌++◌, ◌∷◌, ◌∙◌, ℕ, List, [], ap, arith, get_or, length}
-use Rattle.std.proofs.Common.{subst, sym, rules, ap₂, map, drop, refl, set, take, inl, inr, All, mul-le-mul_left}
+use Rattle.std.proofs.Common.{subst, sym, rules, ap₂, map, drop, refl, take, inl, inr, All, mul-le-mul_left}
 use Rattle.std.proofs.Common.{mul-le-mul_right, drop_at, length-append, length-take, length-take-le, take_all}
 use Rattle.std.proofs.lemmas.List.{get_or_default, length-map, take_more}
 use Rattle.std.proofs.lemmas.Bool.{cases_lt}
@@ -27,13 +27,13 @@ use Rattle.aig_lanes.specs.declared.input_bits.InputWord.{InputWord}
 use Rattle.aig_lanes.specs.declared.run.Run.{Run}
 use Rattle.aig_lanes.specs.declared.lane_columns.LaneColumns.{LaneColumns}
 use Rattle.aig_lanes.specs.declared.bench.Bench.{Bench}
-use Rattle.aig_lanes.specs.Parts.Benches.{Fits, HasRoomFor, HasRoomForSteps, HasSameRoom, IsBench}
-use Rattle.aig_lanes.specs.Parts.InputBits.{HasRoom, HasStep, SameRooms}
+use Rattle.aig_lanes.specs.Parts.Benches.{HasRoomFor, HasRoomForSteps, HasSameRoom, IsBench}
+use Rattle.aig_lanes.specs.Parts.InputBits.{AreBlocks, HasLaneRoom, HasStep, SameRooms}
 use Rattle.aig_lanes.specs.Parts.Kept.{asked, reset_literal, reset_literals, seen, step_literals}
-use Rattle.aig_lanes.specs.Parts.LaneTexts.{HoldsRun, ShowsRows, end_of, shown_size, KeepsTrace, LaneStands}
+use Rattle.aig_lanes.specs.Parts.LaneTexts.{HoldsRun, ShowsRows, end_of, shown_size, KeepsRun, KeepsTrace, LaneStands}
 use Rattle.aig_lanes.specs.Parts.Sheets.{text_in, BytesText, part}
 use Rattle.aig_lanes.specs.Parts.Groups.{Assigned, Begun}
-use Rattle.aig_lanes.specs.Parts.Lanes.{IsLane}
+use Rattle.aig_lanes.specs.Parts.Lanes.{IsLane, values_in}
 use Rattle.aig_lanes.specs.Runs.{IsRunOf}
 use Rattle.aig_lanes.proofs.Side.Sheets.{StepsIn, steps_within}
 use Rattle.aig_lanes.proofs.Benches.ShownTexts.{keeps_more, keeps_still, row_stands}
@@ -57,7 +57,7 @@ size_within c shown shows =
 
 -- blocks that have the room that they had have it for the same runs
 bits_stay : (before after : List (List (List InputWord))) (runs : List Run) → SameRooms before after
-    → All (HasRoom runs) before → All (HasRoom runs) after
+    → All (HasLaneRoom runs) before → All (HasLaneRoom runs) after
 bits_stay before after runs same had block d inside l r low below =
     let within : block < length before = omega (arith, inside, same.count) in
     omega (
@@ -67,9 +67,24 @@ bits_stay before after runs same had block d inside l r low below =
       ap (λ (lanes : List (List InputWord)). length (get_or lanes l [])) (get_or_default after block d [] inside),
     )
 
-pub room_stays : (before after : Bench) (runs : List Run) → HasSameRoom before after → HasRoomFor before runs
-    → HasRoomFor after runs
-room_stays before after runs same had = record {
+-- it is still a bench for a circuit
+pub bench_stays : (c : Circuit) (before after : Bench) → HasSameRoom before after → IsBench c before → IsBench c after
+bench_stays c before after same is = record {
+  tables = record {
+    bits = subst (AreBlocks (length c.inputs)) (sym same.bits.count) is.tables.bits;
+    table_size = same.table ∙ is.tables.table_size;
+    state_size = same.state ∙ is.tables.state_size;
+    shows = subst (ShowsRows c) (sym same.shown) is.tables.shows;
+  };
+  line = same.line ∙ is.line;
+}
+
+pub room_stays : (c : Circuit) (before after : Bench) (runs : List Run) → HasSameRoom before after
+    → HasRoomFor c before runs → HasRoomFor c after runs
+room_stays c before after runs same had = record {
+  is = bench_stays c before after same had.is;
+  lanes = had.lanes;
+  counts = had.counts;
   bits = bits_stay before.bits.items after.bits.items runs same.bits had.bits;
   sheet = λ l d low below.
       subst (λ (s : LaneColumns). HoldsRun l (get_or runs l d) s after.sheet) (sym same.shown)
@@ -88,11 +103,12 @@ steps_stay before after same had block d inside l low =
       ap (λ (lanes : List (List InputWord)). length (get_or lanes l [])) (get_or_default after block d [] inside),
     )
 
-pub steps_room_stays : (before after : Bench) → HasSameRoom before after → HasRoomForSteps before
-    → HasRoomForSteps after
-steps_room_stays before after same had =
+pub steps_room_stays : (c : Circuit) (before after : Bench) → HasSameRoom before after → HasRoomForSteps c before
+    → HasRoomForSteps c after
+steps_room_stays c before after same had =
     let shown = same.shown in
     record {
+      is = bench_stays c before after same had.is;
       bits = steps_stay before.bits.items after.bits.items same.bits had.bits;
       sheet = λ l low.
           subst (λ (s : LaneColumns). end_of s 1 ≤ length (text_in l after.sheet)) (sym shown)
@@ -108,11 +124,11 @@ fits_shown c shown steps shows fits =
     omega (arith, mul-le-mul_left {m = shown_size shown} {n = line_size c} steps less, fits)
 
 -- room for a run of one step in each lane is room for a step in each
-pub room_for_steps : (c : Circuit) (bench : Bench) (runs : List Run) → IsBench c bench → length runs ≡ 256
-    → All (λ (run : Run). length run.steps ≡ 1) runs → HasRoomFor bench runs → All (Fits c) runs
-    → HasRoomForSteps bench
-room_for_steps c bench runs is all one room fits =
+pub room_for_steps : (c : Circuit) (bench : Bench) (runs : List Run) → length runs ≡ 256
+    → All (λ (run : Run). length run.steps ≡ 1) runs → HasRoomFor c bench runs → HasRoomForSteps c bench
+room_for_steps c bench runs all one room =
     record {
+      is = room.is;
       bits = λ block d inside l low.
           omega (
             arith,
@@ -125,9 +141,9 @@ room_for_steps c bench runs is all one room fits =
           (room.sheet l (record { steps = [] }) low (omega (arith, low, all)));
       fits =
           let some : 0 < length runs = omega (arith, all) in
-          let sized = fits_shown c bench.shown 1 is.shows
+          let sized = fits_shown c bench.shown 1 room.is.tables.shows
           (subst (λ (n : ℕ). n * line_size c < 2 ^ 64) (one 0 (record { steps = [] }) some)
-          (fits 0 (record { steps = [] }) some)) in
+          (room.counts 0 (record { steps = [] }) some)) in
           omega (arith, sized);
     }
 
@@ -162,12 +178,13 @@ module _ (c : Circuit) (run : Run) (step lane : ℕ) (table begun table_now stat
     assigned : Assigned c lane start given table_now
     assigned =
         let there = stood.table_stands (omega (arith, has)) in
-        steps.assign given there.values start (fits step [] has) (steps.put there.values has there.stand)
+        let values = values_in lane table in
+        steps.assign given values start (fits step [] has) (steps.put values has there.stand)
         (stood.state_stands (omega (arith, has)))
 
     stands_now : LaneStands c run (step + 1) lane table_now state_now shown after
     stands_now =
-        let values = assigned.now.values in
+        let values = values_in lane table_now in
         let row = row_read c start given (read_from values) in
         let size : length vectors ≡ step = length-take-le step run.steps (omega (arith, has)) in
         let stands = row_stands c shown shows step (text_in lane before) (text_in lane after) values start given
@@ -201,6 +218,16 @@ module _ (c : Circuit) (run : Run) (step lane : ℕ) (table begun table_now stat
           state_stands = λ more. absurd (omega (arith, more, ended));
         }
   ]
+
+-- where all steps of a run were taken, its trace is kept
+pub run_kept : (c : Circuit) (run : Run) (steps lane : ℕ) (table state : List (List ℕ)) (shown : LaneColumns)
+    (sheet : List BytesText) → length run.steps ≤ steps → LaneStands c run steps lane table state shown sheet
+    → KeepsRun c run lane shown sheet
+run_kept c run steps lane table state shown sheet all stood = (
+  stood.rows,
+  subst (λ (vs : List (List Val)). KeepsTrace c vs shown (text_in lane sheet) stood.rows)
+      (take_all steps run.steps all) stood.keeps,
+)
 
 -- before the first step the literals of resets have their values
 reset_read : (values : List Val) (r : Reset) → read_from values 0 ≡ Zero → read_from values 1 ≡ X
@@ -241,13 +268,13 @@ literals_below size columns c below = search (rules, All-append, All-map, asked_
 -- before the first step
 pub stands_first : (c : Circuit) (run : Run) (lane : ℕ) (table state : List (List ℕ)) (shown : LaneColumns)
     (sheet : List BytesText) → ShowsRows c shown → length c.latches ≤ c.max_var
-    → (begun : Begun lane (1 + c.max_var) table)
-    → IsLane lane state (map (literal_value (read_from begun.now.values)) shown.resets.items)
+    → Begun lane (1 + c.max_var) table
+    → IsLane lane state (map (literal_value (read_from (values_in lane table))) shown.resets.items)
     → take (end_of shown 0) (text_in lane sheet)
-    ≡ values_text (map (literal_value (read_from begun.now.values)) shown.resets.items)
+    ≡ values_text (map (literal_value (read_from (values_in lane table))) shown.resets.items)
     → LaneStands c run 0 lane table state shown sheet
 stands_first c run lane table state shown sheet shows room begun from kept =
-    let values = begun.now.values in
+    let values = values_in lane table in
     let resets : map (literal_value (read_from values)) shown.resets.items ≡ reset_state c =
     ap (map (literal_value (read_from values))) shows.resets
     ∙ reset_shown values c.latches begun.constant (λ some. begun.unknown (omega (arith, some, room))) in

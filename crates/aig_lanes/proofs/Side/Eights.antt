@@ -8,7 +8,7 @@ use Rattle.std.proofs.lemmas.Grind.{same_number_lists}
 use Rattle.std.proofs.lemmas.List.{append-nil, drop-drop, drop_all, get_or-append-add, get_or-drop, get_or-map}
 use Rattle.std.proofs.lemmas.List.{get_or-set_other, get_or-set_same, get_or-take, get_or_append_left, length-append}
 use Rattle.std.proofs.lemmas.List.{length-drop, length-map, length-set, length-take, length-take-le, take-append-le}
-use Rattle.std.proofs.lemmas.List.{take-take, take_all}
+use Rattle.std.proofs.lemmas.List.{take-take, take_all, with_items_is}
 use Rattle.std.proofs.lemmas.List.FromFn.{get_or-map-range_with_len}
 use Rattle.std.proofs.lemmas.Simd.{get_or-zip2, get_or_narrower, length-zip2}
 use Rattle.aig_circuit.specs.declared.value.Val.{Val}
@@ -38,7 +38,8 @@ overwritten_size at cs text = search (rules, length-append, length-take, length-
 
 -- what stands before is as it was
 pub overwritten_front : (at m : ℕ) (cs text : List ℕ) → m ≤ at → take m (overwritten at cs text) ≡ take m text
-overwritten_front at m cs text within = search (rules, cases_lt, overwritten_past, take-append-le, length-take-le, take-take)
+overwritten_front at m cs text within =
+    search (rules, cases_lt, overwritten_past, take-append-le, length-take-le, take-take)
 
 -- and there the characters stand
 pub overwritten_at : (at k : ℕ) (cs text : List ℕ) → k < length cs → at + k < length text
@@ -242,3 +243,6 @@ module _ (eight : List (List ℕ)) (at : ℕ) (one other : List ℕ) (long : len
   pub pair_stands : (t k : ℕ) (x : Val) → k ≡ at → IsPair t one other x
       → IsPair t (get_or put_two (2 * k) []) (get_or put_two (2 * k + 1) []) x
   pair_stands t k x is pair = search (rules, get_or-set_other, eight, get_or-set_same, length-set)
+
+-- the facts on rows of bytes that are put over others
+pub ruleset put_rows = (text_size, rows_with, with_items_is, overwritten_size, texts_overwritten)

@@ -263,3 +263,6 @@ all_ones l below =
 
 pub all_zeros : (l : ℕ) → bit_in l (four 0) ≡ 0
 all_zeros l = ap (λ n. bit_at n (l % 64)) (zeros_at (l / 64)) ∙ bit_at-zero (l % 64)
+
+-- the facts on a part of rows of bytes
+pub ruleset written_rows = (text_long, rows_with, zip_take, zip_drop)

@@ -1,7 +1,7 @@
 -- Tables of planes: what stands in a lane.
 use Rattle.std.proofs.Common.{◌≡◌, ◌+◌, ◌*◌, ◌/◌, ◌%◌, ◌<◌, ◌≤◌, ◌==◌, ◌∷◌, ◌∙◌, ◌++◌, if◌then◌else◌, rules, ℕ, zero}
 use Rattle.std.proofs.Common.{suc, List, [], length, map, get_or, set, take, drop, refl, sym, ap, ap₂, arith, min, max}
-use Rattle.std.proofs.Common.{inl, inr, drop-cons, zero-add, append-nil, length-take, take_all}
+use Rattle.std.proofs.Common.{inl, inr, drop-cons, zero-add, append-nil, length-take, subst, take_all}
 use Rattle.std.specs.Int.Bits.{bit_and, bit_or}
 use Rattle.std.specs.Simd.Lanes.{zip2}
 use Rattle.std.proofs.lemmas.Bool.{cases_lt}
@@ -14,7 +14,9 @@ use Rattle.aig_circuit.specs.declared.value.Val.TheVariants.{Zero, One, X}
 use Rattle.aig_circuit.specs.Literal.{negation_of, variable_of}
 use Rattle.aig_circuit.specs.Values.{value_and, value_not}
 use Rattle.aig_meaning.specs.Meaning.{literal_value}
-use Rattle.aig_lanes.specs.Parts.Lanes.{IsLane, IsPair, IsPlane, bit_in, bits_of_values, may_be_one}
+use Rattle.aig_lanes.specs.Parts.Groups.{Begun, IsTable}
+use Rattle.aig_lanes.specs.Parts.Lanes.{IsLane, IsPair, IsPlane, bit_in, bits_of_values, may_be_one, values_by_bits}
+use Rattle.aig_lanes.specs.Parts.Lanes.{values_in}
 use Rattle.aig_step.specs.declared.evaluate.Pair.{Pair}
 use Rattle.aig_step.specs.Parts.Tables.{evaluated, placed, read_from}
 use Rattle.aig_step.proofs.Running.Machines.{placed_behind}
@@ -51,10 +53,30 @@ negation_variable l = elim (cases_lt 0 (l % 2)) [
   | inr even ↦ let sign : l % 2 ≡ 0 = omega arith in rw sign (omega arith)
 ]
 
+bits_back : (vs : List Val) → values_by_bits (bits_of_values vs) ≡ vs
+bits_back [] = refl
+bits_back (Zero ∷ vs) = ap (λ us. Zero ∷ us) (bits_back vs)
+bits_back (One ∷ vs) = ap (λ us. One ∷ us) (bits_back vs)
+bits_back (X ∷ vs) = ap (λ us. X ∷ us) (bits_back vs)
+
 -- what stands in a lane
 module _ (l : ℕ) (planes : List (List ℕ)) (values : List Val) (is : IsLane l planes values) where
   pub lane_length : length planes ≡ 2 * length values
   lane_length = sym (length-map planes (bit_in l)) ∙ ap length is.bits ∙ bits_length values
+
+  pub values_are : values ≡ values_in l planes
+  values_are = sym (ap values_by_bits is.bits ∙ bits_back values)
+
+  module _ (size : ℕ) (long : length values ≡ size) where
+    pub table_stands : IsTable l size planes
+    table_stands = record { stand = subst (IsLane l planes) values_are is; size_is = sym (ap length values_are) ∙ long }
+
+    pub begins : read_from values 0 ≡ Zero → (1 < size → read_from values 1 ≡ X) → Begun l size planes
+    begins constant unknown = record {
+      now = table_stands;
+      constant = subst (λ vs. read_from vs 0 ≡ Zero) values_are constant;
+      unknown = λ more. subst (λ vs. read_from vs 1 ≡ X) values_are (unknown more);
+    }
 
   plane_bit : (k : ℕ) (d : List ℕ) → k < length planes
       → bit_in l (get_or planes k d) ≡ get_or (bits_of_values values) k 0

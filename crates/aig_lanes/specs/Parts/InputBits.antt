@@ -57,8 +57,8 @@ abbrev pub HasStep : List (List InputWord) → Type 0
 HasStep lanes = (l : ℕ) → l < 256 → 0 < length (slice_index_or lanes l [])
 
 -- each run has room in its lane
-abbrev pub HasRoom : List Run → List (List InputWord) → Type 0
-HasRoom runs lanes = (l : ℕ) (d : Run) → l < 256 → l < length runs
+abbrev pub HasLaneRoom : List Run → List (List InputWord) → Type 0
+HasLaneRoom runs lanes = (l : ℕ) (d : Run) → l < 256 → l < length runs
     → length (slice_index_or runs l d).steps ≤ length (slice_index_or lanes l [])
 
 -- blocks have as much room as they had

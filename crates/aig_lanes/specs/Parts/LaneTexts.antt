@@ -9,10 +9,13 @@ use Rattle.aig_lanes.specs.declared.run.Run.{Run}
 use Rattle.aig_lanes.specs.declared.lane_columns.LaneColumns.{LaneColumns}
 use Rattle.aig_step.specs.declared.trace.Columns.{Columns}
 use Rattle.aig_step.specs.declared.trace.Columns.TheVariants.{Plain, Properties}
+use Rattle.aig_lanes.specs.declared.input_bits.InputWord.{InputWord}
 use Rattle.aig_lanes.specs.Parts.Groups.{IsTable}
+use Rattle.aig_lanes.specs.Parts.InputBits.{AreBlocks, HoldsLane}
 use Rattle.aig_lanes.specs.Parts.Lanes.{IsLane}
 use Rattle.aig_lanes.specs.Parts.Kept.{asked, reset_literals, step_literals}
 use Rattle.aig_lanes.specs.Parts.Sheets.{BytesText, part, text_in}
+use Rattle.aig_lanes.specs.Runs.{IsRunOf}
 use Rattle.aig_step.specs.TraceText.{rows_text, values_text}
 
 -- it shows what the rows of a circuit show
@@ -22,6 +25,13 @@ pub record ShowsRows (c : Circuit) (shown : LaneColumns) : Type 0 where
   pub constraints : shown.constraints ≡ length (asked shown.columns c.constraints)
   pub resets : shown.resets.items ≡ reset_literals c.latches
   pub literals : shown.literals.items ≡ step_literals shown.columns c
+
+-- there are as many blocks of inputs and as many planes as a circuit asks for, and what is shown is what its rows show
+pub record AreTables (c : Circuit) (shown : LaneColumns) (blocks table state : ℕ) : Type 0 where
+  pub bits : AreBlocks (length c.inputs) blocks
+  pub table_size : table ≡ 2 * (1 + c.max_var)
+  pub state_size : state ≡ 2 * length c.latches
+  pub shows : ShowsRows c shown
 
 -- how many characters are kept of so many steps, with the state behind them
 abbrev pub end_of : LaneColumns → ℕ → ℕ
@@ -35,7 +45,15 @@ shown_size shown = length shown.resets.items + length shown.literals.items + 6
 abbrev pub HoldsRun : (lane : ℕ) → Run → LaneColumns → List BytesText → Type 0
 HoldsRun lane run shown sheet = end_of shown (length run.steps) ≤ length (text_in lane sheet)
 
--- and of each of the runs in its lane
+-- a run has a lane: its inputs stand there as bits, and there are places for all its steps
+pub record HasLane (c : Circuit) (bits : List (List (List InputWord))) (shown : LaneColumns) (sheet : List BytesText)
+    (lane : ℕ) (run : Run) : Type 0 where
+  pub is_lane : lane < 256
+  pub fits : IsRunOf c run
+  pub stands : HoldsLane lane run bits
+  pub room : HoldsRun lane run shown sheet
+
+-- there are places for all steps of each of the runs in its lane
 abbrev pub HoldsRuns : LaneColumns → List BytesText → List Run → Type 0
 HoldsRuns shown sheet runs =
     (l : ℕ) (d : Run) → l < 256 → l < length runs → HoldsRun l (slice_index_or runs l d) shown sheet

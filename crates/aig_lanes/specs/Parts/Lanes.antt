@@ -1,7 +1,7 @@
 -- Up to 256 runs side by side, a lane for each. A plane has a bit for each lane, in four words of 64. A table has for
 -- each literal the plane of those lanes in which the literal may be 1, so that the negation of a variable, the plane
 -- behind its own, tells where the variable may be 0.
-use Rattle.std.specs.Prelude.{◌≡◌, ◌/◌, ◌%◌, ℕ, List, [], ◌∷◌, length, map, slice_index_or}
+use Rattle.std.specs.Prelude.{◌≡◌, ◌/◌, ◌%◌, ◌==◌, ℕ, List, [], ◌∷◌, if◌then◌else◌, length, map, slice_index_or}
 use Rattle.std.specs.Int.{bit_at}
 use Rattle.std.specs.List.{All}
 use Rattle.aig_circuit.specs.declared.value.Val.{Val}
@@ -21,6 +21,16 @@ may_be_one X = 1
 abbrev pub bits_of_values : List Val → List ℕ
 bits_of_values [] = []
 bits_of_values (v ∷ vs) = may_be_one v ∷ may_be_one (value_not v) ∷ bits_of_values vs
+
+-- the values of variables, where these bits tell whether each literal over them may be 1
+abbrev pub values_by_bits : List ℕ → List Val
+values_by_bits [] = []
+values_by_bits (high ∷ []) = []
+values_by_bits (high ∷ low ∷ bits) = (if low == 0 then One else if high == 0 then Zero else X) ∷ values_by_bits bits
+
+-- the values of variables in this lane
+abbrev pub values_in : (lane : ℕ) → (planes : List (List ℕ)) → List Val
+values_in lane planes = values_by_bits (map (bit_in lane) planes)
 
 -- it has a bit for each lane
 abbrev pub IsPlane : List ℕ → Type 0

@@ -16,7 +16,7 @@ use Rattle.aig_rows.proofs.Grammar.NumberLines.{some_then}
 use Rattle.aig_rows.proofs.Steps.{both_ok, let_through}
 use Rattle.aig_text.specs.AsciiText.{numbers_text}
 use Rattle.aig_map.specs.declared.map_block.FirstLine.{FirstLine}
-use Rattle.aig_map.specs.MapBlock.{one_if, first_row, variable_row, gate_row, rows_of, last_line, block_text}
+use Rattle.aig_map.specs.MapBlock.{one_if, first_row, variable_row, mapped_row, block_rows, last_line, block_text}
 use Rattle.aig_map.specs.MapSpelling.{after_text, number_at, last_number_at, first_line_at}
 use Rattle.aig_map.specs.MapReading.{counts_match, counted_line, rest_of_block, block_reading, HasCountsOf}
 use Rattle.aig_map.specs.MapReading.{IsWithinBounds}
@@ -166,15 +166,17 @@ first_of b = record {
 
 -- the text behind the first line, and what follows it
 abbrev behind : MapBlock → List ℕ → List ℕ
-behind b rest = lines variable_row b.inputs (lines variable_row b.latches (lines gate_row b.gates (last_line ++ rest)))
+behind b rest =
+    lines variable_row b.inputs (lines variable_row b.latches (lines mapped_row b.gates (last_line ++ rest)))
 
 -- the lines behind the first one, section by section
-rows_behind : (b : MapBlock) (rest : List ℕ) → (flat_map numbers_text (rows_of b) ++ last_line) ++ rest ≡ behind b rest
+rows_behind : (b : MapBlock) (rest : List ℕ)
+    → (flat_map numbers_text (block_rows b) ++ last_line) ++ rest ≡ behind b rest
 rows_behind b rest =
     let inputs : List (List ℕ) = map variable_row b.inputs in
     let latches : List (List ℕ) = map variable_row b.latches in
     rw (
-      flat_map-append numbers_text (inputs ++ latches) (map gate_row b.gates),
+      flat_map-append numbers_text (inputs ++ latches) (map mapped_row b.gates),
       flat_map-append numbers_text inputs latches,
     ) (simp append_assoc)
 
@@ -184,7 +186,7 @@ text_by_parts : (b : MapBlock) (rest : List ℕ)
 unfolding block_text
 text_by_parts b rest =
     ap (λ (t : List ℕ). codes "aigmap " ++ t)
-    (append_assoc (numbers_text (first_row b)) (flat_map numbers_text (rows_of b) ++ last_line) rest
+    (append_assoc (numbers_text (first_row b)) (flat_map numbers_text (block_rows b) ++ last_line) rest
     ∙ ap (line (first_row b)) (rows_behind b rest))
 
 -- the lines behind a first line stand there
@@ -210,7 +212,7 @@ rest_is_read b rest within =
     let count : ℕ = length b.gates in
     let fit : count ≤ LARGEST = few_gates (length b.inputs) (length b.latches) count m within.counts few in
     let last : List ℕ = last_line ++ rest in
-    let gates : List ℕ = lines gate_row b.gates last in
+    let gates : List ℕ = lines mapped_row b.gates last in
     let latches : List ℕ = lines variable_row b.latches gates in
     let first : ℕ = 2 + length b.inputs + length b.latches in
     rw (
@@ -252,7 +254,7 @@ rest_reads f few fits bytes r h =
       text =
           inputs.text
           ∙ ap (lines variable_row a.0.0)
-          (latches.text ∙ ap (lines variable_row b.0.0) (gates.text ∙ ap (lines gate_row d.0.0) last));
+          (latches.text ∙ ap (lines variable_row b.0.0) (gates.text ∙ ap (lines mapped_row d.0.0) last));
     }
     )
 

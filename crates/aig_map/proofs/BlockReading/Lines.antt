@@ -15,7 +15,7 @@ use Rattle.aig_rows.proofs.Grammar.NumberLines.{some_then}
 use Rattle.aig_rows.proofs.Steps.{both_ok}
 use Rattle.aig_text.specs.AsciiText.{numbers_text}
 use Rattle.aig_map.specs.declared.map_block.MappedGate.{MappedGate}
-use Rattle.aig_map.specs.MapBlock.{one_if, variable_row, gate_row}
+use Rattle.aig_map.specs.MapBlock.{one_if, variable_row, mapped_row}
 use Rattle.aig_map.specs.MapSpelling.{number_at, last_number_at, is_variable, variable_at, gate_at}
 use Rattle.aig_map.specs.declared.fault.MapFault.{MapFault}
 use Rattle.aig_map.specs.MapReading.{◌>>=◌, or_else, entries_at}
@@ -116,7 +116,7 @@ module _ (m : ℕ) (few : m ≤ LARGEST) where
     IsGoodGate g = IsVariableUpTo m g.var × (g.place < count)
 
     gate_is_read : (g : MappedGate) (rest : List ℕ) → IsGoodGate g
-        → gate_at m count (line (gate_row g) rest) ≡ Some (g, rest)
+        → gate_at m count (line (mapped_row g) rest) ≡ Some (g, rest)
     unfolding gate_at
     gate_is_read g rest good =
         let flag : ℕ = one_if g.exchanged in
@@ -130,7 +130,7 @@ module _ (m : ℕ) (few : m ≤ LARGEST) where
         ) refl
 
     gate_reads : (bytes : List ℕ) (x : MappedGate × List ℕ) → gate_at m count bytes ≡ Some x
-        → IsLineOf gate_row IsGoodGate bytes x
+        → IsLineOf mapped_row IsGoodGate bytes x
     unfolding gate_at
     gate_reads bytes x h =
         let a = some_then (number_at bytes) _ _ h in
@@ -148,10 +148,10 @@ module _ (m : ℕ) (few : m ≤ LARGEST) where
         number_reads a.0.0 b.0.0 (d.0.0 ∷ []) bytes a.0.1 d.0.1 (omega (arith, good.0.1, few)) a.1 place in
         let flag : line (a.0.0 ∷ b.0.0 ∷ d.0.0 ∷ []) d.0.1 ≡ line (a.0.0 ∷ b.0.0 ∷ one_if (d.0.0 == 1) ∷ []) d.0.1 =
         λ j. line (a.0.0 ∷ b.0.0 ∷ sym (bit_recorded d.0.0 bit) j ∷ []) d.0.1 in
-        subst (IsLineOf gate_row IsGoodGate bytes) t.1 ((good.0, low), text ∙ flag)
+        subst (IsLineOf mapped_row IsGoodGate bytes) t.1 ((good.0, low), text ∙ flag)
 
     -- the lines of gates
-    pub gates_are_exact : IsExact (gate_at m count) gate_row IsGoodGate
+    pub gates_are_exact : IsExact (gate_at m count) mapped_row IsGoodGate
     gates_are_exact = record { is_read = gate_is_read; reads = gate_reads }
 
 -- So many lines of a map block: their text is read as what they tell, and what is read is their text.

@@ -180,6 +180,8 @@ module _ (gates : List MappedGate) (once : AreDistinct (places_recorded gates))
       (cases_lt i k)
 
   -- where all did, each place has its position
-  pub all_put : (found : List ℕ) → length found ≡ length gates → FirstArePut (length gates) found → found ≡ positions gates
+  pub all_put : (found : List ℕ) → length found ≡ length gates → FirstArePut (length gates) found
+      → found ≡ positions gates
   all_put found many put =
-      same_number_lists found (positions gates) (many ∙ sym (positions_many gates)) (search (rules, place_each, places_many, place_at))
+      same_number_lists found (positions gates) (many ∙ sym (positions_many gates))
+      (search (rules, place_each, places_many, place_at))

@@ -39,7 +39,8 @@ use Rattle.aig_map.proofs.Sources.Placed.{gate_had, none_recorded, recorded_at}
 carried : (vs : List ℕ) → map (source_variable vs) (range_with_len 1 (length vs)) ≡ vs
 carried vs =
     let long = length-map-range_with_len (source_variable vs) 1 (length vs) in
-    ext_get_or 0 (map (source_variable vs) (range_with_len 1 (length vs))) vs long (search (rules, get_or-map-range_with_len, by_place))
+    ext_get_or 0 (map (source_variable vs) (range_with_len 1 (length vs))) vs long
+    (search (rules, get_or-map-range_with_len, by_place))
 
 -- equal lists in two parts of equal lengths have equal parts
 parts : (xs ys s t : List ℕ) → length xs ≡ length ys → xs ++ s ≡ ys ++ t → (xs ≡ ys) × (s ≡ t)
@@ -271,7 +272,8 @@ module _ (b : MapBlock) (x : Circuit) (rest : List ℕ) (fit : IsFit b x) (good 
       let inputs = inputs_are b x comment fit in
       let latches = latches_are b x comment fit in
       let gates =
-      ap (λ ns. map (mapped_gate (renumbered ns) first_gate) from.gates) (new_is b x comment fit) ∙ gates_again exchanges in
+      ap (λ ns. map (mapped_gate (renumbered ns) first_gate) from.gates) (new_is b x comment fit)
+      ∙ gates_again exchanges in
       search (rules, was_there)
 
   -- and the image

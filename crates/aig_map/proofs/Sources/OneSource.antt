@@ -116,7 +116,8 @@ pub undone_by_read : (c x : Circuit) (r : MapBlock × List ℕ) → IsWellFormed
 undone_by_read c x r good (order, least, is) read =
     let same : (map_block order c, unwrap_or c.comment []) ≡ r = one_reading (block_reading x) _ r
     (ap block_reading is ∙ mapped_reading c order good least) read in
-    subst (λ (s : MapBlock × List ℕ). AreDistinct (places_recorded s.0.gates) × (c ≡ undone s.0 (comment_behind s.0 s.1) x))
+    subst (λ (s : MapBlock × List ℕ). AreDistinct (places_recorded s.0.gates)
+    × (c ≡ undone s.0 (comment_behind s.0 s.1) x))
     same (recorded_once c order good least, rw is (sym (carried_back c order good least)))
 
 -- no two well-formed circuits have one mapped image
@@ -180,7 +181,8 @@ module _ (c : Circuit) (order : List ℕ) (good : IsWellFormed c) (least : IsLea
       let there = ap (at images) (sym (place_at c order good least i below))
       ∙ sym (get_or-map (at images) (places c order good least) i 0 no_gate low)
       ∙ ap (λ (gs : List Gate). at gs i) (images_are c order good least)
-      ∙ get_or-map operands_sorted new i no_gate no_gate (omega (arith, below, length-map c.gates (relabelled_gate number)))
+      ∙ get_or-map operands_sorted new i no_gate no_gate
+      (omega (arith, below, length-map c.gates (relabelled_gate number)))
       ∙ ap operands_sorted (get_or-map (relabelled_gate number) c.gates i no_gate no_gate below) in
       apart (relabelled_literal number g.left) (relabelled_literal number g.right) is
       (sym (ap (λ (h : Gate). h.left) there) ∙ same ∙ ap (λ (h : Gate). h.right) there)

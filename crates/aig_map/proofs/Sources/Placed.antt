@@ -136,7 +136,17 @@ module _ (most : ℕ) (gates : List MappedGate) (good : AllByRecursion (IsGood m
   pub table_is : (table : List ℕ) → table_of gates ≡ Some table
       → table ≡ map (variable_at_place gates) (range_with_len 0 (length gates))
   table_is table is =
-      search (rules, table_has, long, length-map-range_with_len, same_number_lists, at_zero, zeros, get_or-map-range_with_len, zero-add)
+      search (
+        rules,
+        table_has,
+        long,
+        length-map-range_with_len,
+        same_number_lists,
+        at_zero,
+        zeros,
+        get_or-map-range_with_len,
+        zero-add,
+      )
 
   -- where there is a table, the places are distinct
   pub places_once : (table : List ℕ) → table_of gates ≡ Some table → AreDistinct (places_recorded gates)

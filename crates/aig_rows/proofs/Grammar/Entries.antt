@@ -8,7 +8,8 @@ use Rattle.aig_circuit.specs.declared.circuit.Reset.{Reset}
 use Rattle.aig_circuit.specs.declared.circuit.Reset.TheVariants as resets
 use Rattle.aig_circuit.specs.declared.circuit.Latch.{Latch}
 use Rattle.aig_circuit.specs.declared.circuit.Gate.{Gate}
-use Rattle.aig_circuit.specs.Wellformed.{IsVariableUpTo}
+use Rattle.aig_circuit.specs.Wellformed.{IsVariableUpTo, operands}
+use Rattle.aig_circuit.specs.Form.{AreInRange}
 pub use Rattle.aig_circuit.specs.Form.{IsLiteralUpTo}
 use Rattle.std.proofs.lemmas.List.Sums.{sum_by-cons}
 use Rattle.aig_rows.specs.declared.row.Role.TheVariants as roles
@@ -57,14 +58,18 @@ pub record IsEntry {X : Type 0} (form : Form) (row : X → List ℕ) (found : Li
 abbrev pub HasGoodRow : {X : Type 0} → Form → (X → List ℕ) → (ℕ → X → Type 0) → Type 0
 HasGoodRow {X} form row IsUpTo = (m k : ℕ) (x : X) → IsUpTo m x → IsGoodRow form m k (row x)
 
+-- what an entry defines and uses is in range
+abbrev pub IsInputUpTo : ℕ → ℕ → Type 0
+IsInputUpTo m v = AreInRange m (v ∷ []) []
+
 abbrev pub IsLatchUpTo : ℕ → Latch → Type 0
-IsLatchUpTo m l = IsVariableUpTo m l.var × IsLiteralUpTo m l.next
+IsLatchUpTo m l = AreInRange m (l.var ∷ []) (l.next ∷ [])
 
 abbrev pub IsSizeUpTo : ℕ → ℕ → Type 0
 IsSizeUpTo m n = n ≤ m
 
 abbrev pub IsGateUpTo : ℕ → Gate → Type 0
-IsGateUpTo m g = IsVariableUpTo m g.var × IsLiteralUpTo m g.left × IsLiteralUpTo m g.right
+IsGateUpTo m g = AreInRange m (g.var ∷ []) (operands g)
 
 twice_half : (n : ℕ) → n % 2 ≡ 0 → 2 * (n / 2) ≡ n
 twice_half n even = omega arith
@@ -79,16 +84,16 @@ variable_up_to : (m n : ℕ) → IsDefinition m n → IsVariableUpTo m (n / 2)
 variable_up_to m n h = search rules
 
 input_back : (m k : ℕ) (ns : List ℕ) → IsGoodRow input_form m k ns
-    → (input_row (input_of ns) ≡ ns) × IsVariableUpTo m (input_of ns)
+    → (input_row (input_of ns) ≡ ns) × IsInputUpTo m (input_of ns)
 input_back m k [] g = absurd g
-input_back m k (n ∷ []) g = (ap (λ (k : ℕ). k ∷ []) (twice_half n g.0.even), variable_up_to m n g.0)
+input_back m k (n ∷ []) g = (ap (λ (k : ℕ). k ∷ []) (twice_half n g.0.even), ((variable_up_to m n g.0, tt), tt))
 input_back m k (n ∷ o ∷ ns) g = absurd g.1
 
-pub input_entry : IsEntry input_form input_row input_of IsVariableUpTo
+pub input_entry : IsEntry input_form input_row input_of IsInputUpTo
 input_entry = record { again = λ m v h. half_of_twice v; back = input_back }
 
-pub good_input : HasGoodRow input_form input_row IsVariableUpTo
-good_input m k v h = (definition m v h, tt)
+pub good_input : HasGoodRow input_form input_row IsInputUpTo
+good_input m k v h = (definition m v h.0.0, tt)
 
 -- a reset and its number
 pub reset_told : (own : ℕ) (reset : Reset) → 2 ≤ own → reset_of (reset_number own reset) ≡ reset
@@ -115,7 +120,7 @@ latch_back m k (n ∷ []) g = absurd g.1
 latch_back m k (n ∷ o ∷ []) g = absurd g.1.1
 latch_back m k (n ∷ o ∷ r ∷ []) g = (
   search (rules, twice_half, reset_again),
-  (variable_up_to m n g.0, g.1.0),
+  ((variable_up_to m n g.0, tt), (g.1.0, tt)),
 )
 latch_back m k (n ∷ o ∷ r ∷ p ∷ ns) g = absurd g.1.1.1
 
@@ -123,7 +128,7 @@ pub latch_entry : IsEntry latch_form latch_row latch_of IsLatchUpTo
 latch_entry = record { again = latch_told; back = latch_back }
 
 pub good_latch : HasGoodRow latch_form latch_row IsLatchUpTo
-good_latch m k l h = (definition m l.var h.0, (h.1, (good_reset (2 * l.var) l.reset, tt)))
+good_latch m k l h = (definition m l.var h.0.0, (h.1.0, (good_reset (2 * l.var) l.reset, tt)))
 
 literal_back : (m k : ℕ) (ns : List ℕ) → IsGoodRow literal_form m k ns
     → (literal_row (literal_in ns) ≡ ns) × IsLiteralUpTo m (literal_in ns)
@@ -170,7 +175,7 @@ gate_back m k (n ∷ []) g = absurd g.1
 gate_back m k (n ∷ o ∷ []) g = absurd g.1.1
 gate_back m k (n ∷ o ∷ p ∷ []) g = (
   ap (λ (k : ℕ). k ∷ o ∷ p ∷ []) (twice_half n g.0.even),
-  (variable_up_to m n g.0, g.1.0, g.1.1.0),
+  ((variable_up_to m n g.0, tt), (g.1.0, (g.1.1.0, tt))),
 )
 gate_back m k (n ∷ o ∷ p ∷ q ∷ ns) g = absurd g.1.1.1
 
@@ -178,7 +183,7 @@ pub gate_entry : IsEntry gate_form gate_row gate_of IsGateUpTo
 gate_entry = search (rules, half_of_twice, gate_back)
 
 pub good_gate : HasGoodRow gate_form gate_row IsGateUpTo
-good_gate m k g h = (definition m g.var h.0, (h.1, (h.2, tt)))
+good_gate m k g h = (definition m g.var h.0.0, (h.1.0, (h.1.1.0, tt)))
 
 -- the same of lists
 pub all_again : {X : Type 0} (P : X → Type 0) (row : X → List ℕ) (found : List ℕ → X)

@@ -30,7 +30,8 @@ same_reset_state c d same = by_resets d ∙ ap (map reset_value) same.resets ∙
   by_resets : (e : Circuit) → reset_state e ≡ map reset_value (map (λ (l : Latch). l.reset) e.latches)
   by_resets e = sym (map-map reset_value (λ (l : Latch). l.reset) e.latches)
 
-pub state_after_last : (state : List Val) (rows : List Row) (row : Row) → state_after state (rows ++ row ∷ []) ≡ row.next
+pub state_after_last : (state : List Val) (rows : List Row) (row : Row)
+    → state_after state (rows ++ row ∷ []) ≡ row.next
 state_after_last state [] row = refl
 state_after_last state (r ∷ rs) row = state_after_last r.next rs row
 

@@ -72,7 +72,8 @@ header_is_read word l least most ns some plain h long =
     let enough : least ≤ length h.others.written = h.others.enough in
     let is_word : before_first ends_word l.text ≡ word =
     rw (h.begins, h.others.text_is)
-    (word_before_numbers word h.others.numbers h.others.ending h.others.written (omega arith) plain h.others.spelled) in (
+    (word_before_numbers word h.others.numbers h.others.ending h.others.written (omega arith) plain h.others.spelled)
+    in (
       (bytes_eq-Decides (before_first ends_word l.text) word).1 is_word,
       rw (ap (drop (length word)) h.begins ∙ drop-append_seam word h.rest)
           (end_is_numbers l.ended least most h.rest ns h.others long),

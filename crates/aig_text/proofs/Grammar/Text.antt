@@ -25,7 +25,7 @@ use Rattle.aig_text.specs.Sections.{ascii_word, Header, header_row, rows_of, sec
 use Rattle.aig_text.specs.AsciiGrammar.{IsAsciiText}
 use Rattle.aig_text.specs.Reading.{header_of, tail_at, header_at, sections_at, empty_circuit, circuit_at, unless_faulty}
 use Rattle.aig_text.specs.Reading.{reading, first_ascii_fault, fault_of, IsFirstFault}
-use Rattle.aig_text.proofs.Grammar.Sections.{AreAllSections, all_found, rows_read, counts_read, in_form, sizes_read}
+use Rattle.aig_text.proofs.Grammar.Sections.{AreAllSections, all_found, counts_read, in_form, sizes_read}
 use Rattle.aig_text.proofs.Grammar.Sections.{sizes_limited, sections_are_read, bare}
 use Rattle.aig_text.proofs.Grammar.Headers.{TellsHeader, HasCounts, own_header, header_tells, header_is_found, heads}
 use Rattle.aig_text.proofs.Grammar.Headers.{limited, sizes_within_limit, definitions_counted, within_limits}
@@ -136,9 +136,7 @@ found_is_accepted limit text c t w =
       tail = t.rest;
       lines = t.are ∙ ap (λ (ms : List Line). t.first ∷ ms) t.sections.lines;
       is_header = heads ascii_word limit t.first t.header c t.heads counts;
-      are_rows =
-          rw (rows_read t.header t.numbered t.others t.rest t.sections ∙ rows_kept limit (lines_of text) c t)
-          at t.sections.spelled;
+      are_rows = rw (rows_kept limit (lines_of text) c t) at t.sections.spelled;
       is_tail = search (rules, tail_holds, no_symbols);
       limited = limited ascii_word limit t.first t.header c t.heads counts;
       sizes_limited =

@@ -6,22 +6,19 @@ use Rattle.std.proofs.Math.Seq.{drop-cons, drop-nil}
 use Rattle.std.proofs.lemmas.List.{map-append}
 use Rattle.std.proofs.lemmas.List.Sums.{sum_by-append, sum_by-cons}
 use Rattle.aig_circuit.specs.declared.circuit.Circuit.{Circuit}
-use Rattle.aig_circuit.specs.declared.circuit.Gate.{Gate}
-use Rattle.aig_circuit.specs.declared.circuit.Latch.{Latch}
 use Rattle.aig_lines.specs.Lines.{Ahead, Line, ahead, with_lines}
 use Rattle.aig_rows.specs.declared.fault.ReadFault.{ReadFault}
 use Rattle.aig_rows.specs.Reading.{◌>>=◌, Found, want_of_memory, fault_at, rows_at}
 use Rattle.aig_rows.specs.declared.fault.ReadKind.TheVariants as kinds
 use Rattle.aig_rows.specs.declared.row.Role.TheVariants as roles
-use Rattle.aig_rows.specs.Rows.{gate_of, input_of, latch_of, literal_in, size_of}
+use Rattle.aig_rows.specs.Rows.{size_of}
 use Rattle.aig_rows.specs.declared.rows.Due.{Due}
 use Rattle.aig_rows.specs.Begun.{carried_over}
 use Rattle.aig_rows.proofs.Loops.Rows.{sizes_small}
 use Rattle.aig_rows.proofs.Loops.FirstRows.{after_rows, rows_go_on, row_wrong}
-use Rattle.aig_text.specs.Sections.{Header, Section, sections, Listed, in_ascii, with_sizes, with_justice_literals}
+use Rattle.aig_text.specs.Sections.{Header, Section, sections, Listed, in_ascii}
 use Rattle.aig_text.specs.Reading.{section_at, sections_at}
-use Rattle.aig_text.specs.declared.section.Section.TheVariants.{Inputs, Latches, Outputs, Bad, Constraints}
-use Rattle.aig_text.specs.declared.section.Section.TheVariants.{JusticeSizes, JusticeLiterals, Fairness, Gates}
+use Rattle.aig_text.specs.declared.section.Section.TheVariants.{Inputs, JusticeSizes}
 use Rattle.aig_text.specs.declared.pieces.Progress.{Progress}
 use Rattle.aig_text.specs.Begun.{due_of, rows_due, section_from, HaveReadOf, sections_from, IsDone, IsMissing}
 
@@ -63,37 +60,15 @@ module _ (listed : Section → Listed) (h : Header) where
 
 -- Sections whose lines come in pieces.
 
--- rows behind rows
-joined : {A : Type 0} (before : List A) (tell : List ℕ → A) (a b : List (List ℕ))
-    → (before ++ map tell a) ++ map tell b ≡ before ++ map tell (a ++ b)
-joined before tell a b =
-    append_assoc before (map tell a) (map tell b)
-    ∙ ap (λ (xs : List _). before ++ xs) (sym (map-append tell a b))
-
+-- rows behind rows, and none
 with_more : (s : Section) (h : Header) (a b : List (List ℕ)) (c : Circuit)
     → (in_ascii s).with_rows h b ((in_ascii s).with_rows h a c) ≡ (in_ascii s).with_rows h (a ++ b) c
-with_more Inputs h a b c = ap (λ (xs : List ℕ). record c { inputs = xs }) (joined c.inputs input_of a b)
-with_more Latches h a b c = ap (λ (xs : List Latch). record c { latches = xs }) (joined c.latches latch_of a b)
-with_more Outputs h a b c = ap (λ (xs : List ℕ). record c { outputs = xs }) (joined c.outputs literal_in a b)
-with_more Bad h a b c = ap (λ (xs : List ℕ). record c { bad = xs }) (joined c.bad literal_in a b)
-with_more Constraints h a b c =
-    ap (λ (xs : List ℕ). record c { constraints = xs }) (joined c.constraints literal_in a b)
-with_more JusticeSizes h a b c = ap (λ (xs : List ℕ). with_sizes xs c) (joined c.justice.sizes size_of a b)
-with_more JusticeLiterals h a b c =
-    ap (λ (xs : List ℕ). with_justice_literals xs c) (joined c.justice.literals literal_in a b)
-with_more Fairness h a b c = ap (λ (xs : List ℕ). record c { fairness = xs }) (joined c.fairness literal_in a b)
-with_more Gates h a b c = ap (λ (xs : List Gate). record c { gates = xs }) (joined c.gates gate_of a b)
+with_more Inputs h a b c = simp (append_assoc, map-append)
+with_more s h a b c = simp (append_assoc, map-append)
 
 with_none : (s : Section) (h : Header) (c : Circuit) → (in_ascii s).with_rows h [] c ≡ c
-with_none Inputs h c = ap (λ (xs : List ℕ). record c { inputs = xs }) (append-nil c.inputs)
-with_none Latches h c = ap (λ (xs : List Latch). record c { latches = xs }) (append-nil c.latches)
-with_none Outputs h c = ap (λ (xs : List ℕ). record c { outputs = xs }) (append-nil c.outputs)
-with_none Bad h c = ap (λ (xs : List ℕ). record c { bad = xs }) (append-nil c.bad)
-with_none Constraints h c = ap (λ (xs : List ℕ). record c { constraints = xs }) (append-nil c.constraints)
-with_none JusticeSizes h c = ap (λ (xs : List ℕ). with_sizes xs c) (append-nil c.justice.sizes)
-with_none JusticeLiterals h c = ap (λ (xs : List ℕ). with_justice_literals xs c) (append-nil c.justice.literals)
-with_none Fairness h c = ap (λ (xs : List ℕ). record c { fairness = xs }) (append-nil c.fairness)
-with_none Gates h c = ap (λ (xs : List Gate). record c { gates = xs }) (append-nil c.gates)
+with_none Inputs h c = simp append-nil
+with_none s h c = simp append-nil
 
 module _ (h : Header) where
   -- a section goes on behind its first rows
@@ -210,14 +185,7 @@ module _ (h : Header) where
   pub part_summed : (s : Section) (due left : Due) (c d : Circuit) (at now : Ahead)
       → HaveReadOf (in_ascii s) h due left c d at now → IsSummed s due c → IsSummed s left d
   part_summed JusticeSizes due left c d at now part before = sizes_summed due left c d at now part before
-  part_summed Inputs due left c d at now part before = (rw part.circuit before.0, λ e. cc)
-  part_summed Latches due left c d at now part before = (rw part.circuit before.0, λ e. cc)
-  part_summed Outputs due left c d at now part before = (rw part.circuit before.0, λ e. cc)
-  part_summed Bad due left c d at now part before = (rw part.circuit before.0, λ e. cc)
-  part_summed Constraints due left c d at now part before = (rw part.circuit before.0, λ e. cc)
-  part_summed JusticeLiterals due left c d at now part before = (rw part.circuit before.0, λ e. cc)
-  part_summed Fairness due left c d at now part before = (rw part.circuit before.0, λ e. cc)
-  part_summed Gates due left c d at now part before = (rw part.circuit before.0, λ e. cc)
+  part_summed s due left c d at now part before = (rw part.circuit before.0, λ e. cc)
 
   pub begin_summed : (s : Section) (due : Due) (c : Circuit) → sum c.justice.sizes ≤ h.limit
       → due ≡ due_of (in_ascii s) h c → IsSummed s due c

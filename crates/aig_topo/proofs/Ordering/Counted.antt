@@ -93,7 +93,12 @@ module _ (positions : List ℕ) (taken : ℕ) (marks waiting : List ℕ) (counte
         → IsCounted (put positions taken g) (taken + 1) (marked_with word) waiting counted
     takes word same = record {
       room = length-set positions taken g ∙ is.room;
-      marked = omega (arith, is.marked, ap (λ n. 64 * n) (length-set marks (g / 64) (bit_or word (1 * 2 ^ (g % 64) % 18446744073709551616))));
+      marked = omega (
+        arith,
+        is.marked,
+        ap (λ n. 64 * n)
+            (length-set marks (g / 64) (bit_or word (1 * 2 ^ (g % 64) % 18446744073709551616))),
+      );
       few = is.few;
       within = omega (arith, room_left, length-set positions taken g);
       once = rw one_more (distinct_more (take taken positions) g is.once new);

@@ -63,6 +63,14 @@ few (x ∷ xs) small =
     let all : sum (x ∷ xs) ≡ x + sum xs = sum_by-cons (λ y. y) x xs in
     omega (arith, first, all, few xs (λ i. small (suc i)))
 
+-- where each number is 2, it is twice as many
+pub all_two : (xs : List ℕ) → ((i : ℕ) → i < length xs → get_or xs i 0 ≡ 2) → sum xs ≡ 2 * length xs
+all_two [] two = omega arith
+all_two (x ∷ xs) two =
+    let first : x ≡ 2 = two 0 (omega arith) in
+    let all : sum (x ∷ xs) ≡ x + sum xs = sum_by-cons (λ y. y) x xs in
+    omega (arith, first, all, all_two xs (λ i l. two (suc i) (omega (arith, l))))
+
 -- what comes to an end comes to one within more too
 pub one_more : (needs : ℕ → List ℕ) (n g : ℕ) → comes_to_end n needs g ≡ true → comes_to_end (suc n) needs g ≡ true
 unfolding comes_to_end
@@ -83,6 +91,18 @@ module _ (count : ℕ) (needs : ℕ → List ℕ) (states way : List ℕ) (befor
 
   pub last_met : (g : ℕ) → IsAtEnd way g → get_or states g 0 ≡ 1
   last_met g end = subst (λ y. get_or states y 0 ≡ 1) end.last (before.met (length way - 1) (omega (arith, end.some)))
+
+  -- each gate is two steps at most, and where all are done, each is two
+  pub few_steps : sum states - 2 ≤ 2 * count
+  few_steps = omega (arith, few states before.small, before.as_many)
+
+  pub two_steps_each : ((g : ℕ) → g < count → get_or states g 0 ≡ 2) → sum states - 2 ≡ 2 * count
+  two_steps_each done =
+      let all = all_two states (λ i l.
+      ⊎_elim (λ (there : i < count). done i there)
+      (λ (past : count ≤ i). subst (λ k. get_or states k 0 ≡ 2) (omega (arith, past, l, before.as_many)) before.none)
+      (cases_lt i count)) in
+      omega (arith, all, before.as_many)
 
   -- where the last one of the way needs one that is met, nothing on the way comes to an end
   pub trapped : (user next : ℕ) → IsAtEnd way user → IsAmong next (needs user) → get_or states next 0 ≡ 1
@@ -131,7 +151,8 @@ module _ (count : ℕ) (needs : ℕ → List ℕ) (states way : List ℕ) (befor
       other : (i : ℕ) → i < length way → get_or way i 0 ≢ x
       other i l e = search rules
 
-      by_place : (P : ℕ → Type 0) → ((i : ℕ) → i < length way → P i) → P (length way) → (i : ℕ) → i < length longer → P i
+      by_place : (P : ℕ → Type 0) → ((i : ℕ) → i < length way → P i) → P (length way)
+          → (i : ℕ) → i < length longer → P i
       by_place P old new i l = search (rules, long, cases_lt)
 
       done_as_before : how_many_done now ≡ how_many_done states
@@ -228,7 +249,7 @@ module _ (count : ℕ) (needs : ℕ → List ℕ) where
 
 -- the places of operands, and the gates that are needed
 module _ (gates : List Gate) (pairs : List Pair) (pairs_are : pairs ≡ map (pair_of gates) gates) where
-  long_pairs : length pairs ≡ length gates
+  pub long_pairs : length pairs ≡ length gates
   long_pairs = ap length pairs_are ∙ length-map gates (pair_of gates)
 
   below : (v i : ℕ) → gate_of gates v ≡ Some i → i < length gates

@@ -151,7 +151,8 @@ module _ (links : List Link) (k : ℕ) (link : Link) where
   next_elsewhere v differs = ap (λ (l : Link). l.next) (elsewhere v differs)
 
   -- where another gate comes first, what is behind each gate stays
-  pub same_next : k < length links → link.next ≡ next_of links k → (v : ℕ) → next_of (put links k link) v ≡ next_of links v
+  pub same_next : k < length links → link.next ≡ next_of links k
+      → (v : ℕ) → next_of (put links k link) v ≡ next_of links v
   same_next there same v =
       ⊎_elim (search (rules, next_there))
       (λ (f : (eqb v k ≡ false) × (v ≢ k)). next_elsewhere v f.1) (eqb_tells v k)

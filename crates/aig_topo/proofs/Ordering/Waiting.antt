@@ -144,7 +144,8 @@ module _ (all : List Needs) (lists : Lists) (ready : Tree) (seen : ℕ) where
       let long : length more ≡ length rows = as_many_then rows more gate n now in
       let fits : AllByRecursion (λ h. h < length rows) (linked first ++ linked rest) =
       joined (λ h. h < length rows) (linked first) (linked rest)
-      (subst (λ c. AllByRecursion (λ h. h < c) (linked first)) (as_many_links rows) (first_fits (links_in rows) m r.lists))
+      (subst (λ c. AllByRecursion (λ h. h < c) (linked first)) (as_many_links rows)
+      (first_fits (links_in rows) m r.lists))
       (subst (λ c. AllByRecursion (λ h. h < c) (linked rest)) (waits.room.counted ∙ sym r.many) fit) in
       let here : WaitsFor m seen gate list (needs_at all gate) (linked rest) (get_or order.waiting gate 0) =
       record { below = out.0; enough = enough; counted = counted } in record {
@@ -372,7 +373,8 @@ module _ (all : List Needs) (lists : Lists) (ready : Tree) (seen : ℕ) where
                   ))
                   (eqb_tells u g);
               waits = λ k u a.
-                  still_waits k seen u (get_or order.waiting u 0) list more (needs_at all u) (rest_by lists.rows.items u)
+                  still_waits k seen u (get_or order.waiting u 0) list more (needs_at all u)
+                  (rest_by lists.rows.items u)
                   longer (wait.waits k u a);
               each = λ u l. ⊎_elim (λ (a : IsAmong u list). inl (among_first u list (g ∷ []) a))
                   (λ others. ⊎_elim (λ (h : has ready u ≡ true).

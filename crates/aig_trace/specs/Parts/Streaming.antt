@@ -24,7 +24,7 @@ ended_so false true number = Ok tt
 ended_so false false number = Err (BadStimulus number)
 
 -- what came of a source, and of the output for it
-pub record Ends {W : Type 0} (c : Circuit) (columns : Columns) (r : Result (Unit {0}) SimFault)
+pub record StreamEnds {W : Type 0} (c : Circuit) (columns : Columns) (r : Result (Unit {0}) SimFault)
     (source source_now : Past) (from to : Out W) : Type 0 where
   pub ran : Ran (TraceSays c columns r) source source_now from.past to.past
   pub same : to.name ≡ from.name

@@ -1,5 +1,5 @@
 -- What takes the lines of a stimulus, and what was put for them.
-use Rattle.std.specs.Prelude.{◌≡◌, ◌++◌, ℕ, List, [], ◌∷◌, Bool, true, Some, codes, if◌then◌else◌, length}
+use Rattle.std.specs.Prelude.{◌≡◌, ◌++◌, ℕ, List, [], ◌∷◌, Bool, false, true, Some, codes, if◌then◌else◌, length}
 use Rattle.aig_circuit.specs.declared.circuit.Circuit.{Circuit}
 use Rattle.aig_circuit.specs.declared.value.Val.{Val}
 use Rattle.aig_io.specs.Output.{Out, Put}
@@ -42,11 +42,11 @@ pub record TookStep {W : Type 0} (before after : Tracing) (a b : Out W) (text : 
   pub steps : Steps before.circuit before.columns (point_of before) given (point_of after) line
   pub put : Put a b line
 
--- what lines say was done, and the text for it was put
-pub record Did {W : Type 0} (c : Circuit) (columns : Columns) (before : Point) (entries : List Entry) (after : Point)
-    (a b : Out W) : Type 0 where
+-- a tracer did what lines say, and put the text for it
+pub record Did {W : Type 0} (before after : Tracing) (entries : List Entry) (a b : Out W) : Type 0 where
+  pub same : IsSameTracer before after
   pub text : List ℕ
-  pub goes : Goes c columns before entries after text
+  pub goes : Goes before.circuit before.columns (point_of before) entries (point_of after) text
   pub put : Put a b text
 
 -- a tracer, what the lines say that wait for their text, and the output for the text
@@ -56,10 +56,9 @@ pub record LineTracing (W : Type 0) : Type 0 where
   pub output : Out W
 
 -- the first of what waited was done, and the rest waits
-pub record Moved {W : Type 0} (before after : LineTracing W) : Type 0 where
+pub record MovedOn {W : Type 0} (before after : LineTracing W) : Type 0 where
   pub done : List Entry
-  pub did : Did before.tracing.circuit before.tracing.columns (point_of before.tracing) done (point_of after.tracing)
-      before.output after.output
+  pub did : Did before.tracing after.tracing done before.output after.output
   pub left : before.waiting ≡ done ++ after.waiting
 
 -- A line was heard: it says an entry. What was done is done in turn, and the rest waits.
@@ -67,8 +66,7 @@ pub record HeardLine {W : Type 0} (before after : LineTracing W) (text : List �
   pub entry : Entry
   pub said : entry_in (length before.tracing.circuit.inputs) text ≡ Some entry
   pub done : List Entry
-  pub did : Did before.tracing.circuit before.tracing.columns (point_of before.tracing) done (point_of after.tracing)
-      before.output after.output
+  pub did : Did before.tracing after.tracing done before.output after.output
   pub left : before.waiting ++ entry ∷ [] ≡ done ++ after.waiting
 
 -- what stays while lines are taken: the circuit that is run, the columns, and the output before the first line
@@ -77,18 +75,24 @@ pub record Task (W : Type 0) : Type 0 where
   pub columns : Columns
   pub from : Out W
 
-abbrev pub task_of : {W : Type 0} → LineTracing W → Task W
-task_of t = record { circuit = t.tracing.circuit; columns = t.tracing.columns; from = t.output }
+-- a tracer that begins it
+abbrev pub tracing_of : {W : Type 0} → Task W → Tracing
+tracing_of task = record {
+  circuit = task.circuit;
+  columns = task.columns;
+  state = (begin_of task.circuit).state;
+  has_step = false;
+}
+
+abbrev pub tracing_task : {W : Type 0} → LineTracing W → Task W
+tracing_task t = record { circuit = t.tracing.circuit; columns = t.tracing.columns; from = t.output }
 
 -- what these lines say led to where it stands and was put, but for what the last ones say, which wait
 pub record HasTraced {W : Type 0} (t : LineTracing W) (s : Saying (Task W)) : Type 0 where
-  pub circuit : t.tracing.circuit ≡ s.known.circuit
-  pub columns : t.tracing.columns ≡ s.known.columns
   pub inputs : s.inputs ≡ length s.known.circuit.inputs
   pub done : List Entry
   pub all : s.entries ≡ done ++ t.waiting
-  pub did : Did s.known.circuit s.known.columns (begin_of s.known.circuit) done (point_of t.tracing) s.known.from
-      t.output
+  pub did : Did (tracing_of s.known) t.tracing done s.known.from t.output
 
 -- the text was put for all lines of these bytes up to the first bad one, and the end of the run that was going on
 pub record PutText {W : Type 0} (t : Tracing) (bytes : List ℕ) (a b : Out W) : Type 0 where

@@ -203,7 +203,8 @@ module _ (c : Circuit) (frames t : ℕ) where
   -- what is behind them
   pub behind_stands : behind ≡ drop (length c.gates) (gates_at c frames t)
   behind_stands =
-      sym (ap (λ n. drop n (gates_at c frames t)) (sym (copies_length c frames t)) ∙ drop-append_seam gate_copies behind)
+      sym (ap (λ n. drop n (gates_at c frames t)) (sym (copies_length c frames t))
+      ∙ drop-append_seam gate_copies behind)
 
 -- Lists of which parts were written.
 
@@ -229,7 +230,17 @@ pub frame_put : {X : Type 0} (f : ℕ → List X) (width t : ℕ) (before after 
     → length (f t) ≡ width → t * width ≤ length before → take (t * width) before ≡ flat_map f (range_with_len 0 t)
     → take ((t + 1) * width) after ≡ flat_map f (range_with_len 0 (t + 1))
 frame_put f width t before after put size fits done =
-    search (rules, add-one, suc-mul, length-append, length-take-le, append_assoc, take-append-le, take_all, one_row_more)
+    search (
+      rules,
+      add-one,
+      suc-mul,
+      length-append,
+      length-take-le,
+      append_assoc,
+      take-append-le,
+      take_all,
+      one_row_more,
+    )
 
 -- Without bad states and constraints, and with all latches at 0 first, frames are copies of inputs, gates and outputs.
 none_uninitialised : (rs : List Reset) → AllByRecursion (λ (r : Reset). r ≡ resets.Zero) rs → uninitialised rs ≡ 0

@@ -63,13 +63,25 @@ pub chained_ordered : (v chain : ℕ) (xs : List ℕ) → IsBelow v chain → Al
     → AreOrderedGates v (chained v chain xs)
 chained_ordered v chain [] below all = tt
 chained_ordered v chain (x ∷ xs) below all =
-    search (rules, lower_operands, add-one, all_below_more, chained_ordered (v + 1) (literal_of v) xs (omega arith) (all_below_more v (v + 1) (omega arith) xs all.1))
+    search (
+      rules,
+      lower_operands,
+      add-one,
+      all_below_more,
+      chained_ordered (v + 1) (literal_of v) xs (omega arith) (all_below_more v (v + 1) (omega arith) xs all.1),
+    )
 
 pub guarded_ordered : (v chain : ℕ) (xs : List ℕ) → IsBelow v chain → AllByRecursion (IsBelow v) xs
     → AreOrderedGates v (guarded v chain xs)
 guarded_ordered v chain [] below all = tt
 guarded_ordered v chain (x ∷ xs) below all =
-    search (rules, lower_operands, add-one, all_below_more, guarded_ordered (v + 1) chain xs (omega arith) (all_below_more v (v + 1) (omega arith) xs all.1))
+    search (
+      rules,
+      lower_operands,
+      add-one,
+      all_below_more,
+      guarded_ordered (v + 1) chain xs (omega arith) (all_below_more v (v + 1) (omega arith) xs all.1),
+    )
 
 module _ (c : Circuit) (frames : ℕ) (ordered : AreOrderedGates (own_gates c) c.gates)
     (next_below : AllByRecursion (IsBelow (own_end c frames)) (next_of c))

@@ -164,7 +164,8 @@ module _ (c : Circuit) (formed : IsWellFormed c) (ordered : IsInBinaryOrder c) (
 
   one_more : (n : ℕ) (rows : List Row) → FramesShow c a frames (suc t) n held_then rows
       → FramesShow c a frames t (suc n) held (row ∷ rows)
-  one_more n rows later_show = search (rules, joined, frame_holds, map-append, outputs_carried, given, gates_there, frame_bad)
+  one_more n rows later_show =
+      search (rules, joined, frame_holds, map-append, outputs_carried, given, gates_there, frame_bad)
 
 module _ (c : Circuit) (formed : IsWellFormed c) (ordered : IsInBinaryOrder c) (a : ℕ → Val) (constant : a 0 ≡ Zero)
     (frames : ℕ) where

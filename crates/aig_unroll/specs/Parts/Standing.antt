@@ -17,9 +17,9 @@ stood standing first literal =
     else 2 * first + (literal - 2 * length standing)
 
 -- Where the table has so many places, what stands for the literal is not too large.
-abbrev pub HasRoom : ℕ → ℕ → ℕ → Type 0
-HasRoom places first literal = first + variable_of literal ≤ LARGEST + places
+abbrev pub FitsLiteral : ℕ → ℕ → ℕ → Type 0
+FitsLiteral places first literal = first + variable_of literal ≤ LARGEST + places
 
 pub record GateHasRoom (places first : ℕ) (g : Gate) : Type 0 where
-  pub left : HasRoom places first g.left
-  pub right : HasRoom places first g.right
+  pub left : FitsLiteral places first g.left
+  pub right : FitsLiteral places first g.right

@@ -13,7 +13,7 @@ abbrev pub gate_room : Circuit → ℕ
 gate_room c = PIECE + length c.constraints + length c.bad
 
 -- It is in frame 0, and there is room for the outputs and the bad states of a frame and for a piece of its gates.
-pub record IsReady (f : Frame) (outputs bad : List ℕ) (gates : List Gate) : Type 0 where
+pub record IsReadyToWrite (f : Frame) (outputs bad : List ℕ) (gates : List Gate) : Type 0 where
   pub first : f.frame ≡ 0
   pub outputs_fit : length outputs ≡ length f.circuit.outputs
   pub bad_fit : length bad ≡ length f.circuit.bad

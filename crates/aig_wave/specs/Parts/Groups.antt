@@ -12,12 +12,12 @@ abbrev pub stretch : Group → List ℕ → List ℕ
 stretch g line = take (g.end - g.start) (drop g.start line)
 
 -- those of a signal stand among them
-abbrev pub IsWithin : Group → Signal → Type 0
-IsWithin g s = (g.start ≤ s.start) × (s.start + s.size ≤ g.end)
+abbrev pub IsSignalWithin : Group → Signal → Type 0
+IsSignalWithin g s = (g.start ≤ s.start) × (s.start + s.size ≤ g.end)
 
 -- those of each signal do
 abbrev pub Covers : Group → List SignalCode → Type 0
-Covers g ts = AllByRecursion (λ t. IsWithin g (signal_in t)) ts
+Covers g ts = AllByRecursion (λ t. IsSignalWithin g (signal_in t)) ts
 
 -- each has one position
 abbrev pub AreBits : List SignalCode → Type 0
@@ -30,6 +30,6 @@ pub record IsGroup (g : Group) (ts : List SignalCode) : Type 0 where
   pub bits : g.bits ≡ true → AreBits ts
 
 -- each group has as many signals as it counts, and there are no others
-abbrev pub AreGroups : List Group → List SignalCode → Type 0
-AreGroups [] ts = ts ≡ []
-AreGroups (g ∷ gs) ts = IsGroup g (take g.count ts) × AreGroups gs (drop g.count ts)
+abbrev pub AreSignalGroups : List Group → List SignalCode → Type 0
+AreSignalGroups [] ts = ts ≡ []
+AreSignalGroups (g ∷ gs) ts = IsGroup g (take g.count ts) × AreSignalGroups gs (drop g.count ts)

@@ -12,13 +12,13 @@ abbrev pub signal_in : SignalCode → Signal
 signal_in t = t.signal
 
 -- what ends a change
-abbrev pub tail_text : Signal → List ℕ
-tail_text s = code s ++ codes "\n"
+abbrev pub change_tail : Signal → List ℕ
+change_tail s = code s ++ codes "\n"
 
 -- it has that text
 pub record IsSignalCode (t : SignalCode) : Type 0 where
   pub short : t.size ≤ TAIL
-  pub text : take t.size t.tail ≡ tail_text (signal_in t)
+  pub text : take t.size t.tail ≡ change_tail (signal_in t)
 
 -- the changes of signals, a line behind another
 abbrev pub changes_text : ℕ → List ℕ → List ℕ → List SignalCode → List ℕ
@@ -26,7 +26,7 @@ changes_text time before line ts = flat_map (λ t. change_text time (frame 0 bef
 
 -- the change of a signal of one position that has this character, behind another
 abbrev pub bit_text : ℕ → ℕ → Signal → List ℕ
-bit_text before bit s = if before == bit then [] else bit ∷ tail_text s
+bit_text before bit s = if before == bit then [] else bit ∷ change_tail s
 
 -- where the character of such a signal stands
 abbrev pub place_of : SignalCode → ℕ

@@ -10,6 +10,7 @@ line_kept s last = take s.kept.room (s.kept.bytes ++ last)
 
 -- A line has ended, and was put.
 pub record TookEnded {W : Type 0} (a b : Waving W) (last : List ℕ) : Type 0 where
-  pub dump_state : b.dump_state ≡ record a.dump_state { point = behind_line a.dump_state.layout a.dump_state.point (line_kept a last) }
+  pub dump_state : b.dump_state
+      ≡ record a.dump_state { point = behind_line a.dump_state.layout a.dump_state.point (line_kept a last) }
   pub kept : b.kept ≡ record a.kept { bytes = [] }
   pub put : Put a.output b.output (line_piece a.dump_state.layout a.dump_state.point (line_kept a last))

@@ -11,10 +11,10 @@ use Rattle.aig_lines.specs.Feeding.{Turn, turn}
 use Rattle.aig_rows.specs.Spelling.{is_digit, value_of as number_of}
 use Rattle.aig_witness.specs.declared.checker.Due.{Due}
 use Rattle.aig_witness.specs.declared.checker.Due.TheVariants as due
-use Rattle.aig_witness.specs.declared.search.Search.{Search}
+use Rattle.aig_witness.specs.declared.search.StepSearch.{StepSearch}
 use Rattle.aig_witness.specs.declared.verdict.Verdict.{Verdict}
 use Rattle.aig_witness.specs.declared.verdict.Verdict.TheVariants.{Confirmed, NotConfirmed}
-use Rattle.aig_witness.specs.Witness.{Claim, Holds, IsVerdictOf, Nothing, Property, Said, Shape, Steps, Version, Whole}
+use Rattle.aig_witness.specs.Witness.{Claim, IsHeld, IsVerdictOf, Nothing, Property, Said, Shape, Steps, Version, Whole}
 use Rattle.aig_witness.specs.Witness.{first_state_in, property_in, said_with, shape_of}
 use Rattle.aig_step.specs.Stimulus.{Stop, entry_in}
 use Rattle.aig_step.specs.Parts.Lines.{vector_in}
@@ -28,7 +28,7 @@ abbrev pub are_ones : List Val → Bool
 are_ones values = list_all is_one values
 
 -- the search, with one more step that was looked at: whether the bad state is 1 there, and whether all constraints are
-abbrev pub looked : Search → Bool → Bool → Search
+abbrev pub looked : StepSearch → Bool → Bool → StepSearch
 looked s is_bad hold = record {
   literal = s.literal;
   steps = s.steps + 1;
@@ -51,7 +51,7 @@ pub record Witnessing : Type 0 where
   pub circuit : Circuit
   pub due : Due
   pub state : List Val
-  pub search : Search
+  pub search : StepSearch
 
 -- a step was taken with the inputs that a text says, and was looked at
 pub record StepTaken (before after : Witnessing) (text : List ℕ) : Type 0 where
@@ -89,7 +89,7 @@ TookEntry before after text =
     ⊎ ((entry_in (length before.circuit.inputs) text ≡ Some Stop) × (after ≡ record before { due = due.Nothing }))
 
 -- no step was looked at
-pub record IsUnbegun (s : Search) : Type 0 where
+pub record IsUnbegun (s : StepSearch) : Type 0 where
   pub steps : s.steps ≡ 0
   pub holds : s.holds ≡ true
   pub found : s.found ≡ None
@@ -100,10 +100,10 @@ pub record Seeks (w : Witnessing) (property : ℕ) : Type 0 where
   pub literal : w.search.literal ≡ slice_index_or w.circuit.bad property 0
 
 -- what was found in these rows
-pub record Tells (property : ℕ) (rows : List Row) (s : Search) : Type 0 where
+pub record TellsRows (property : ℕ) (rows : List Row) (s : StepSearch) : Type 0 where
   pub steps : s.steps ≡ length rows
-  pub held : s.holds ≡ true → All Holds rows
-  pub broken : s.holds ≡ false → ¬ All Holds rows
+  pub held : s.holds ≡ true → All IsHeld rows
+  pub broken : s.holds ≡ false → ¬ All IsHeld rows
   pub found : IsVerdictOf property rows (verdict_of s.found)
 
 -- the claim was followed step by step
@@ -112,27 +112,27 @@ pub record Follows (w : Witnessing) (claim : Claim) : Type 0 where
   pub rows : List Row
   pub trace : IsTrace w.circuit claim.first claim.steps rows
   pub state : w.state ≡ state_after claim.first rows
-  pub tells : Tells claim.property rows w.search
+  pub tells : TellsRows claim.property rows w.search
 
 -- where it stands when this was said
-abbrev pub Stands : Witnessing → Said → Type 0
-Stands w Nothing = (w.due ≡ due.Version) × IsUnbegun w.search
-Stands w Version = (w.due ≡ due.Property) × IsUnbegun w.search
-Stands w (Property property) = (w.due ≡ due.FirstState) × IsUnbegun w.search × Seeks w property
-Stands w (Steps claim) = (w.due ≡ due.Steps) × Follows w claim
-Stands w (Whole claim) = (w.due ≡ due.Nothing) × Follows w claim
+abbrev pub StandsWhen : Witnessing → Said → Type 0
+StandsWhen w Nothing = (w.due ≡ due.Version) × IsUnbegun w.search
+StandsWhen w Version = (w.due ≡ due.Property) × IsUnbegun w.search
+StandsWhen w (Property property) = (w.due ≡ due.FirstState) × IsUnbegun w.search × Seeks w property
+StandsWhen w (Steps claim) = (w.due ≡ due.Steps) × Follows w claim
+StandsWhen w (Whole claim) = (w.due ≡ due.Nothing) × Follows w claim
 
 -- a line of this text was taken, behind what was said before
 pub record TookDue (before after : Witnessing) (said : Said) (text : List ℕ) : Type 0 where
   pub next : Said
   pub is : said_with (shape_of before.circuit) said text ≡ Some next
-  pub stands : Stands after next
+  pub stands : StandsWhen after next
   pub circuit : after.circuit ≡ before.circuit
 
 -- a line of this text is not due, behind what was said before, and that still stands
 pub record NotDue (before after : Witnessing) (said : Said) (text : List ℕ) : Type 0 where
   pub none : said_with (shape_of before.circuit) said text ≡ None
-  pub stands : Stands after said
+  pub stands : StandsWhen after said
   pub circuit : after.circuit ≡ before.circuit
 
 -- how long a line may be: none that is due is longer
@@ -158,4 +158,4 @@ hear_line h text = said_turn h.circuit h.said (said_with (shape_of h.circuit) h.
 
 -- what judges lines stands where this was said
 abbrev pub HasHeard : Witnessing → Hearing → Type 0
-HasHeard w h = (w.circuit ≡ h.circuit) × Stands w h.said
+HasHeard w h = (w.circuit ≡ h.circuit) × StandsWhen w h.said

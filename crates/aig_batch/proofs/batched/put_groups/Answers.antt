@@ -26,10 +26,9 @@ loop-group-preserved g c =
     ∙ ap (λ (r : List Run). take i groups ++ r ∷ []) (sym is_group) in
     let asks = ap (λ (s : LaneColumns). s.columns) c.run_group.ensures.same.shown ∙ c.loop-group.invariant.asks in
     record {
-      is = c.run_group.ensures.is;
       asks = asks;
       room = λ k d below.
-          room_stays c.loop-group.bench c.run_group.new.bench (get_or groups k d) c.run_group.ensures.same
+          room_stays machine c.loop-group.bench c.run_group.new.bench (get_or groups k d) c.run_group.ensures.same
           (c.loop-group.invariant.room k d below);
       put =
           subst
@@ -44,5 +43,5 @@ loop-group-preserved g c =
 
 pub run_group-requires-clause-room : goal.run_group-requires-clause-room
 run_group-requires-clause-room g c =
-    subst (HasRoomFor c.loop-group.bench) (sym (c.as_slice.ensures ∙ c.group-item.is))
+    subst (HasRoomFor c.args.machine.now c.loop-group.bench) (sym (c.as_slice.ensures ∙ c.group-item.is))
     (c.loop-group.invariant.room c.loop-group.group-index c.group-item.result c.loop-group-test.true)

@@ -1,31 +1,26 @@
 use Rattle.std.proofs.Common.{◌≡◌, ◌∙◌, List, ap, length, sym, subst, ℕ, All}
 use Rattle.aig_circuit.specs.declared.circuit.Circuit.{Circuit}
 use Rattle.aig_lanes.specs.declared.run.Run.{Run}
-use Rattle.aig_lanes.specs.Parts.Benches.{Fits, HasRoomFor}
+use Rattle.aig_lanes.specs.Parts.Benches.{HasRoomFor}
 use Rattle.aig_step.specs.Parts.Lines.{line_size}
 use Rattle.aig_step.proofs.LineValues.{same_size}
-use Rattle.aig_batch.specs.Parts.RunsRead.{Says, entries_of_groups}
+use Rattle.aig_batch.specs.Parts.RunsRead.{SaysEntries, entries_of_groups}
 use Rattle.aig_batch.proofs.batched.trace_collected.Goals as goal
 
 -- what is said of groups is said where they are passed on
 says_of : (circuit : Circuit) (bytes rest : List ℕ) (inputs : ℕ) (groups passed : List (List Run))
-    → inputs ≡ length circuit.inputs → passed ≡ groups → Says inputs bytes (entries_of_groups groups) rest
-    → Says (length circuit.inputs) bytes (entries_of_groups passed) rest
+    → inputs ≡ length circuit.inputs → passed ≡ groups → SaysEntries inputs bytes (entries_of_groups groups) rest
+    → SaysEntries (length circuit.inputs) bytes (entries_of_groups passed) rest
 says_of circuit bytes rest inputs groups passed count same says = rw (← count, same) says
 
 pub trace_good-sent-requires-clause-room : goal.trace_good-sent-requires-clause-room
 trace_good-sent-requires-clause-room g c =
-    subst (λ (groups : List (List Run)). All (HasRoomFor c.in-Ok-new.bench) groups)
-    (c.deref.ensures.value ∙ sym c.deref-2.ensures.value) c.in-Ok-new.ensures.room
+    subst (λ (k : Circuit). All (HasRoomFor k c.in-Ok-new.bench) c.deref-2.result.now) c.machine.ensures
+    (subst (λ (groups : List (List Run)). All (HasRoomFor c.machine.result.now c.in-Ok-new.bench) groups)
+    (c.deref.ensures.value ∙ sym c.deref-2.ensures.value) c.in-Ok-new.ensures.room)
 
 pub new-requires-clause-line : goal.new-requires-clause-line
 new-requires-clause-line g c =
     c.line_room.ensures.size
     ∙ same_size c.args.checked.now c.args.reader.tracing.circuit c.line_room.ensures.formed c.requires.same
     ∙ ap line_size (sym c.machine.ensures)
-
-pub trace_good-sent-requires-clause-counts : goal.trace_good-sent-requires-clause-counts
-trace_good-sent-requires-clause-counts g c =
-    subst (λ (k : Circuit). All (All (Fits k)) c.deref-2.result.now) c.machine.ensures
-    (subst (λ (groups : List (List Run)). All (All (Fits c.machine.result.now)) groups)
-    (c.deref.ensures.value ∙ sym c.deref-2.ensures.value) c.in-Ok-new.ensures.fits)

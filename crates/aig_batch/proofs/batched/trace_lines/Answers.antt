@@ -10,7 +10,7 @@ returns g c = λ circuit means none.
     let output = c.new.result in
     let all = put_behind circuit tracing.circuit tracing bytes bytes [] output output _ means means
     (record { parted = refl }) none (record { text = []; put = put_nothing output; goes = (refl, refl) })
-    c.put_text.ensures in
+    c.put_trace_text.ensures in
     let found = sent_so circuit tracing.columns bytes _ _ _ _ c.finish-sent.result.0 all c.new.ensures refl refl
     c.finish-sent.ensures.put refl refl in
     search rules

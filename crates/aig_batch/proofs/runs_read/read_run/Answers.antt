@@ -3,7 +3,7 @@ use Rattle.std.specs.List.{All}
 use Rattle.aig_circuit.specs.declared.value.Val.{Val}
 use Rattle.aig_step.specs.Stimulus.{without_return}
 use Rattle.aig_step.specs.Parts.Lines.{vector_in}
-use Rattle.aig_batch.specs.Parts.RunsRead.{HasNoBadLine, Says, entries_of_run}
+use Rattle.aig_batch.specs.Parts.RunsRead.{HasNoBadLine, SaysEntries, entries_of_run}
 use Rattle.aig_lanes.specs.Parts.Vectors.{vectors_in}
 use Rattle.aig_batch.proofs.Side.RunsRead.{good_line, is_step, one_step, rest_more, run_ends, vectors_are, vectors_more}
 use Rattle.aig_lanes.proofs.Side.Sheets.{vectors_fit}
@@ -17,7 +17,7 @@ returns-then-is_stop-clause-says c =
     let text : c.without_return.result.now ≡ without_return (take c.in-Some.next before) =
     c.without_return.ensures ∙ ap without_return c.split_at.ensures.front in
     subst
-    (λ (vs : List (List Val)). Says c.args.inputs bytes (entries_of_run (record { steps = vs })) more)
+    (λ (vs : List (List Val)). SaysEntries c.args.inputs bytes (entries_of_run (record { steps = vs })) more)
     (sym c.new.ensures)
     (run_ends c.args.inputs bytes
     (vectors_in c.args.inputs c.first_line_len-stride.result c.loop-next.steps bytes) before more c.in-Some.next
@@ -62,7 +62,13 @@ loop-next-preserved c =
           c.loop-next.invariant.rest_is c.in-Some.ensures c.if-next-stride.false here) here;
       good = subst (HasNoBadLine inputs) (sym behind)
           (good_line inputs before next c.in-Some.ensures c.loop-next.invariant.good).1;
-      shorter = omega (arith, c.loop-next.invariant.shorter, c.split_at.ensures.back_len, c.split_at-in-Some.ensures.back_len);
+      shorter =
+          omega (
+            arith,
+            c.loop-next.invariant.shorter,
+            c.split_at.ensures.back_len,
+            c.split_at-in-Some.ensures.back_len,
+          );
       are = vectors_more inputs stride steps next bytes before vector c.loop-next.invariant.are
           c.loop-next.invariant.rest_is c.in-Some.ensures c.if-next-stride.false here;
       rest_is = behind

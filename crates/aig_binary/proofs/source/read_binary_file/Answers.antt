@@ -15,28 +15,28 @@ pub returns-in_err-circuit : goal.returns-in_err-circuit
 returns-in_err-circuit g c = λ before is.
     let h = err_from_is_err_and c.from_residual-in_err-circuit.result c.from_residual-in_err-circuit.ensures.1 in
     rw (h.1, h.2)
-    (is_refused c.args.limits.max_var c.args.window c.read_front.new.window (rest_of c.in-Some.reader) _ _
+    (is_refused c.args.limits.max_var c.args.window c.begin_reader.new.window (rest_of c.in-Some.reader) _ _
     (rw c.in-Some.is at c.in_ok-front.ensures.begun) c.in_err-circuit.field-0.0 before _ is c.requires.binary
     c.in_err-circuit.ensures)
 
 pub from_well_ordered-requires-clause-well_formed : goal.from_well_ordered-requires-clause-well_formed
 from_well_ordered-requires-clause-well_formed g c =
-    is_well_formed c.args.limits.max_var c.args.window c.read_front.new.window (rest_of c.in-Some.reader) _ _
+    is_well_formed c.args.limits.max_var c.args.window c.begin_reader.new.window (rest_of c.in-Some.reader) _ _
     (rw c.in-Some.is at c.in_ok-front.ensures.begun) c.in_ok-circuit.circuit _ c.in_ok-circuit.ensures
 
 pub from_well_ordered-requires-clause-in_order : goal.from_well_ordered-requires-clause-in_order
 from_well_ordered-requires-clause-in_order g c =
-    is_ordered c.args.limits.max_var c.args.window c.read_front.new.window (rest_of c.in-Some.reader) _ _
+    is_ordered c.args.limits.max_var c.args.window c.begin_reader.new.window (rest_of c.in-Some.reader) _ _
     (rw c.in-Some.is at c.in_ok-front.ensures.begun) c.in_ok-circuit.circuit _ c.in_ok-circuit.ensures
 
 pub returns : goal.returns
 returns g c = λ before is.
     rw (c.into_checked.ensures.value ∙ c.from_well_ordered.ensures)
-    (is_file c.args.limits.max_var c.args.window c.read_front.new.window (rest_of c.in-Some.reader) _ _
+    (is_file c.args.limits.max_var c.args.window c.begin_reader.new.window (rest_of c.in-Some.reader) _ _
     (rw c.in-Some.is at c.in_ok-front.ensures.begun) c.in_ok-circuit.circuit _ c.in_ok-circuit.ensures before is)
 
 pub returns-in_default : goal.returns-in_default
 returns-in_default g c = λ before is.
     c.read_whole.ensures before
-    (all_held c.args.window c.read_front.new.window c.in_ok-front.more before _ _ is
+    (all_held c.args.window c.begin_reader.new.window c.in_ok-front.more before _ _ is
     (rw c.in_default.is at c.in_ok-front.ensures.begun))

@@ -28,7 +28,8 @@ check_read-requires g c =
     c.begin-reader.result.1 c.begin-reader.result.0 (sym c.as_slice.ensures ∙ c.ended_lines.ensures.cut)
     c.ended_lines.ensures.ended (omega (arith, none)) (sym c.first_word_is.ensures ∙ c.if-first_word_is.false)
     c.begin-reader.ensures.within c.begin-reader.ensures.on c.pass.new.self c.pass.ensures in
-    in_form c.args.limits.max_var c.in_ok-first.first c.pass.new.self c.begin-reader.result.0 begin c.in_ok-circuit.circuit
+    in_form c.args.limits.max_var c.in_ok-first.first c.pass.new.self c.begin-reader.result.0 begin
+    c.in_ok-circuit.circuit
     _ _ c.in_ok-circuit.ensures
 
 pub returns-in_err-check_read : goal.returns-in_err-check_read
@@ -44,7 +45,8 @@ returns-in_err-check_read g c =
     c.ended_lines.ensures.ended (omega (arith, none)) (sym c.first_word_is.ensures ∙ c.if-first_word_is.false)
     c.begin-reader.ensures.within c.begin-reader.ensures.on c.pass.new.self c.pass.ensures in
     let all =
-    checked c.args.limits.max_var c.in_ok-first.first c.pass.new.self c.begin-reader.result.0 begin c.in_ok-circuit.circuit
+    checked c.args.limits.max_var c.in_ok-first.first c.pass.new.self c.begin-reader.result.0 begin
+    c.in_ok-circuit.circuit
     _ _ _ (Err c.in_err-check_read.field-0.0) first c.in_ok-circuit.ensures c.in_err-check_read.ensures in
     rw (h.1, h.2) all
 
@@ -59,7 +61,8 @@ returns g c =
     c.ended_lines.ensures.ended (omega (arith, none)) (sym c.first_word_is.ensures ∙ c.if-first_word_is.false)
     c.begin-reader.ensures.within c.begin-reader.ensures.on c.pass.new.self c.pass.ensures in
     let all =
-    checked c.args.limits.max_var c.in_ok-first.first c.pass.new.self c.begin-reader.result.0 begin c.in_ok-circuit.circuit
+    checked c.args.limits.max_var c.in_ok-first.first c.pass.new.self c.begin-reader.result.0 begin
+    c.in_ok-circuit.circuit
     _ _ _ (Ok c.in_ok-check_read.field-0) first c.in_ok-circuit.ensures c.in_ok-check_read.ensures in
     all
 

@@ -11,5 +11,5 @@ pub returns : goal.returns
 unfolding binary_text
 returns g c =
     put_twice _ _ _ _ _ (rw c.header_numbers.ensures at c.put_header.ensures)
-    (put_twice _ _ _ _ _ c.put_lines.ensures
+    (put_twice _ _ _ _ _ c.put_front_lines.ensures
     (put_twice _ _ _ _ _ (rw c.as_slice.ensures at c.put_gates.ensures) c.put_tail.ensures))

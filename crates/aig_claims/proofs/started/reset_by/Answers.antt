@@ -6,7 +6,7 @@ pub loop-i-preserved : goal.loop-i-preserved
 loop-i-preserved c =
     let i = c.loop-i.i in
     let next : i + 1 ≡ suc i = omega arith in
-    rw (c.loop-i.invariant, c.reset_of.ensures, next)
+    rw (c.loop-i.invariant, c.reset_by_character.ensures, next)
     (next_reset c.args.text.now i c.args.latches.now c.index-latches-i.result
     (omega (arith, c.loop-i-test.true, c.min-i-end.ensures)) (omega (arith, c.loop-i-test.true, c.min-i-end.ensures)))
 

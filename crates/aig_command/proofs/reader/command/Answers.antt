@@ -13,20 +13,22 @@ read_matches-requires c =
 
 pub returns-in-Ok-clause-ok : goal.returns-in-Ok-clause-ok
 returns-in-Ok-clause-ok c =
-    taken_command (texts c.args.words.now) c.in-Ok.matches c.in-Ok.ensures.matches c.in-Ok.ensures.kinds c.read_matches.result
+    taken_command (texts c.args.words.now) c.in-Ok.matches c.in-Ok.ensures.matches c.in-Ok.ensures.kinds
+    c.read_matches.result
     c.read_matches.ensures.answer
 
 pub returns-in-Ok-clause-err : goal.returns-in-Ok-clause-err
 returns-in-Ok-clause-err c =
-    taken_usage (texts c.args.words.now) c.in-Ok.matches c.in-Ok.ensures.matches c.in-Ok.ensures.kinds c.read_matches.result
+    taken_usage (texts c.args.words.now) c.in-Ok.matches c.in-Ok.ensures.matches c.in-Ok.ensures.kinds
+    c.read_matches.result
     c.read_matches.ensures.answer
 
 pub returns-in-Err-clause-ok : goal.returns-in-Err-clause-ok
 returns-in-Err-clause-ok c =
     refused_command (texts c.args.words.now) (kind_of c.in-Err.error) c.in-Err.ensures.passes c.in-Err.ensures.kinds
-    c.not_taken.result c.not_taken.ensures.answer
+    c.error_answer.result c.error_answer.ensures.answer
 
 pub returns-in-Err-clause-err : goal.returns-in-Err-clause-err
 returns-in-Err-clause-err c =
     refused_usage (texts c.args.words.now) (kind_of c.in-Err.error) c.in-Err.ensures.passes c.in-Err.ensures.kinds
-    c.not_taken.result c.not_taken.ensures.answer
+    c.error_answer.result c.error_answer.ensures.answer

@@ -15,10 +15,10 @@ show-requires-clause-below c =
     let shown = c.args.shown.now in
     let size = length c.assign_lanes.new.table / 2 in
     let is : 1 + c.parts-parts.result.now.max_var ≡ size =
-    omega (arith, parts.max_var, c.requires.table, c.assign_lanes.auto.table, c.put_vectors.auto.planes) in
+    omega (arith, parts.max_var, c.requires.tables.table_size, c.assign_lanes.auto.table, c.put_vectors.auto.planes) in
     let P = IsLiteralBelow (1 + c.parts-parts.result.now.max_var) in
     subst (λ (n : ℕ). All (IsLiteralBelow n) shown.literals.items) is
-    (subst (All P) (sym c.requires.shows.literals)
+    (subst (All P) (sym c.requires.tables.shows.literals)
     (literals_below (1 + c.parts-parts.result.now.max_var) shown.columns c.args.machine.now (record {
       outputs = subst (All P) parts.outputs parts.below.outputs;
       next = subst (All (λ (l : Latch). P l.next)) parts.latches parts.below.next;
@@ -27,27 +27,29 @@ show-requires-clause-below c =
     })))
 
 pub returns-clause-stands : goal.returns-clause-stands
-returns-clause-stands c j run lane fits bits room stood =
+returns-clause-stands c j run held stood =
     let state_now = c.show.new.state in
     let step = c.args.step in
     let shown = c.args.shown.now in
     let machine = c.args.machine.now in
     let parts = c.parts-parts.ensures in
     stands_on machine run step j c.args.table.now c.put_vectors.new.planes c.assign_lanes.new.table
-    c.args.state.now state_now shown c.args.sheet.now c.show.new.sheet c.requires.shows fits room stood (record {
+    c.args.state.now state_now shown c.args.sheet.now c.show.new.sheet c.requires.tables.shows held.fits
+    held.room stood (record {
       put = λ values has is.
-          c.put_vectors.ensures j (get_or run.steps step []) values lane
-          (fits step [] has ∙ sym (ap length parts.inputs) ∙ sym c.len.ensures)
-          (λ block inside. bits block inside step no_word has) is;
+          c.put_vectors.ensures j (get_or run.steps step []) values held.is_lane
+          (held.fits step [] has ∙ sym (ap length parts.inputs) ∙ sym c.len.ensures)
+          (λ block inside. held.stands block inside step no_word has) is;
       assign = λ given values start long is from. c.assign_lanes.ensures j given values start long is from;
       show = λ values start is from.
           subst (λ (ls : List ℕ). IsLane j state_now (map (literal_value (read_from values)) ls))
-          (next_last machine shown c.requires.shows) (c.show.ensures.state j values start is from);
+          (next_last machine shown c.requires.tables.shows) (c.show.ensures.state j values start is from);
     })
-    (c.show.ensures.front j lane)
+    (c.show.ensures.front j held.is_lane)
     (λ values has is.
-    c.show.ensures.text j values lane
-    (omega (arith, steps_within step (length run.steps) (length shown.literals.items) has, room)) is)
+    c.show.ensures.text j values held.is_lane
+    (omega (arith, steps_within step (length run.steps) (length shown.literals.items) has, held.room)) is)
 
 pub show-requires-clause-state : goal.show-requires-clause-state
-show-requires-clause-state c = omega (arith, c.requires.state, simp length-map at (ap length c.requires.shows.resets))
+show-requires-clause-state c =
+    omega (arith, c.requires.tables.state_size, simp length-map at (ap length c.requires.tables.shows.resets))

@@ -13,18 +13,24 @@ take_step-requires-clause-fits c =
 
 pub loop-step-preserved : goal.loop-step-preserved
 loop-step-preserved c = record {
-  stand = λ j run lane fits bits room start.
-      c.take_step.ensures.stands j run lane fits bits (omega (arith, c.loop-step.invariant.same j, room))
-      (c.loop-step.invariant.stand j run lane fits bits room start);
+  stand = λ j run held start.
+      c.take_step.ensures.stands j run
+      (record {
+        is_lane = held.is_lane;
+        fits = held.fits;
+        stands = held.stands;
+        room = omega (arith, c.loop-step.invariant.same j, held.room);
+      })
+      (c.loop-step.invariant.stand j run held start);
   table = c.take_step.auto.table ∙ c.loop-step.invariant.table;
   state = c.take_step.auto.state ∙ c.loop-step.invariant.state;
   same = λ l. c.take_step.ensures.same l ∙ c.loop-step.invariant.same l;
 }
 
 pub returns-clause-stands : goal.returns-clause-stands
-returns-clause-stands c j run lane fits bits room first =
+returns-clause-stands c j run held first =
     let end : c.loop-step.step ≡ c.args.steps = omega (arith, c.loop-step-test.false, c.loop-step.auto.step-end) in
     subst
     (λ (n : ℕ). LaneStands c.args.machine.now run n j c.loop-step.table c.loop-step.state c.args.shown.now
     c.loop-step.sheet)
-    end (c.loop-step.invariant.stand j run lane fits bits room first)
+    end (c.loop-step.invariant.stand j run held first)

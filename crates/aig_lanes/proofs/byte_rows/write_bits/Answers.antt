@@ -16,14 +16,14 @@ loop-i-preserved c =
     let ones = c.args.ones.now in
     let zeros = c.args.zeros.now in
     let text = bytes_text place (rows_with ones zeros) in
-    let x = c.character.result in
+    let x = c.lane_character.result in
     let below : i < length ones = c.loop-i-test.true in
     let long : i < length text = omega (arith, below, text_long place (rows_with ones zeros) c.requires.same) in
     let next : at + (i + 1) ≡ at + i + 1 = omega arith in
     let here : get_or text i 0 ≡ x =
     get_or-zip2 (λ (high low : ℕ). character_by (bit_at high place) (bit_at low place)) ones zeros i 0 0 0 below
     (omega (arith, below, c.requires.same))
-    ∙ sym (c.character.ensures place (shifted_byte place c.requires.lane)) in
+    ∙ sym (c.lane_character.ensures place (shifted_byte place c.requires.lane)) in
     record {
       text =
           ap (λ (n : ℕ). take n (set line (at + i) x)) next

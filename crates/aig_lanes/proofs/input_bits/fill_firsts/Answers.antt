@@ -26,8 +26,8 @@ word_of-requires c =
       length-map vector character_of,
     )
 
-pub put_first-requires : goal.put_first-requires
-put_first-requires c =
+pub put_first_word-requires : goal.put_first_word-requires
+put_first_word-requires c =
     let lanes = c.loop-lane.lanes in
     let at = c.loop-lane.lane in
     let inside : at < length lanes = omega (arith, c.loop-lane-test.true, c.loop-lane.auto.lane-end) in
@@ -43,7 +43,7 @@ loop-lane-preserved c =
     let lanes = c.loop-lane.lanes in
     let at = c.loop-lane.lane in
     let before = get_or lanes at c.index-lanes-lane.result in
-    let now = c.put_first.new.self in
+    let now = c.put_first_word.new.self in
     let first = c.args.first in
     let steps = c.args.run.now.steps in
     let vector = step_of c.args.run.now at in
@@ -61,14 +61,14 @@ loop-lane-preserved c =
       holds = λ k.
           put_more (λ i. HoldsInputs first (one_step (step_of c.args.run.now i))) lanes at now [] inside
           (λ i. c.loop-lane.invariant.holds i)
-          (subst (HoldsInputs first (one_step vector)) (sym c.put_first.ensures)
+          (subst (HoldsInputs first (one_step vector)) (sym c.put_first_word.ensures)
           (first_holds first vector before c.word_of.result some
           (subst (λ (t : List ℕ). IsWord first t c.word_of.result)
           (c.text.ensures ∙ ap (λ (n : ℕ). values_text (get_or steps n [])) taken) c.word_of.ensures))) k;
       count = length-set lanes at now ∙ c.loop-lane.invariant.count;
       sizes = λ k.
           same_sizes (λ (ws : List InputWord). length ws) lanes at now [] inside
-          (ap length c.put_first.ensures ∙ length-set before 0 c.word_of.result ∙ ap length was) k
+          (ap length c.put_first_word.ensures ∙ length-set before 0 c.word_of.result ∙ ap length was) k
           ∙ c.loop-lane.invariant.sizes k;
     }
 

@@ -9,4 +9,16 @@ loop-k-init c = search (rules, get_or_default)
 
 pub loop-k-preserved : goal.loop-k-preserved
 loop-k-preserved c =
-    search (rules, length-take-le, length-drop, cases_lt, others_stay, eight_are_put, get_or-take, get_or-drop, lane_stays, before_part, length-set)
+    search (
+      rules,
+      length-take-le,
+      length-drop,
+      cases_lt,
+      others_stay,
+      eight_are_put,
+      get_or-take,
+      get_or-drop,
+      lane_stays,
+      before_part,
+      length-set,
+    )

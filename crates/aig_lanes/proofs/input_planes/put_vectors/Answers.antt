@@ -12,8 +12,8 @@ use Rattle.aig_lanes.proofs.input_planes.put_vectors.Goals.{then-left-lt64, else
 
 pub loop-block-init : goal.loop-block-init
 loop-block-init c = record {
-  lanes = λ k vector values below long words is. c.put_all.ensures k values below is;
-  size = c.put_all.auto.planes;
+  lanes = λ k vector values below long words is. c.put_in_all_lanes.ensures k values below is;
+  size = c.put_in_all_lanes.auto.planes;
 }
 
 pub loop-block-preserved : goal.loop-block-preserved

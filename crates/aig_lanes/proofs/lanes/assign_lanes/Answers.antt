@@ -7,7 +7,7 @@ use Rattle.aig_lanes.specs.Parts.Lanes.{IsLane}
 use Rattle.aig_step.specs.Parts.Machines.{first_gate}
 use Rattle.aig_step.specs.Parts.Tables.{evaluated, placed, read_from}
 use Rattle.aig_step.proofs.Running.Machines.{filled, is_filled, pairs_below, placed_length}
-use Rattle.aig_lanes.proofs.Side.Tables.{lane_length}
+use Rattle.aig_lanes.proofs.Side.Tables.{lane_length, table_stands, values_are}
 use Rattle.aig_lanes.proofs.lanes.assign_lanes.Goals as goal
 
 pub evaluate_lanes-requires-clause-below : goal.evaluate_lanes-requires-clause-below
@@ -38,25 +38,17 @@ returns c l given values before long is from =
     let room : length values ≡ 1 + machine.max_var =
     omega (arith, begun, c.requires.room, lane_length l c.args.table.now start is) in
     let with_state = placed (1 + c.len.result) before start in
-    let full : evaluated (length c.place_lanes.new.planes / 2 - length pairs) pairs with_state
-    ≡ filled machine pairs given before values =
+    let whole = filled machine pairs given before values in
+    let full : evaluated (length c.place_lanes.new.planes / 2 - length pairs) pairs with_state ≡ whole =
     rw (first, count) refl in
     let stand = subst (λ (vs : List Val). IsLane l now vs) full
     (c.evaluate_lanes.ensures l with_state (c.place_lanes.ensures l start before is from)) in
     record {
-      now = record {
-        values = filled machine pairs given before values;
-        stand = stand;
-        size_is =
-            omega (
-              arith,
-              size_too,
-              c.requires.room,
-              lane_length l now (filled machine pairs given before values) stand,
-            );
-      };
+      now = table_stands l now whole stand (1 + machine.max_var)
+          (omega (arith, size_too, c.requires.room, lane_length l now whole stand));
       assigned =
-          subst
-          (λ (k : Circuit). IsStepAssignment k before given (read_from (filled machine pairs given before values)))
-          c.pairs-pairs.ensures.is (is_filled machine pairs can given before values long each room);
+          subst (λ (vs : List Val). IsStepAssignment machine before given (read_from vs))
+          (values_are l now whole stand)
+          (subst (λ (k : Circuit). IsStepAssignment k before given (read_from whole)) c.pairs-pairs.ensures.is
+          (is_filled machine pairs can given before values long each room));
     }

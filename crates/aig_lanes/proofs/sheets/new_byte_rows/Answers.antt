@@ -18,4 +18,5 @@ last_rows byte_rows octet k is =
     ∙ ap (bytes_text (k % 8)) (get_or-append-add byte_rows (octet ∷ []) 0 (rows_with [] []))
 
 pub loop-octet-preserved : goal.loop-octet-preserved
-loop-octet-preserved c = search (rules, length-append, cases_lt, get_or_append_left, rows_with, last_rows, mul-le-mul_right)
+loop-octet-preserved c =
+    search (rules, length-append, cases_lt, get_or_append_left, rows_with, last_rows, mul-le-mul_right)

@@ -8,7 +8,7 @@ pub loop-r-preserved : goal.loop-r-preserved
 loop-r-preserved c =
     let here = c.loop-r.r in
     let rows = c.loop-r.rows in
-    let row = c.bytes_of.result in
+    let row = c.plane_bytes.result in
     record {
       own = λ r octet j below in_plane in_byte. elim (cases_lt r here) [
         | inl less ↦
@@ -20,7 +20,7 @@ loop-r-preserved c =
             rw (sym is)
             (ap (λ (xs : List ℕ). bit_at (get_or xs octet 0) j)
             (get_or-set_same rows here row [] (omega (arith, c.loop-r-test.true, c.loop-r.invariant.size)))
-            ∙ c.bytes_of.ensures octet j in_plane in_byte)
+            ∙ c.plane_bytes.ensures octet j in_plane in_byte)
       ];
       size = length-set rows here row ∙ c.loop-r.invariant.size;
     }

@@ -47,7 +47,8 @@ returns-clause-ok c =
     let comment = comment_behind block c.args.comment.now in
     let found = c.in_ok-gates.ensures.ok.0 in
     let block_is = c.requires.block in
-    let there = put_as_recorded block image block_is.fit _ _ _ found c.requires.variables block_is.placed c.as_slice.ensures
+    let there = put_as_recorded block image block_is.fit _ _ _ found c.requires.variables block_is.placed
+    c.as_slice.ensures
     c.in_ok-gates.ensures.ok.1 in
     let gates = c.in_ok-gates.ensures.ok.3
     ∙ ap₂ (λ (flags : List Bool) (gs : List Gate). exchanged_by flags gs)

@@ -12,17 +12,17 @@ use Rattle.aig_order.proofs.mapped.image_in_order.Goals as goal
 pub new_map_comment-requires-clause-fits : goal.new_map_comment-requires-clause-fits
 new_map_comment-requires-clause-fits c = search (rules, few_before_gates, as_many_inputs, as_many_latches)
 
-pub sorted_with-requires : goal.sorted_with-requires
-sorted_with-requires c = search (rules, definitions_fit, as_many_inputs, as_many_latches, as_many_gates)
+pub sort_with_comment-requires : goal.sort_with_comment-requires
+sort_with_comment-requires c = search (rules, definitions_fit, as_many_inputs, as_many_latches, as_many_gates)
 
-abbrev made_here : goal.After-sorted_with → Circuit
+abbrev made_here : goal.After-sort_with_comment → Circuit
 made_here c =
     made c.args.circuit c.args.renumbering c.requires.good c.requires.of_it c.requires.in_order c.in-Ok.comment
 
-made_is : (c : goal.After-sorted_with) → c.sorted_with.result ≡ made_here c
-made_is c = c.sorted_with.ensures ∙ ap (sorted_with c.in-Ok.comment) c.by_numbers-new.ensures
+made_is : (c : goal.After-sort_with_comment) → c.sort_with_comment.result ≡ made_here c
+made_is c = c.sort_with_comment.ensures ∙ ap (sorted_with c.in-Ok.comment) c.by_numbers-new.ensures
 
-is_ordered : (c : goal.After-sorted_with) → IsWellFormed (made_here c) × IsInBinaryOrder (made_here c)
+is_ordered : (c : goal.After-sort_with_comment) → IsWellFormed (made_here c) × IsInBinaryOrder (made_here c)
 is_ordered c =
     made_is_ordered c.args.circuit c.args.renumbering c.requires.good c.requires.of_it c.requires.in_order
     c.in-Ok.comment
@@ -43,6 +43,6 @@ returns c =
     ∙ ap (mapped_comment (block_by f old)) c.by_numbers-new.ensures in
     let same : c.from_well_ordered.result
     ≡ made old c.args.renumbering c.requires.good c.requires.of_it c.requires.in_order comment =
-    c.from_well_ordered.ensures ∙ c.sorted_with.ensures ∙ ap (sorted_with comment) c.by_numbers-new.ensures in
+    c.from_well_ordered.ensures ∙ c.sort_with_comment.ensures ∙ ap (sorted_with comment) c.by_numbers-new.ensures in
     subst (IsMappedImage old) (sym same)
     (made_is_mapped old c.args.renumbering c.requires.good c.requires.of_it c.requires.in_order comment tells)

@@ -2,14 +2,14 @@ use Rattle.std.proofs.Common.{◌++◌, [], ◌∷◌, Option, Some, map, ap, su
 use Rattle.std.proofs.lemmas.List.{map-append}
 use Rattle.aig_meaning.specs.Meaning.{Row}
 use Rattle.aig_lanes.specs.Runs.{row_of}
-use Rattle.aig_step.specs.Showing.{IsShown, Shows}
+use Rattle.aig_step.specs.Showing.{IsRowShown, Shows}
 use Rattle.aig_runs.proofs.alone.add_step.Goals as goal
 
 pub returns : goal.returns
 returns c =
     let step = c.step.ensures in
     let rows = c.args.rows.now in
-    let is_shown : IsShown c.in-Some.shown step.row =
+    let is_shown : IsRowShown c.in-Some.shown step.row =
     subst (λ (o : Option Row). Shows (Some c.in-Some.shown) o) step.shown c.in-Some.ensures in
     record {
       stepped = record {

@@ -2,26 +2,29 @@ use Rattle.std.proofs.Common.{◌<◌, ◌∙◌, ℕ, List, arith, get_or, leng
 use Rattle.std.proofs.lemmas.Result.{IfOk-weaker}
 use Rattle.aig_lanes.specs.declared.run.Run.{Run}
 use Rattle.aig_lanes.specs.Parts.LaneTexts.{KeepsRun}
-use Rattle.aig_lanes.specs.Parts.Benches.{Fits, HasRoomFor}
-use Rattle.aig_lanes.proofs.Benches.Steps.{fits_shown}
+use Rattle.aig_lanes.specs.Parts.Benches.{HasRoomFor}
+use Rattle.aig_lanes.proofs.Benches.Steps.{fits_shown, room_stays}
 use Rattle.aig_runs.proofs.batch.trace_group.Goals as goal
-
-pub step-requires-clause-fits : goal.step-requires-clause-fits
-step-requires-clause-fits c =
-    subst (All (Fits c.args.machine.now)) (sym c.as_slice.ensures)
-    (c.in_ok-bench.ensures.fits 0 c.args.runs.now (omega arith))
 
 pub step-requires-clause-room : goal.step-requires-clause-room
 step-requires-clause-room c =
-    subst (HasRoomFor c.in_ok-bench.bench) (sym c.as_slice.ensures)
-    (c.in_ok-bench.ensures.room 0 c.args.runs.now (omega arith))
+    subst (HasRoomFor c.args.machine.now c.in_ok-lanes.lanes) (sym c.as_slice.ensures)
+    (c.in_ok-lanes.ensures.room 0 c.args.runs.now (omega arith))
 
 pub take_traces-requires-clause-fits : goal.take_traces-requires-clause-fits
 take_traces-requires-clause-fits c = λ j d below.
-    let fits = subst (All (Fits c.args.machine.now)) c.in_ok-group_of.ensures
-    (c.in_ok-bench.ensures.fits 0 c.args.runs.now (omega arith)) in
-    fits_shown c.args.machine.now c.step.new.self.shown (length (get_or c.args.runs.now j d).steps)
-    c.step.ensures.is.shows (fits j d below)
+    let machine = c.args.machine.now in
+    let room = subst (HasRoomFor machine c.step.new.self) c.in_ok-group_of.ensures
+    (room_stays machine c.in_ok-lanes.lanes c.step.new.self _ c.step.ensures.same
+    (c.in_ok-lanes.ensures.room 0 c.args.runs.now (omega arith))) in
+    fits_shown machine c.step.new.self.shown (length (get_or c.args.runs.now j d).steps) room.is.tables.shows
+    (room.counts j d below)
+
+pub take_traces-requires-clause-room : goal.take_traces-requires-clause-room
+take_traces-requires-clause-room c =
+    (subst (HasRoomFor c.args.machine.now c.step.new.self) c.in_ok-group_of.ensures
+    (room_stays c.args.machine.now c.in_ok-lanes.lanes c.step.new.self _ c.step.ensures.same
+    (c.in_ok-lanes.ensures.room 0 c.args.runs.now (omega arith)))).sheet
 
 pub returns : goal.returns
 returns c =

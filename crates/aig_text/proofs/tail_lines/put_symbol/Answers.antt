@@ -7,4 +7,4 @@ pub push_line-requires : goal.push_line-requires
 push_line-requires c =
     c.requires.bytes ∙ ap (λ (ended : Bool). line_bytes (line c.args.line.text.now ended)) c.if-line.true
     ∙ canonical_line c.args.line.text.now c.args.symbol.now (omega (arith, c.requires.small)) c.requires.symbol
-    (sym c.is_padded.ensures ∙ c.if-not-is_padded.true)
+    (sym c.is_position_padded.ensures ∙ c.if-not-is_position_padded.true)

@@ -2,10 +2,10 @@ use Rattle.std.proofs.lemmas.Result.{err_from_is_err_and}
 use Rattle.aig_tools.proofs.simulation.perform.Goals as goal
 
 pub returns-in-Trace-clause-ran : goal.returns-in-Trace-clause-ran
-returns-in-Trace-clause-ran g c = rw c.in-Trace.is c.trace.ensures.ran
+returns-in-Trace-clause-ran g c = rw c.in-Trace.is c.trace_stimulus.ensures.ran
 
 pub returns-in-Dump-clause-ran : goal.returns-in-Dump-clause-ran
-returns-in-Dump-clause-ran g c = rw c.in-Dump.is c.dump.ensures.ran
+returns-in-Dump-clause-ran g c = rw c.in-Dump.is c.dump_stimulus.ensures.ran
 
 pub returns-in_err-judge-in-Verdict-clause-ran : goal.returns-in_err-judge-in-Verdict-clause-ran
 returns-in_err-judge-in-Verdict-clause-ran g c =

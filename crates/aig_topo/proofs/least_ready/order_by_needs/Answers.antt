@@ -57,7 +57,8 @@ module _ (c : Circuit) (lists : Lists) (counts : List ℕ) (order : Progress)
   module _ (paid : due order ≡ length order.list + sum (map how_many (needs_in lists.rows.items))) where
     pub in_all : due order ≡ length order.list + total c.gates
     in_all =
-        paid ∙ ap (λ ns. length order.list + sum ns) (sym are ∙ counts_are c.gates lists.rows.items counts needs_are are)
+        paid ∙ ap (λ ns. length order.list + sum ns)
+        (sym are ∙ counts_are c.gates lists.rows.items counts needs_are are)
 
     pub few : IsLeastReadyOrder c order.list → order.steps ≤ 3 * length c.gates
     few least =

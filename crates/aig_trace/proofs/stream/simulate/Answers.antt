@@ -9,7 +9,7 @@ use Rattle.aig_trace.proofs.stream.simulate.Goals as goal
 -- what is said of the circuit that is run holds of the one that was given
 pub returns : goal.returns
 returns g c =
-    let ends = rw (c.start-feeder.ensures.lines, c.new-2.ensures, c.in-Ok.ensures.columns)
+    let ends = rw (c.into_line_tracer-feeder.ensures.lines, c.new-2.ensures, c.in-Ok.ensures.columns)
     at c.trace_all-traced.ensures in
     let result = c.trace_all-traced.result in
     record {

@@ -1,10 +1,10 @@
-use Rattle.std.proofs.Common.{◌∙◌, ap, false, refl, sym, true, arith}
+use Rattle.std.proofs.Common.{◌∙◌, ap, refl, sym, arith}
 use Rattle.std.proofs.lemmas.Result.{err_from_is_err_and}
 use Rattle.aig_io.specs.Devices.{failed_once}
 use Rattle.aig_io.specs.Runs.{AtEnd, Broken, Open}
 use Rattle.aig_lines.proofs.Tells.{at_end, reached_more, reached_none}
 use Rattle.aig_trace.specs.Parts.Saying.{say_line}
-use Rattle.aig_trace.specs.Parts.Tracing.{HasTraced, task_of}
+use Rattle.aig_trace.specs.Parts.Tracing.{HasTraced, tracing_task}
 use Rattle.aig_trace.proofs.Ending.{ended_well, ends, interrupted}
 use Rattle.aig_trace.proofs.Traced.{begun, traced_so_far}
 use Rattle.aig_trace.proofs.stream.trace_all.Goals as goal
@@ -24,7 +24,8 @@ pub returns-in_default : goal.returns-in_default
 returns-in_default g c =
     let i = c.loop-count.invariant in
     interrupted _ _ i.reached.bytes Broken _ _ c.loop-count.feeder
-    (traced_so_far (task_of c.args.lines.now) _ _ _ _ i.reached i.settled) c.requires.empty c.requires.fine i.empty _ _
+    (traced_so_far (tracing_task c.args.lines.now) _ _ _ _ i.reached i.settled) c.requires.empty c.requires.fine i.empty
+    _ _
     (c.in_default.ensures.past ∙ ap failed_once i.reached.past) refl i.fine i.going
 
 pub returns-then-count-eq0 : goal.returns-then-count-eq0
@@ -32,7 +33,7 @@ returns-then-count-eq0 g c =
     let r = c.loop-count.invariant.reached in
     let gave = rw c.if-count-eq0.true at c.in-Ok.ensures.past in
     ends _ _ r.bytes AtEnd _ _ c.trace_end.new.feeder
-    (c.trace_end.ensures.traced (task_of c.args.lines.now) r.bytes r.stands) c.requires.empty c.requires.fine
+    (c.trace_end.ensures.traced (tracing_task c.args.lines.now) r.bytes r.stands) c.requires.empty c.requires.fine
     c.trace_end.ensures.empty _ _ (gave ∙ ap at_end r.past) c.trace_end.result tt
     c.trace_end.ensures.ended (λ _. refl)
 
@@ -42,7 +43,7 @@ returns-in_err-trace_chunk g c =
     let now = reached_more say_line HasTraced _ _ _ _ _ _ _ _ _ _ _ _ c.loop-count.invariant.reached
     c.in-Ok.ensures.past (omega arith) c.split_at.ensures.front c.trace_chunk.ensures.fed in
     rw (h.1, h.2)
-    (ends _ _ now.bytes Open _ _ c.trace_chunk.new.feeder (traced_so_far (task_of c.args.lines.now) _ _ _ _ now
+    (ends _ _ now.bytes Open _ _ c.trace_chunk.new.feeder (traced_so_far (tracing_task c.args.lines.now) _ _ _ _ now
     c.trace_chunk.ensures.settled)
     c.requires.empty c.requires.fine c.trace_chunk.ensures.empty _ _ now.past _ tt
     (sym c.in_err-trace_chunk.was ∙ c.trace_chunk.ensures.ended) (λ ok. cc))

@@ -1,7 +1,7 @@
 use Rattle.std.proofs.Common.{◌≡◌, ◌+◌, ◌^◌, ◌≤◌, [], false, length}
 use Rattle.aig_lines.proofs.Tells.{Reached}
 use Rattle.aig_trace.specs.Parts.Saying.{longest_entry, nothing_said, say_line}
-use Rattle.aig_trace.specs.Parts.Tracing.{HasTraced, task_of}
+use Rattle.aig_trace.specs.Parts.Tracing.{HasTraced, tracing_task}
 use Rattle.aig_trace.proofs.stream.trace_all.Given as goal
 
 abbrev pub invariant-loop-count : goal.invariant-loop-count
@@ -9,7 +9,7 @@ invariant-loop-count g l =
     let r = g.R.Source in
     let inputs = length l.fn.lines.tracing.circuit.inputs in
     record {
-      reached : Reached say_line HasTraced (longest_entry inputs) (nothing_said (task_of l.fn.lines) inputs)
+      reached : Reached say_line HasTraced (longest_entry inputs) (nothing_said (tracing_task l.fn.lines) inputs)
           (r.past l.fn.source) (r.past l.source) l.feeder l.lines;
       going : l.feeder.refused ≡ false;
       settled : l.lines.waiting ≡ [];

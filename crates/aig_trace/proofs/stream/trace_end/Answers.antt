@@ -6,11 +6,11 @@ use Rattle.aig_trace.proofs.stream.trace_end.Goals as goal
 pub returns-clause-traced : goal.returns-clause-traced
 returns-clause-traced g c = λ task bytes stands.
     let none = c.settle.ensures.settled in
-    let fed = fed_settled _ _ _ _ (c.end-good.ensures.fed _ stands) c.settle.ensures.same c.settle.ensures.did none in
+    let fed = fed_settled _ _ _ _ (c.end-good.ensures.fed _ stands) c.settle.ensures.did none in
     elim c.if-good.branch [
       | then-good w ↦ traced_all task bytes c.end-good.new.self c.settle.new.self _ fed none true
           (sym w.if-good.true ∙ c.end-good.ensures.result)
-          (put_sent _ _ _ _ w.close.ensures (rw w.lines-is at c.flush-sent.ensures.put))
+          (put_sent _ _ _ _ w.end_run.ensures (rw w.lines-is at c.flush-sent.ensures.put))
       | else-good w ↦ traced_all task bytes c.end-good.new.self c.settle.new.self _ fed none false
           (sym w.if-good.false ∙ c.end-good.ensures.result) (rw w.lines-is at c.flush-sent.ensures.put)
     ]

@@ -28,7 +28,7 @@ pub loop-frame-init : goal.loop-frame-init
 loop-frame-init c =
     let circuit = c.args.copies.circuit in
     let frames = c.args.copies.frames in
-    let put = c.put_frame.ensures in
+    let put = c.place_frame.ensures in
     record {
       at = omega (arith, c.requires.first);
       circuit = refl;
@@ -46,13 +46,13 @@ loop-frame-preserved c =
     let circuit = c.args.copies.circuit in
     let frames = c.args.copies.frames in
     let loop = c.loop-frame in
-    let put = c.put_frame-in-loop-frame in
+    let put = c.place_frame-in-loop-frame in
     let t = loop.frame in
-    let same : c.advance.new.self.circuit ≡ circuit =
-    ap (λ (k : Frame). k.circuit) c.advance.ensures ∙ loop.invariant.circuit in
-    let as_many : c.advance.new.self.frames ≡ frames =
-    ap (λ (k : Frame). k.frames) c.advance.ensures ∙ loop.invariant.frames in
-    let here : c.advance.new.self.frame ≡ t = ap (λ (k : Frame). k.frame) c.advance.ensures ∙ loop.invariant.at in
+    let same : c.enter_next.new.self.circuit ≡ circuit =
+    ap (λ (k : Frame). k.circuit) c.enter_next.ensures ∙ loop.invariant.circuit in
+    let as_many : c.enter_next.new.self.frames ≡ frames =
+    ap (λ (k : Frame). k.frames) c.enter_next.ensures ∙ loop.invariant.frames in
+    let here : c.enter_next.new.self.frame ≡ t = ap (λ (k : Frame). k.frame) c.enter_next.ensures ∙ loop.invariant.at in
     let within : t < frames = omega (arith, c.loop-frame-test.true, c.frames-frame-end.ensures.value) in
     record {
       at = ap (λ n. n + 1) here;

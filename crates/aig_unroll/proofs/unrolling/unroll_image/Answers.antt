@@ -8,8 +8,8 @@ use Rattle.aig_unroll.proofs.InFrame.{all_fit}
 use Rattle.aig_unroll.proofs.Written.{is_unrolled, variables_are}
 use Rattle.aig_unroll.proofs.unrolling.unroll_image.Goals as goal
 
-pub circuit_of-requires : goal.circuit_of-requires
-circuit_of-requires c = search (rules, with_items_is, variables_are, all_fit)
+pub unrolled_circuit-requires : goal.unrolled_circuit-requires
+unrolled_circuit-requires c = search (rules, with_items_is, variables_are, all_fit)
 
 pub returns-in-Ok : goal.returns-in-Ok
 returns-in-Ok c =
@@ -27,7 +27,7 @@ returns-in-Ok c =
     (c.put_frames.auto.outputs ∙ c.deref_mut.ensures.len) in
     let bad =
     with_items_is c.in-Ok.bad c.put_frames.new.bad (c.put_frames.auto.bad ∙ c.deref_mut-in-Ok.ensures.len) in
-    c.circuit_of.ensures
+    c.unrolled_circuit.ensures
     ∙ (λ i. circuit_with inputs (outputs i) (bad i) (gates i))
     ∙ is_unrolled circuit frames inputs c.put_frames.new.outputs c.put_frames.new.bad c.put_frames.new.gates inputs_are
     size

@@ -9,7 +9,7 @@ pub returns : goal.returns
 returns g c =
     let f = c.args.copies.now in
     let count = c.count_gates.result - c.args.at in
-    let made : take count (c.put_gates.new.out ++ drop count c.args.room.now)
+    let made : take count (c.put_gates_from.new.out ++ drop count c.args.room.now)
     ≡ drop c.args.at (gates_at f.circuit f.frames f.frame) = search (rules, length-take-le, take-append-le, take_all) in
     subst (λ (xs : List Gate). Put c.args.output.now c.put_some.new.output (flat_map g.F.GateText.one xs)) made
     c.put_some.ensures

@@ -31,7 +31,8 @@ returns-clause-text c =
     written c.args.bytes.now c.write_text.new.line signal_code.tail c.args.at c.write_text.result c.args.bit
     ((signal_code.size + 1) * count) (omega arith) within
     (c.write_text.ensures.text ∙ ap (λ (t : List ℕ). t ++ signal_code.tail) c.write_text-end.ensures.text)
-    ∙ ap (λ (d : ℕ). take c.args.at c.args.bytes.now ++ take ((signal_code.size + 1) * d) (c.args.bit ∷ signal_code.tail))
+    ∙ ap (λ (d : ℕ). take c.args.at c.args.bytes.now
+    ++ take ((signal_code.size + 1) * d) (c.args.bit ∷ signal_code.tail))
     c.is_other.ensures
     ∙ ap (λ (t : List ℕ). take c.args.at c.args.bytes.now ++ t)
     (chosen same signal_code.size c.args.bit signal_code.tail _ c.requires.signal_code.text)

@@ -5,7 +5,7 @@ use Rattle.aig_wave.specs.declared.group.Group.{Group}
 use Rattle.aig_wave.specs.Frames.{frame}
 use Rattle.aig_wave.specs.Wave.{change_text}
 use Rattle.aig_wave.specs.declared.signal_code.SignalCode.{SignalCode}
-use Rattle.aig_wave.specs.Parts.Groups.{AreGroups}
+use Rattle.aig_wave.specs.Parts.Groups.{AreSignalGroups}
 use Rattle.aig_wave.specs.Parts.SignalCodes.{signal_in}
 use Rattle.aig_wave.proofs.Grouped.{next_group, parted_tags, parted_text}
 use Rattle.aig_wave.proofs.dump_state.put_changes.Goals as goal
@@ -23,7 +23,8 @@ put_new_group-requires-clause-signal_codes g c =
 
 pub loop-group-preserved : goal.loop-group-preserved
 loop-group-preserved g c =
-    let f = λ (t : SignalCode). change_text c.args.time (frame 0 c.args.before.now) (frame 0 c.args.line.now) (signal_in t) in
+    let f = λ (t : SignalCode).
+    change_text c.args.time (frame 0 c.args.before.now) (frame 0 c.args.line.now) (signal_in t) in
     let parts = parted_tags _ c.loop-group.rest.now _ _ c.split.ensures.front c.split.ensures.others
     c.loop-group.invariant.signal_codes in
     record {
@@ -41,5 +42,5 @@ pub returns : goal.returns
 returns g c =
     let none = drop_all c.loop-group.group-index c.args.groups.now (omega arith) in
     let empty : c.loop-group.rest.now ≡ [] =
-    subst (λ (gs : List Group). AreGroups gs c.loop-group.rest.now) none c.loop-group.invariant.groups in
+    subst (λ (gs : List Group). AreSignalGroups gs c.loop-group.rest.now) none c.loop-group.invariant.groups in
     c.loop-group.invariant.left c.loop-group.output (rw empty (put_nothing _))

@@ -10,5 +10,6 @@ returns g c =
     let f = change_text c.args.time (frame 0 c.args.before.line.now) (frame 0 c.args.shown.line.now) in
     put_twice _ _ _ _ _ c.put_head.ensures
     (put_twice _ _ _ _ _ c.put_time.ensures
-    (put_twice _ _ _ _ _ c.put_run.ensures
-    (rw (changes_of f c.signal_codes.result.0.now ∙ ap (flat_map f) c.signal_codes.ensures.signals) at c.put_changes.ensures)))
+    (put_twice _ _ _ _ _ c.put_run_number.ensures
+    (rw (changes_of f c.signal_codes.result.0.now ∙ ap (flat_map f) c.signal_codes.ensures.signals)
+    at c.put_changes.ensures)))

@@ -17,10 +17,12 @@ put_bits-requires g c =
 pub returns-then-has_bits_in-2 : goal.returns-then-has_bits_in-2
 returns-then-has_bits_in-2 g c =
     let are = c.requires.group.bits (c.if-has_bits_in.ensures.bits refl) in
-    let low = in_line c.args.group.now (length c.args.before.now) c.args.signal_codes.now (c.if-has_bits_in.ensures.within refl)
+    let low = in_line c.args.group.now (length c.args.before.now) c.args.signal_codes.now
+    (c.if-has_bits_in.ensures.within refl)
     c.requires.group.covers are in
     let here = in_line c.args.group.now (length c.args.line.now) c.args.signal_codes.now
     (c.if-has_bits_in-2.ensures.within refl) c.requires.group.covers are in
     let late : c.args.time ≢ 0 = omega arith in
-    rw (bits_change c.args.time c.args.before.now c.args.line.now (ne_eqb c.args.time 0 late) c.args.signal_codes.now are low
+    rw (bits_change c.args.time c.args.before.now c.args.line.now (ne_eqb c.args.time 0 late)
+    c.args.signal_codes.now are low
     here) at c.put_bits.ensures

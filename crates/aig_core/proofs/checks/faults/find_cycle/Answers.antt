@@ -29,4 +29,7 @@ returns-in-Some c =
     record { ok = tt; err = inr (ap (option_map Cyclic) (sym first)) }
 
 pub returns-in-None : goal.returns-in-None
-returns-in-None c = record { ok = cyclic_nowhere_there c.args.circuit.now.gates (sym c.in_ok-found.ensures ∙ c.in-None.is); err = tt }
+returns-in-None c = record {
+  ok = cyclic_nowhere_there c.args.circuit.now.gates (sym c.in_ok-found.ensures ∙ c.in-None.is);
+  err = tt;
+}

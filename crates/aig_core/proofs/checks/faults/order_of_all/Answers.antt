@@ -17,7 +17,8 @@ own_literal-requires c =
     let read : c.index-as_slice-gate.result ≡ at gates c.in-Some.gate = c.index-as_slice-gate.is
     ∙ ap (λ gs. get_or gs c.in-Some.gate c.index-as_slice-gate.result) c.as_slice.ensures
     ∙ get_or_default gates c.in-Some.gate c.index-as_slice-gate.result no_gate there in
-    subst (λ (g : Gate). g.var ≤ LARGEST) (sym read) (in_bounds c.args.circuit.now c.requires.in_form c.in-Some.gate there)
+    subst (λ (g : Gate). g.var ≤ LARGEST) (sym read)
+    (in_bounds c.args.circuit.now c.requires.in_form c.in-Some.gate there)
 
 pub returns-in-Some : goal.returns-in-Some
 returns-in-Some c =

@@ -1,10 +1,10 @@
 use Rattle.std.proofs.Common.{◌≡◌, ◌+◌, ◌++◌, ℕ, List, map, take}
-use Rattle.aig_image.specs.Parts.Numbers.{AreNumbered}
+use Rattle.aig_image.specs.Parts.Numbers.{HaveNumbers}
 use Rattle.aig_image.proofs.numbers.Numbers.note_all.Given as goal
 
 abbrev pub invariant-loop-item : goal.invariant-loop-item
 invariant-loop-item g l = record {
   count : l.self.noted ≡ l.fn.self.noted + l.item-index;
-  numbers : (variables : List ℕ) → AreNumbered l.fn.self variables
-      → AreNumbered l.self (variables ++ map g.T.Defines.variable (take l.item-index l.items));
+  numbers : (variables : List ℕ) → HaveNumbers l.fn.self variables
+      → HaveNumbers l.self (variables ++ map g.T.Defines.variable (take l.item-index l.items));
 }

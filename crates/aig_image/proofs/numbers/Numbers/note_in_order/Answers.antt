@@ -1,7 +1,7 @@
 use Rattle.std.proofs.Common.{◌∷◌, ◌++◌, [], subst, take, take_all, ap, arith}
 use Rattle.aig_circuit.specs.declared.circuit.Gate.{Gate}
 use Rattle.aig_topo.proofs.Ordering.Ranked.{variables}
-use Rattle.aig_image.specs.Parts.Numbers.{AreNumbered}
+use Rattle.aig_image.specs.Parts.Numbers.{HaveNumbers}
 use Rattle.aig_image.proofs.Numbering.Kept.{next_over_known, one_more, variables_more}
 use Rattle.aig_image.proofs.numbers.Numbers.note_in_order.Goals as goal
 
@@ -14,9 +14,9 @@ loop-gate-preserved c = record {
       let i = c.loop-gate.gate-index in
       let old = c.loop-gate.self in
       let now = c.note.new.self in (
-        subst (AreNumbered now)
+        subst (HaveNumbers now)
             (variables_more (λ (g : Gate). g.var) before c.args.gates.now i gate c.loop-gate-test.true)
-            (subst (λ x. AreNumbered now ((before ++ variables (take i c.args.gates.now)) ++ x ∷ []))
+            (subst (λ x. HaveNumbers now ((before ++ variables (take i c.args.gates.now)) ++ x ∷ []))
             (ap (λ (g : Gate). g.var) c.gate-item.is)
             (one_more old now gate.var c.in_ok-note.ensures.count c.in_ok-note.ensures.numbers
             (before ++ variables (take i c.args.gates.now)) was.0)),
@@ -29,7 +29,7 @@ loop-gate-preserved c = record {
 pub returns : goal.returns
 returns c = λ _ before numbered.
     let was = c.loop-gate.invariant.numbers before numbered in (
-      subst (λ gates. AreNumbered c.loop-gate.self (before ++ variables gates))
+      subst (λ gates. HaveNumbers c.loop-gate.self (before ++ variables gates))
           (take_all c.loop-gate.gate-index c.args.gates.now c.loop-gate-test.false) was.0,
       λ k there. was.1 k (omega (arith, there, c.loop-gate-test.false)),
     )

@@ -1,7 +1,6 @@
 use Rattle.std.proofs.Common.{◌-◌, rules, arith, sym}
-use Rattle.std.proofs.lemmas.List.{length-take-le, with_items_is}
-use Rattle.aig_lanes.proofs.Side.Eights.{overwritten_part, overwritten_past, overwritten_size, text_size}
-use Rattle.aig_lanes.proofs.Side.Eights.{texts_overwritten}
+use Rattle.std.proofs.lemmas.List.{length-take-le}
+use Rattle.aig_lanes.proofs.Side.Eights.{overwritten_part, overwritten_past, put_rows, text_size}
 use Rattle.aig_lanes.proofs.Side.Sheets.{rows_with, text_long, zip_take}
 use Rattle.aig_lanes.proofs.byte_rows.ByteRows.put_first.Goals as goal
 
@@ -30,7 +29,7 @@ slice_bounds-overwrite-length-then-at-count c =
 
 pub returns-then-at-count : goal.returns-then-at-count
 returns-then-at-count c =
-    search (rules, text_size, rows_with, length-take-le, with_items_is, overwritten_size, texts_overwritten, zip_take, overwritten_part, text_long)
+    search (rules, put_rows, length-take-le, zip_take, overwritten_part, text_long)
 
 pub returns-else-at-count : goal.returns-else-at-count
 returns-else-at-count c = search (rules, overwritten_past, rows_with, text_size)

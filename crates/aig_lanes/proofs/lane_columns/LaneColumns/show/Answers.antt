@@ -10,5 +10,5 @@ returns-clause-state c l values before is from =
     let next : c.split_at.result.1.now
     ≡ drop (length shown.literals.items - length shown.resets.items) shown.literals.items =
     cc (c.split_at.ensures.back, c.len-3.ensures, c.len-4.ensures, c.deref-2.ensures.value) in
-    subst (λ (ls : List ℕ). IsLane l c.put_literals.new.state (map (literal_value (read_from values)) ls)) next
-    (c.put_literals.ensures l values before is from)
+    subst (λ (ls : List ℕ). IsLane l c.put_literal_planes.new.state (map (literal_value (read_from values)) ls)) next
+    (c.put_literal_planes.ensures l values before is from)

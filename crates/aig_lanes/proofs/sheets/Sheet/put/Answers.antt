@@ -13,17 +13,18 @@ pub returns-clause-text : goal.returns-clause-text
 returns-clause-text c = λ l k below in_eight room.
     let at = c.args.at in
     let inside = c.self.inside in
-    let new = c.put_bytes.new.byte_rows in
+    let new = c.put_lane_bytes.new.byte_rows in
     let old = c.deref_mut.result.now in
     let cs = bytes_text (l % 8) (eight_at (l / 8) c.transpose.result c.transpose-2.result) in
     let size : length old ≡ 32 = ap length c.deref_mut.ensures.value ∙ c.self.invariant in
-    let items = with_items_is inside.byte_rows new (c.put_bytes.ensures.size ∙ sym size ∙ c.deref_mut.ensures.len) in
+    let items =
+    with_items_is inside.byte_rows new (c.put_lane_bytes.ensures.size ∙ sym size ∙ c.deref_mut.ensures.len) in
     let before = ap (text_in l) (c.deref_mut.ensures.value ∙ c.self.view_is) in
-    let put = c.put_bytes.ensures.text (l / 8) (l % 8) (rows_with [] []) (omega (arith, below)) in
+    let put = c.put_lane_bytes.ensures.text (l / 8) (l % 8) (rows_with [] []) (omega (arith, below)) in
     let ones = c.transpose.result in
     let zeros = c.transpose-2.result in
-    let all = c.put_bytes.ensures.ones in
-    let all_too = c.put_bytes.ensures.zeros in
+    let all = c.put_lane_bytes.ensures.ones in
+    let all_too = c.put_lane_bytes.ensures.zeros in
     let octet : l / 8 < 32 = omega (arith, below) in
     let place : l % 8 < 8 = omega arith in
     let lane : 8 * (l / 8) + l % 8 ≡ l = omega arith in

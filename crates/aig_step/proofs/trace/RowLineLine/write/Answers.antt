@@ -10,7 +10,7 @@ pub returns-clause-text : goal.returns-clause-text
 returns-clause-text c =
     let s = c.args.stepper.now in
     let state = rw c.state.ensures.is at c.write_values-end.ensures.text in
-    let inputs = rw c.requires.whole at c.write_text-end.ensures.text in
+    let inputs = rw c.requires.whole at c.write_text_column-end.ensures.text in
     let outputs = c.as_slice-outputs.ensures ∙ c.parts.ensures.outputs
     ∙ ap (λ (k : Circuit). k.outputs) c.machine.ensures in
     let column = rw (c.values.ensures.is, outputs) at c.write_column-end.ensures.text in

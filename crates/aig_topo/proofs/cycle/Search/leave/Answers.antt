@@ -16,7 +16,8 @@ returns-clause-search c =
     record {
       within = c.requires.search.within;
       searching = subst (λ w. IsSearching (length pairs) (needs_in pairs) (put states c.args.gate 2) w) (sym rest)
-          (left (length pairs) (needs_in pairs) states way before c.args.gate there c.requires.at_end c.requires.served);
+          (left (length pairs) (needs_in pairs) states way before c.args.gate there
+          c.requires.at_end c.requires.served);
     }
 
 pub returns-clause-by_one : goal.returns-clause-by_one

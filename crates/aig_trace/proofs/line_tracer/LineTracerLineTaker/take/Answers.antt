@@ -1,37 +1,43 @@
-use Rattle.std.proofs.Common.{◌≡◌, List, [], ap, refl, subst}
+use Rattle.std.proofs.Common.{ap, refl, subst}
 use Rattle.aig_io.specs.Output.{Out}
-use Rattle.aig_step.specs.Stimulus.{Entry}
 use Rattle.aig_trace.specs.declared.side_by_side.SideBySide.{SideBySide}
-use Rattle.aig_trace.specs.Parts.Tracing.{HasTraced, LineTracing, Tracing}
-use Rattle.aig_trace.specs.Parts.Waits.{entries_of, waiting_in}
+use Rattle.aig_trace.specs.declared.taker.Taker.{Taker}
+use Rattle.aig_trace.specs.declared.taker.Taker.TheVariants as takers
+use Rattle.aig_trace.specs.Parts.Taking.{tracing_in, waiting_in}
+use Rattle.aig_trace.specs.Parts.Tracing.{HasTraced, LineTracing}
+use Rattle.aig_trace.specs.Parts.Waits.{entries_of}
 use Rattle.aig_trace.proofs.Traced.{heard_alone, heard_line}
 use Rattle.aig_trace.proofs.line_tracer.LineTracerLineTaker.take.Goals as goal
 
-abbrev line_tracing : {W : Type 0} → Tracing → List Entry → Out W → LineTracing W
-line_tracing tracing waiting output = record { tracing = tracing; waiting = waiting; output = output }
+abbrev lines_of : {W : Type 0} → Taker → Out W → LineTracing W
+lines_of taker output = record { tracing = tracing_in taker; waiting = waiting_in taker; output = output }
 
-pub returns-in-None-clause-took : goal.returns-in-None-clause-took
-returns-in-None-clause-took g c = λ s stands.
+pub returns-in-InTurn-clause-took : goal.returns-in-InTurn-clause-took
+returns-in-InTurn-clause-took g c = λ s stands.
     let i = c.self.inside in
-    let t = line_tracing i.tracer (waiting_in i.side_by_side) i.output in
-    let u = line_tracing c.take_line.new.self (waiting_in i.side_by_side) c.take_line.new.output in
-    let none : waiting_in i.side_by_side ≡ [] = ap waiting_in c.in-None.is in
+    let t = lines_of (takers.InTurn c.in-InTurn.tracer) i.output in
+    let u = lines_of (takers.InTurn c.take_line.new.self) c.take_line.new.output in
     let took = c.take_line.ensures in
-    heard_line t u s (rw c.self.view_is stands) took.same c.args.text.now c.take_line.result
-    (λ is. heard_alone t u c.args.text.now none none (took.good is))
+    let at : HasTraced t s = subst (λ (k : Taker). HasTraced (lines_of k i.output) s) c.in-InTurn.is
+    (rw c.self.view_is stands) in
+    heard_line t u s at c.args.text.now c.take_line.result
+    (λ is. heard_alone t u c.args.text.now refl refl took.same (took.good is))
     (λ is. (took.bad is, took.stays is, refl, took.none is))
 
-pub returns-in-Some-clause-took : goal.returns-in-Some-clause-took
-returns-in-Some-clause-took g c = λ s stands.
+pub returns-in-SideBySide-clause-took : goal.returns-in-SideBySide-clause-took
+returns-in-SideBySide-clause-took g c = λ s stands.
     let i = c.self.inside in
-    let took = c.take_line-in-Some.ensures in
-    let now = c.take_line-in-Some.new in
-    let t = line_tracing i.tracer (entries_of c.in-Some.side_by_side.waiting) i.output in
-    let u = line_tracing now.tracer (entries_of now.self.waiting) now.output in
-    let stood : HasTraced (line_tracing i.tracer (waiting_in i.side_by_side) i.output) s = rw c.self.view_is stands in
-    let at : HasTraced t s =
-    subst (λ (es : List Entry). HasTraced (line_tracing i.tracer es i.output) s) (ap waiting_in c.in-Some.is) stood in
-    heard_line t u s at took.same c.args.text.now c.take_line-in-Some.result took.good
+    let took = c.take_line-in-SideBySide.ensures in
+    let now = c.take_line-in-SideBySide.new in
+    let t = lines_of (takers.SideBySide c.in-SideBySide.side_by_side) i.output in
+    let u = lines_of (takers.SideBySide now.self) now.output in
+    let at : HasTraced t s = subst (λ (k : Taker). HasTraced (lines_of k i.output) s) c.in-SideBySide.is
+    (rw c.self.view_is stands) in
+    heard_line t u s at c.args.text.now c.take_line-in-SideBySide.result took.good
     (λ is.
-    let same = took.stays is in
-    (took.bad is, same.0, ap (λ (x : SideBySide). entries_of x.waiting) same.2, same.1))
+    let same = took.stays is in (
+      took.bad is,
+      ap (λ (x : SideBySide). x.tracer) same.1,
+      ap (λ (x : SideBySide). entries_of x.waiting) same.1,
+      same.0,
+    ))

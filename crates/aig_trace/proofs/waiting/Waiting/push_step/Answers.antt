@@ -15,21 +15,21 @@ pub invariant_of-self : goal.invariant_of-self
 invariant_of-self c =
     let w = c.args.self.now in
     let text = c.args.text.now in
-    let after = c.put_text.new.texts in
+    let after = c.overwrite.new.texts in
     let vector = said_is (vector_in w.inputs text) c.requires.says in
     let long : length text ≡ w.inputs = vector_long w.inputs text (said (vector_in w.inputs text)) vector in
     let good : is_some (values_of text) ≡ true =
     ap is_some (vector_values w.inputs text (said (vector_in w.inputs text)) vector) in
     let before : take (w.steps * w.inputs) after ≡ take (w.steps * w.inputs) w.texts.items =
-    c.put_text.ensures.before ∙ ap (take (w.steps * w.inputs)) c.deref_mut.ensures.value in
+    c.overwrite.ensures.before ∙ ap (take (w.steps * w.inputs)) c.deref_mut.ensures.value in
     let here : take w.inputs (drop (w.steps * w.inputs) after) ≡ text =
-    ap (λ (n : ℕ). take n (drop (w.steps * w.inputs) after)) (sym long) ∙ c.put_text.ensures.here in
-    let size : length after ≡ length w.texts.items = c.put_text.auto.texts ∙ ap length c.deref_mut.ensures.value in
+    ap (λ (n : ℕ). take n (drop (w.steps * w.inputs) after)) (sym long) ∙ c.overwrite.ensures.here in
+    let size : length after ≡ length w.texts.items = c.overwrite.auto.texts ∙ ap length c.deref_mut.ensures.value in
     record {
       is = subst
           (λ (ts : List ℕ). IsWaiting w.inputs (w.steps + 1) (w.count + 1) ts
           (set w.lines.items w.count (Some w.steps)))
-          (sym (with_items_is w.texts after (c.put_text.auto.texts ∙ c.deref_mut.ensures.len)))
+          (sym (with_items_is w.texts after (c.overwrite.auto.texts ∙ c.deref_mut.ensures.len)))
           (step_waits w.inputs w.steps w.count w.texts.items after text w.lines.items w.is c.requires.room.lines
           c.requires.room.steps size before here good);
     }
@@ -38,16 +38,16 @@ pub returns-clause-adds : goal.returns-clause-adds
 returns-clause-adds c given says =
     let w = c.args.self.now in
     let text = c.args.text.now in
-    let after = c.put_text.new.texts in
+    let after = c.overwrite.new.texts in
     let long : length text ≡ w.inputs = vector_long w.inputs text given says in
     let before : take (w.steps * w.inputs) after ≡ take (w.steps * w.inputs) w.texts.items =
-    c.put_text.ensures.before ∙ ap (take (w.steps * w.inputs)) c.deref_mut.ensures.value in
+    c.overwrite.ensures.before ∙ ap (take (w.steps * w.inputs)) c.deref_mut.ensures.value in
     let here : take w.inputs (drop (w.steps * w.inputs) after) ≡ text =
-    ap (λ (n : ℕ). take n (drop (w.steps * w.inputs) after)) (sym long) ∙ c.put_text.ensures.here in
-    let size : length after ≡ length w.texts.items = c.put_text.auto.texts ∙ ap length c.deref_mut.ensures.value in
+    ap (λ (n : ℕ). take n (drop (w.steps * w.inputs) after)) (sym long) ∙ c.overwrite.ensures.here in
+    let size : length after ≡ length w.texts.items = c.overwrite.auto.texts ∙ ap length c.deref_mut.ensures.value in
     subst
     (λ (ts : List ℕ). map (entry_at w.inputs ts) (take (w.count + 1) (set w.lines.items w.count (Some w.steps)))
     ≡ entries_of w ++ Step given ∷ [])
-    (sym (with_items_is w.texts after (c.put_text.auto.texts ∙ c.deref_mut.ensures.len)))
+    (sym (with_items_is w.texts after (c.overwrite.auto.texts ∙ c.deref_mut.ensures.len)))
     (step_added w.inputs w.steps w.count w.texts.items after text w.lines.items w.is c.requires.room.lines
     c.requires.room.steps size before here given says)

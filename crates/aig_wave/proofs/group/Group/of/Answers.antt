@@ -10,11 +10,13 @@ loop-signal_code-preserved c =
       covers = λ g low high rest.
           c.loop-signal_code.invariant.covers g (omega (arith, c.in_ok-wider.ensures.start))
           (omega (arith, c.in_ok-wider.ensures.end))
-          (next_signal _ _ g c.args.signal_codes.now i _ c.loop-signal_code-test.true c.in_ok-wider.ensures.within low high rest);
+          (next_signal _ _ g c.args.signal_codes.now i _ c.loop-signal_code-test.true
+          c.in_ok-wider.ensures.within low high rest);
       few = λ are. c.loop-signal_code.invariant.few (both_true _ _ _ (c.in_ok-wider.ensures.bits) are).0;
       bits = λ are rest.
           let is = both_true _ _ _ (c.in_ok-wider.ensures.bits) are in
-          c.loop-signal_code.invariant.bits is.0 (next_bit c.args.signal_codes.now i _ c.loop-signal_code-test.true is.1 rest);
+          c.loop-signal_code.invariant.bits is.0
+          (next_bit c.args.signal_codes.now i _ c.loop-signal_code-test.true is.1 rest);
     }
 
 pub returns : goal.returns

@@ -2,7 +2,7 @@ use Rattle.std.proofs.Common.{ℕ, List, map, ap, ap₂, ◌∙◌}
 use Rattle.aig_circuit.specs.declared.circuit.Circuit.{Circuit}
 use Rattle.aig_circuit.specs.declared.value.Val.{Val}
 use Rattle.aig_meaning.specs.Meaning.{literal_value}
-use Rattle.aig_witness.specs.declared.search.Search.{Search}
+use Rattle.aig_witness.specs.declared.search.StepSearch.{StepSearch}
 use Rattle.aig_step.specs.Parts.Stepping.{Stepping, in_next_state}
 use Rattle.aig_step.specs.Parts.Tables.{read_from}
 use Rattle.aig_witness.specs.Parts.Witnessing.{are_ones, is_one, looked}
@@ -26,7 +26,7 @@ returns-clause-good c = λ _.
       values = read_from c.evaluate_text.new.self.values;
       said = said.1;
       assigned = said.2.assigned;
-      leads = ap₂ (λ (s : Stepping) (found : Search). record {
+      leads = ap₂ (λ (s : Stepping) (found : StepSearch). record {
         circuit = s.circuit;
         due = c.self.inside.due;
         state = s.state;

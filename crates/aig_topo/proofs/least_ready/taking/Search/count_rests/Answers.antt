@@ -24,7 +24,14 @@ returns-clause-waiting g c = λ u there.
     let stands = c.requires.1.1 in
     let looked : u < s.seen = omega (arith, there, c.requires.0) in
     let passed : u < c.loop-gate.gate =
-    omega (arith, there, c.loop-gate-test.false, c.len-gate-end.ensures, stands.waits.room.many, stands.waits.room.few) in
+    omega (
+      arith,
+      there,
+      c.loop-gate-test.false,
+      c.len-gate-end.ensures,
+      stands.waits.room.many,
+      stands.waits.room.few,
+    ) in
     left_is_counted g.all s.lists s.ready s.seen s.order stands c.requires.1.0 u _ looked (inv.idle u)
     (λ some. subst (λ (ls : Lists). get_or c.loop-gate.self.order.waiting u 0
     ≡ suc (left_over s.order.list (rest_by ls.rows.items u))) inv.lists (inv.counted u passed some))

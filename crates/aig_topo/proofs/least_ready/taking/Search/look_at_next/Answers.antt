@@ -40,7 +40,8 @@ loop-next-init g c =
     let e = c.enter.ensures in record {
       stands = record {
         waits = e.waits;
-        lacks = still_lacks s.lists.rows.items c.enter.new.self.lists.rows.items s.order.list c.enter.new.self.order.list
+        lacks = still_lacks s.lists.rows.items c.enter.new.self.lists.rows.items s.order.list
+            c.enter.new.self.order.list
             None e.list e.of_taken c.requires.1.1.lacks;
       };
       seen = e.seen;

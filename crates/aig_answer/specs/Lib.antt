@@ -1,0 +1,4 @@
+pub mod Answer
+pub mod AnswerText
+pub mod Messages
+pub mod Laws

@@ -1,0 +1,16 @@
+//! Answers of SAT solvers, read byte by byte.
+//!
+//! Others call `Reader`, which `read_values` moves on over bytes and which says at the end what the
+//! answer is.
+//!
+//! The definitions that matter most are `after` and `AnswersAreRead`.
+#![tactic(auto)]
+
+mod fault;
+pub mod laws;
+mod reader;
+mod values;
+
+pub use crate::fault::BadAnswerLine;
+pub use crate::reader::{Move, Reader, Signed, Spot, Status};
+pub use crate::values::read_values;

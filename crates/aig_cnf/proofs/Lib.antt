@@ -1,0 +1,5 @@
+pub mod Truths
+pub mod Steps
+pub mod Existing
+pub mod ClauseTexts
+pub mod CnfTexts

@@ -1,0 +1,4 @@
+pub mod Clauses
+pub mod ClauseText
+pub mod VariableTexts
+pub mod Laws

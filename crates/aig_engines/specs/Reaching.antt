@@ -1,0 +1,51 @@
+-- Which witness is written for a solver's answer (this project's profile): a model is read, it is run by the values of
+-- the answer, and where a bad state is reached, that is claimed.
+use Rattle.std.specs.Prelude.{◌≡◌, ℕ, List, None}
+use Rattle.aig_circuit.specs.declared.circuit.Circuit.{Circuit}
+use Rattle.aig_circuit.specs.Wellformed.{IsWellFormed}
+use Rattle.aig_io.specs.Runs.{AtEnd}
+use Rattle.aig_witness.specs.Witness.{Claim}
+use Rattle.aig_search.specs.declared.fault.AnswerFault.{AnswerFault}
+use Rattle.aig_search.specs.Alone.{HasAsked, asked_of}
+use Rattle.aig_search.specs.Reached.{NotFoundBy, ReachedBy}
+use Rattle.aig_search.specs.WitnessLines.{witness_text}
+use Rattle.aig_command.specs.declared.request.Reach.{Reach}
+use Rattle.aig_command.specs.declared.request.Unroll.{Unroll}
+use Rattle.aig_command.specs.declared.request.UnrolledForm.TheVariants.{Clauses}
+use Rattle.aig_engines.specs.declared.fault.ToolFault.{ToolFault}
+use Rattle.aig_engines.specs.declared.fault.ToolFault.TheVariants as faults
+use Rattle.aig_engines.specs.Unrolling.{IsUnrollingRefused, IsUnrollingText}
+
+-- the request for the clauses on which the answer is
+abbrev pub clauses_asked : Reach → Unroll
+clauses_asked request = record {
+  frames = request.frames;
+  form = Clauses request.bad;
+  max_var = request.max_var;
+  source = request.model;
+  destination = None;
+}
+
+-- The model is the file of a circuit that has these clauses, and this is the circuit, with the bad state alone that is
+-- asked for.
+pub record IsModelAsked (request : Reach) (model : List ℕ) (asked : Circuit) : Type 0 where
+  pub clauses : List ℕ
+  pub has_clauses : IsUnrollingText (clauses_asked request) model clauses
+  pub asked_is : asked ≡ asked_of request.bad has_clauses.found
+
+-- The model has no such clauses, for this reason.
+abbrev pub IsModelRefused : Reach → ToolFault → List ℕ → Type 0
+IsModelRefused request = IsUnrollingRefused (clauses_asked request)
+
+-- The text that is written for these bytes of an answer on the clauses of this circuit: the witness of a claim by which
+-- a bad state is reached, of each circuit that this one was asked of.
+pub record IsReachText (request : Reach) (asked : Circuit) (answer text : List ℕ) : Type 0 where
+  pub claim : Claim
+  pub reached : (c : Circuit) → IsWellFormed c → HasAsked request.bad c → asked ≡ asked_of request.bad c
+      → ReachedBy c request.bad request.frames answer claim
+  pub written_as : text ≡ witness_text claim
+
+-- The answer gives no witness, for this reason.
+abbrev pub IsReachRefused : Reach → Circuit → ToolFault → List ℕ → Type 0
+IsReachRefused request asked fault answer =
+    (reason : AnswerFault) × (fault ≡ faults.Answer reason) × NotFoundBy asked request.frames reason answer AtEnd

@@ -1,0 +1,11 @@
+pub mod FirstFound
+pub mod Running
+pub mod Claimed
+pub mod WitnessText
+pub mod WitnessPut
+pub mod Starting
+pub mod BadAlone
+pub mod ByAnswer
+pub mod Keeping
+pub mod Reading
+pub mod Witnessed

@@ -1,0 +1,10 @@
+use Rattle.std.proofs.lemmas.Result.{err_from_is_err_and}
+use Rattle.aig_tools.proofs.simulation.trace_stimulus.Goals as goal
+
+pub returns-in_err-written-clause-ran : goal.returns-in_err-written-clause-ran
+returns-in_err-written-clause-ran g c =
+    let h = err_from_is_err_and c.from_residual.result c.from_residual.ensures.1 in
+    rw (h.1, h.2) c.in_err-written.ensures.ran
+
+pub returns-clause-ran : goal.returns-clause-ran
+returns-clause-ran g c = c.in_ok-written.ensures.ran
