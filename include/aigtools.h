@@ -7,7 +7,8 @@
  * Calls        A call reads its inputs, makes its whole text, and then copies it to `output` where there is room for
  *              all of it. It keeps nothing: no state, no file, no pointer that it was given.
  * Threads      Any thread may call any function at any time. Calls that run at once share nothing, unless their
- *              outputs or outcomes overlap.
+ *              outputs or outcomes overlap. A call takes up to 128 KB of stack, for a waveform; 64 KB may be too few for
+ *              any but aigtools_witness.
  * Ownership    All memory that is passed stays the caller's. What a call takes for itself comes from malloc and
  *              realloc, and goes back to free before it returns. No signal handler may call.
  * Pointers     No pointer is null: where a length is 0, pass any address. An output overlaps no input and no outcome.
@@ -35,11 +36,15 @@ extern "C" {
 /* The largest `max_var`: a file with a larger index, or with more of a kind, is refused with AIGTOOLS_TOO_LARGE. */
 #define AIGTOOLS_LARGEST 2147483647u
 
+/* The `bad` that is all bad states, where one of them could be taken alone. */
+#define AIGTOOLS_ALL_BAD 4294967295u
+
 /* How a call ended. */
 enum aigtools_status {
     AIGTOOLS_DONE = 0,          /* the text was written, or the witness is confirmed */
     AIGTOOLS_TOO_SHORT = 1,     /* the output has no room for the text, which has outcome.length bytes */
-    AIGTOOLS_REFUSED = 2,       /* the input has a fault: see kind, place, number and subject */
+    AIGTOOLS_REFUSED = 2,       /* the input has a fault, or a solver's answer has no run into a bad state: see kind,
+                                   place, number and subject */
     AIGTOOLS_OUT_OF_MEMORY = 3, /* memory was refused; nothing is said of the input */
     AIGTOOLS_BAD_OPTIONS = 4,   /* options exclude each other or are not known, or a number is out of its range */
     AIGTOOLS_NOT_CONFIRMED = 5  /* the witness file is right, and the model does not do what it claims: its waveform
@@ -53,7 +58,8 @@ enum aigtools_option {
     AIGTOOLS_KEEP_MAP = 4,  /* convert: begin the comment with a map that undoes the conversion; with no other option */
     AIGTOOLS_UNDO_MAP = 8,  /* convert: undo a conversion by the map of its image */
     AIGTOOLS_PROPERTIES = 16, /* simulate: show bad states and constraints too */
-    AIGTOOLS_VCD = 32       /* simulate: write the trace as a waveform, with them; without AIGTOOLS_PROPERTIES */
+    AIGTOOLS_VCD = 32,      /* simulate: write the trace as a waveform, with them; without AIGTOOLS_PROPERTIES */
+    AIGTOOLS_OUTPUTS_AS_BAD = 64 /* convert: write outputs as bad states; with no map */
 };
 
 /* What is wrong, where the status is AIGTOOLS_REFUSED. */
@@ -78,11 +84,18 @@ enum aigtools_kind {
     AIGTOOLS_NO_MAP = 17,
     AIGTOOLS_BAD_MAP_LINE = 18,       /* outcome.number counts lines of the map */
     AIGTOOLS_MAP_MISMATCH = 19,
-    AIGTOOLS_MAP_FORGED = 20,         /* the map belongs to another circuit */
-    AIGTOOLS_NOT_UNROLLABLE = 21,     /* there are justice properties or fairness constraints */
+    AIGTOOLS_MAP_FORGED = 20,         /* the map does not belong to this circuit */
+    AIGTOOLS_NOT_UNROLLABLE = 21,     /* justice or fairness cannot be unrolled */
     AIGTOOLS_TOO_LARGE_UNROLLED = 22,
     AIGTOOLS_BAD_STIMULUS = 23,       /* the model is right; the line is of the stimulus */
-    AIGTOOLS_BAD_WITNESS = 24         /* the model is right; the line is of the witness file */
+    AIGTOOLS_BAD_WITNESS = 24,        /* the model is right; the line is of the witness file */
+    AIGTOOLS_HAS_BAD = 25,            /* outputs become bad states only where there is none */
+    AIGTOOLS_NO_BAD_STATES = 26,      /* clauses say that a bad state is reached */
+    AIGTOOLS_NO_SUCH_BAD_STATE = 27,  /* outcome.subject is its number */
+    AIGTOOLS_BAD_ANSWER = 28,         /* the model is right; the line is of the answer */
+    AIGTOOLS_UNSATISFIABLE = 29,      /* this is the answer; nothing is proved by that */
+    AIGTOOLS_UNKNOWN = 30,            /* so is this */
+    AIGTOOLS_NOT_REACHED = 31         /* the run that the answer gives reaches no bad state */
 };
 
 /* Where it is wrong. */
@@ -98,7 +111,7 @@ typedef struct aigtools_outcome {
     uint32_t status;  /* enum aigtools_status */
     uint32_t kind;    /* enum aigtools_kind */
     uint32_t place;   /* enum aigtools_place */
-    uint32_t subject; /* the variable or the literal that the fault names */
+    uint32_t subject; /* the variable, the literal or the bad state that the fault names */
     uint64_t number;  /* the line or the gate; or the step at which a witness is confirmed */
     uint64_t length;  /* how many bytes the text has, where it was written or has no room */
 } aigtools_outcome;
@@ -113,6 +126,24 @@ uint32_t aigtools_convert(uint32_t options, uint32_t max_var, const uint8_t *inp
 /* Unrolls the circuit of an AIGER file over so many frames, from 1 to 1000000, as `aiger aigunroll`. */
 uint32_t aigtools_unroll(uint32_t options, uint32_t frames, uint32_t max_var,
                          const uint8_t *input, size_t input_length,
+                         uint8_t *output, size_t output_length, aigtools_outcome *outcome);
+
+/*
+ * Writes clauses in DIMACS, for a SAT solver: they can be satisfied exactly if a run of at most so many steps, from 1 to
+ * 1000000, reaches a bad state with all constraints kept, as `aiger aigunroll --cnf`. `bad` is the position of the bad
+ * state, from 0, or AIGTOOLS_ALL_BAD.
+ */
+uint32_t aigtools_clauses(uint32_t bad, uint32_t frames, uint32_t max_var,
+                          const uint8_t *input, size_t input_length,
+                          uint8_t *output, size_t output_length, aigtools_outcome *outcome);
+
+/*
+ * Follows the run that a solver's answer to these clauses gives, as `aiger aigunroll --answer`; pass the same `bad` and
+ * frames. The text is a witness file of the run up to the bad state, which aigtools_witness confirms, whatever the
+ * solver said.
+ */
+uint32_t aigtools_answer(uint32_t bad, uint32_t frames, uint32_t max_var, const uint8_t *model, size_t model_length,
+                         const uint8_t *answer, size_t answer_length,
                          uint8_t *output, size_t output_length, aigtools_outcome *outcome);
 
 /*

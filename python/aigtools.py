@@ -27,7 +27,8 @@ import os
 from pathlib import Path
 from typing import Any, Callable, Optional, Tuple, Union
 
-__all__ = ["LARGEST", "Kind", "Refused", "confirm", "convert", "dump", "simulate", "unroll", "version"]
+__all__ = ["LARGEST", "Kind", "Refused"]
+__all__ += ["answer", "clauses", "confirm", "convert", "dump", "simulate", "unroll", "version"]
 
 Data = Union[bytes, bytearray, memoryview]
 
@@ -39,7 +40,7 @@ MOST_FRAMES = 1000000
 
 
 class Kind(enum.IntEnum):
-    """What is wrong with an input. docs/FORMAT.md says when each comes."""
+    """What is wrong with an input, or with a solver's answer. docs/FORMAT.md says when each comes."""
 
     NOT_AIGER = 1
     BAD_HEADER = 2
@@ -65,6 +66,13 @@ class Kind(enum.IntEnum):
     TOO_LARGE_UNROLLED = 22
     BAD_STIMULUS = 23
     BAD_WITNESS = 24
+    HAS_BAD = 25
+    NO_BAD_STATES = 26
+    NO_SUCH_BAD_STATE = 27
+    BAD_ANSWER = 28
+    UNSATISFIABLE = 29
+    UNKNOWN = 30
+    NOT_REACHED = 31
 
 
 class Refused(ValueError):
@@ -73,7 +81,7 @@ class Refused(ValueError):
     kind      what is wrong
     line      the line, counted from 1, where it is wrong in one; for BAD_MAP_LINE a line of the map
     gate      the gate of a binary file, counted from 1, where it is wrong in one
-    subject   the variable or the literal that the fault names, or 0
+    subject   the variable, the literal or the bad state that the fault names, or 0
     """
 
     def __init__(self, message: str, kind: Kind, line: Optional[int], gate: Optional[int], subject: int) -> None:
@@ -93,8 +101,14 @@ class _Outcome(ctypes.Structure):
 
 _DONE, _TOO_SHORT, _REFUSED, _OUT_OF_MEMORY, _BAD_OPTIONS, _NOT_CONFIRMED = range(6)
 _WHOLE, _LINE, _GATE, _MAP_LINE = range(4)
-_ASCII, _STRIP, _KEEP_MAP, _UNDO_MAP, _PROPERTIES, _VCD = 1, 2, 4, 8, 16, 32
+_ASCII, _STRIP, _KEEP_MAP, _UNDO_MAP, _PROPERTIES, _VCD, _OUTPUTS_AS_BAD = 1, 2, 4, 8, 16, 32, 64
 
+
+# the number that stands for all bad states
+_ALL_BAD = 0xFFFFFFFF
+
+# The room for an unrolled text that is made at once: a source may have a large comment, and the text then be short.
+_LARGEST_GUESS = 1 << 28
 
 _NAME = "libaigtools.so.1"
 
@@ -135,6 +149,8 @@ def _load() -> ctypes.CDLL:
     for name, arguments, result in (
         ("aigtools_convert", (number, number, *text, *room, outcome), number),
         ("aigtools_unroll", (number, number, number, *text, *room, outcome), number),
+        ("aigtools_clauses", (number, number, number, *text, *room, outcome), number),
+        ("aigtools_answer", (number, number, number, *text, *text, *room, outcome), number),
         ("aigtools_simulate", (number, number, *text, *text, *room, outcome), number),
         ("aigtools_witness", (number, *text, *text, outcome), number),
         ("aigtools_dump", (number, *text, *text, *room, outcome), number),
@@ -191,6 +207,11 @@ def _number(name: str, value: int, least: int = 0, most: int = LARGEST) -> int:
     return value
 
 
+def _bad(bad: Optional[int]) -> int:
+    """The number that asks for this bad state, or for all."""
+    return _ALL_BAD if bad is None else _number("bad", bad)
+
+
 def _options(*given: Tuple[Any, int]) -> int:
     """The options that are given, a bit each."""
     return sum(bit for value, bit in given if value)
@@ -210,20 +231,33 @@ def convert(
     strip: bool = False,
     keep_map: bool = False,
     undo_map: bool = False,
+    outputs_as_bad: bool = False,
     max_var: int = LARGEST,
 ) -> bytes:
     """The canonical text of the circuit of an AIGER file, as ``aiger aigtoaig`` writes it.
 
-    ascii      write ASCII, and not binary
-    strip      leave out symbols and comment
-    keep_map   begin the comment with a map, by which the conversion can be undone; with no other option
-    undo_map   undo a conversion by the map of its image
-    max_var    refuse a file with a larger index, or with more of a kind
+    ascii            write ASCII, and not binary
+    strip            leave out symbols and comment
+    keep_map         begin the comment with a map, by which the conversion can be undone; with no other option
+    undo_map         undo a conversion by the map of its image
+    outputs_as_bad   write outputs as bad states, of which there are none; with no map
+    max_var          refuse a file with a larger index, or with more of a kind
+
+    >>> convert(b"aag 1 1 0 1 0\\n2\\n3\\n", ascii=True, outputs_as_bad=True)
+    b'aag 1 1 0 0 0 1\\n2\\n3\\n'
     """
     data = _bytes(data)
     if keep_map:
         _excludes("keep_map", ascii=ascii, strip=strip, undo_map=undo_map)
-    options = _options((ascii, _ASCII), (strip, _STRIP), (keep_map, _KEEP_MAP), (undo_map, _UNDO_MAP))
+    if outputs_as_bad:
+        _excludes("outputs_as_bad", keep_map=keep_map, undo_map=undo_map)
+    options = _options(
+        (ascii, _ASCII),
+        (strip, _STRIP),
+        (keep_map, _KEEP_MAP),
+        (undo_map, _UNDO_MAP),
+        (outputs_as_bad, _OUTPUTS_AS_BAD),
+    )
     limit = _number("max_var", max_var)
     return _made(
         (4 if ascii else 2) * len(data) + 64,
@@ -243,9 +277,48 @@ def unroll(data: Data, frames: int, *, ascii: bool = False, max_var: int = LARGE
     options, limit = _options((ascii, _ASCII)), _number("max_var", max_var)
     count = _number("frames", frames, 1, MOST_FRAMES)
     return _made(
-        min(count, 64) * (4 if ascii else 2) * len(data) + 64,
+        min(min(count, 64) * (4 if ascii else 2) * len(data) + 64, _LARGEST_GUESS),
         lambda output, room, outcome: _library.aigtools_unroll(
             options, count, limit, data, len(data), output, room, outcome
+        ),
+    )[0]
+
+
+def clauses(data: Data, frames: int, *, bad: Optional[int] = None, max_var: int = LARGEST) -> bytes:
+    """Clauses for a SAT solver (DIMACS), as ``aiger aigunroll --cnf`` writes them: they can be satisfied exactly if a
+    run of at most so many steps, 1 to 1000000, reaches a bad state with all constraints kept.
+
+    bad   the bad state of this position alone, counted from 0
+
+    >>> clauses(b"aag 1 0 1 0 0 1\\n2 3\\n2\\n", 1)
+    b'p cnf 2 5\\n-1 0\\n-2 -1 0\\n-2 1 0\\n2 1 -1 0\\n2 0\\n'
+    """
+    data = _bytes(data)
+    which, limit = _bad(bad), _number("max_var", max_var)
+    count = _number("frames", frames, 1, MOST_FRAMES)
+    return _made(
+        min(min(count, 64) * 16 * len(data) + 64, _LARGEST_GUESS),
+        lambda output, room, outcome: _library.aigtools_clauses(
+            which, count, limit, data, len(data), output, room, outcome
+        ),
+    )[0]
+
+
+def answer(model: Data, answer: Data, frames: int, *, bad: Optional[int] = None, max_var: int = LARGEST) -> bytes:
+    """The witness that a solver's answer to the clauses of the model gives, with the same frames and bad state, as
+    ``aiger aigunroll --answer`` writes it. It is confirmed, whatever the solver said. An answer that gives none is
+    refused: UNSATISFIABLE, UNKNOWN or NOT_REACHED.
+
+    >>> answer(b"aag 1 0 1 0 0 1\\n2 3\\n2\\n", b"s SATISFIABLE\\nv -2 3 0\\n", 2)
+    b'1\\nb0\\n0\\n\\n\\n.\\n'
+    """
+    model, answer = _bytes(model), _bytes(answer)
+    which, limit = _bad(bad), _number("max_var", max_var)
+    count = _number("frames", frames, 1, MOST_FRAMES)
+    return _made(
+        len(model) + len(answer) + 64,
+        lambda output, room, outcome: _library.aigtools_answer(
+            which, count, limit, model, len(model), answer, len(answer), output, room, outcome
         ),
     )[0]
 
