@@ -1,5 +1,6 @@
 /* Where the static program starts. Before the C library does, this asks it for large pages under large tables, by
-   GLIBC_TUNABLES, unless the environment has that variable: an installed program is then as fast as one by ./aiger.
+   GLIBC_TUNABLES, unless the environment has that variable: an installed program is then as fast as one by ./aiger. And it
+   ignores SIGXFSZ, as ./aiger does, so that a write above the limit on the size of files fails.
 
    The system puts on the stack, a word for each: how many arguments there are, the arguments, 0, the variables, 0. These go
    down by a word, and ours becomes the last variable. It can be written, since the C library cuts the text as it reads. */
@@ -7,10 +8,22 @@
         .data
 asked:  .asciz  "GLIBC_TUNABLES=glibc.malloc.hugetlb=1"
         .set    name_length, 15                 # with the =
+        .balign 8
+ignored:
+        .quad   1, 0, 0, 0                      # SIG_IGN, no flags, no restorer, no mask
 
         .text
         .globl  start_with_large_pages
 start_with_large_pages:
+        mov     %rdx, %r9                       # the C library wants it as it was
+        mov     $13, %eax                       # rt_sigaction
+        mov     $25, %edi                       # SIGXFSZ
+        lea     ignored(%rip), %rsi
+        xor     %edx, %edx                      # what stood there before is not asked for
+        mov     $8, %r10d                       # bytes of a mask
+        syscall
+        mov     %r9, %rdx
+
         mov     (%rsp), %rax
         lea     16(%rsp, %rax, 8), %rdi         # the variables
         lea     asked(%rip), %rsi
@@ -36,6 +49,6 @@ down:   mov     (%rax), %r8
         cmp     %rdi, %rax
         jne     down
         mov     %rsi, -8(%rdi)
-        jmp     _start                          # that of the C library, which wants %rdx as it was
+        jmp     _start                          # that of the C library
 
         .section .note.GNU-stack, "", @progbits
