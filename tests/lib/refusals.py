@@ -34,7 +34,9 @@ line N: bad witness line
 line N: bad answer line
 unsatisfiable
 unknown
-no bad state is reached""".split("\n")
+no bad state is reached
+line N: does not follow
+no refutation""".split("\n")
 OF_DEVICES = ["cannot read", "cannot write"]
 NAMED = [*OF_FILES, *OF_MAPS, *OF_USE, *OF_DEVICES]
 # of memory and of arguments, without a name; and what clap refuses, in words of its own
@@ -50,8 +52,10 @@ compressed output is not supported
 --vcd excludes --properties
 --cnf excludes --ascii
 --answer excludes --cnf and --ascii
---bad needs --cnf or --answer
+--refutation excludes --cnf, --ascii and --answer
+--bad needs --cnf, --answer or --refutation
 model and answer are both standard input
+model and refutation are both standard input
 an argument is not UTF-8 text""".split("\n")
 BY_CLAP = "error: .."
 ALL = [*NAMED, OF_MEMORY, *OF_ARGUMENTS, BY_CLAP]

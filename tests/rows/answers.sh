@@ -295,7 +295,7 @@ rows_clause_words() {
     local unroll='\n\nUsage: aiger aigunroll' none=$work/none file
     local all="$unroll [OPTIONS] --frames <K> [source] [destination]" tip='\n\n  tip:'
     local convert='\n\nUsage: aiger aigtoaig [OPTIONS] [source] [destination]'
-    local ascii='--cnf excludes --ascii' alone='--answer excludes --cnf and --ascii' needs='--bad needs --cnf or --answer'
+    local ascii='--cnf excludes --ascii' alone='--answer excludes --cnf and --ascii' needs='--bad needs --cnf, --answer or --refutation'
     local both='model and answer are both standard input' gz='compressed output is not supported'
     unwanted 'clauses in ASCII' "$ascii" aigunroll --frames 2 --cnf --ascii
     unwanted 'clauses in ASCII of an answer' "$ascii" aigunroll --frames 2 --answer - --ascii --cnf - x.gz

@@ -38,6 +38,10 @@ KEPT_CLAUSES = (
     b"p cnf 9 14\n-1 0\n-6 3 0\n-6 -1 0\n6 -3 1 0\n-7 6 0\n-7 -1 0\n7 -6 1 0\n"
     b"-8 6 0\n-8 5 0\n8 -6 -5 0\n-9 8 0\n-9 2 0\n9 -8 -2 0\n7 9 0\n"
 )
+# of two inputs one of the four pairs of values would have to be there, and none is: that needs a lemma, as 3
+FOUR = b"aag 9 2 0 0 7 1\n2\n4\n18\n6 5 3\n8 5 2\n10 4 3\n12 4 2\n14 9 7\n16 13 11\n18 16 14\n"
+FOUR_REFUTED = b"c\n2 3 0\nd 3 2 0\r\n3 0\n0\n"
+FOUR_REFUTED_BINARY = b"a\4\6\0d\6\4\0a\x86\0\0a\0"
 
 DUMP = b"$version aiger $end\n$timescale 1 ns $end\n$scope module aiger $end\n$var integer 64 r run $end\n"
 TOGGLE_DUMP = (
@@ -87,6 +91,13 @@ def answered(name, words, model, answer, output):
     yield Row(f"{name}, the model by standard input", words, model, output, {"answer": answer})
 
 
+def refuted(name, words, model, refutation, output):
+    """A refutation, likewise."""
+    yield Row(name, f"aigunroll {words} model --refutation -", refutation, output, {"model": model})
+    words = f"aigunroll {words} - --refutation proof"
+    yield Row(f"{name}, the model by standard input", words, model, output, {"proof": refutation})
+
+
 ROWS = [
     Row("a half adder to binary", "aigtoaig", HALF, HALF_IMAGE),
     Row("a half adder to binary, stripped", "aigtoaig --strip", HALF, HALF_GATES),
@@ -118,6 +129,8 @@ ROWS = [
     Row("clauses of one bad state", "aigunroll --frames 1 --cnf --bad 1", COMB, COMB_CLAUSES),
     *answered("an answer", "--frames 2", KEPT, b"c\ns SATISFIABLE\r\nv 2 -3\nv 3 0\n", b"1\nb0\n1\n11\n.\n"),
     *answered("an answer for a bad state", "--frames 3 --bad 1", COMB, b"s SATISFIABLE\nv 2 0", b"1\nb1\n\n10\n.\n"),
+    *refuted("a refutation", "--frames 1", FOUR, FOUR_REFUTED, b"none within 1\n"),
+    *refuted("a binary refutation", "--frames 1", FOUR, FOUR_REFUTED_BINARY, b"none within 1\n"),
     *simulated("every section and a witness", "--witness", EVERY, b"1\nb1\n1x\n1\n0\n.\n", b"not confirmed\n"),
 ]
 

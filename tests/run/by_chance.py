@@ -16,9 +16,10 @@ from pathlib import Path
 
 sys.dont_write_bytecode = True
 sys.path[0] = str(Path(__file__).resolve().parent.parent)
-from lib import answers, batches, counts, images, traces, unrolled, waves, witnesses
+from lib import answers, batches, counts, images, refutations, traces, unrolled, waves, witnesses
 
-KINDS = {it.__name__.rpartition(".")[2]: it for it in (images, traces, batches, unrolled, witnesses, waves, answers)}
+MODULES = images, traces, batches, unrolled, witnesses, waves, answers, refutations
+KINDS = {it.__name__.rpartition(".")[2]: it for it in MODULES}
 
 
 def cases(program, folder, kinds, number):

@@ -3,11 +3,12 @@
 
     tests/run/cuts.py PROGRAM [NAME]     all files, or those that have NAME in their names
 
-The files are those of rows/small.py: circuits in ASCII and binary, with and without a map, stimuli, witnesses and
-solvers' answers. What is refused as a circuit must be refused by all tools in the same words. What is accepted must
+The files are those of rows/small.py: circuits in ASCII and binary, with and without a map, stimuli, witnesses, solvers'
+answers and refutations. What is refused as a circuit must be refused by all tools in the same words. What is accepted must
 have the image, the traces, the unrolled circuit, its clauses, and the answer to a witness that are worked out here
 from its ASCII text. A cut or changed stimulus must have the trace that is worked out here up to its first bad line,
-and nothing with --batch if there is one; a witness must have its answer, and its dump; a solver's answer its witness.
+and nothing with --batch if there is one; a witness must have its answer, and its dump; a solver's answer its witness; and of
+a refutation, of which each bit is turned too, it must be said what the plain checker of lib/refutations.py says.
 Whatever comes, the status is 0, 1 or 2, a refusal is one line of a kind that is known, and with it nothing is sent but
 the trace before a bad line.
 
@@ -22,7 +23,7 @@ from pathlib import Path
 
 sys.dont_write_bytecode = True
 sys.path[0] = str(Path(__file__).resolve().parent.parent)
-from lib import answers, counts, images, refusals, runs, unrolled, waves, witnesses
+from lib import answers, counts, images, refusals, refutations, runs, unrolled, waves, witnesses
 from lib.soak import calls, generators, oracles
 from rows import small
 
@@ -60,6 +61,12 @@ ANSWERS = {
     "an answer without a run": (small.BAD, b"s UNSATISFIABLE\nc"),
     "an answer of nothing": (small.BAD, b"c\r\ns UNKNOWN"),
 }
+REFUTATIONS = {
+    "a refutation": (small.FOUR, small.FOUR_REFUTED),
+    "a binary refutation": (small.FOUR, small.FOUR_REFUTED_BINARY),
+    "a refutation without its end": (small.FOUR, b"-11 3 10 0\nd 11 0 2 -3 0 c\n-2 3 0 d\n-3 2 0"),
+    "a forged refutation": (small.KEPT, b"d 7 9 0\n-7 6 0\n0\n"),
+}
 
 
 class Wrong(Exception):
@@ -96,8 +103,9 @@ class Judge:
         canonical, errors, status = self.ask("aigtoaig --ascii", text)
         undoing, unrolling = "aigtoaig --undo-map --ascii", f"aigunroll --frames {FRAMES}"
         if status:
+            others = [unrolling, f"{unrolling} --cnf", f"{unrolling} - --refutation steps"]
             simulations = ["aigsim - steps", "aigsim --batch --properties - steps", "aigsim --witness - witness"]
-            for words in ("aigtoaig --keep-map", undoing, unrolling, f"{unrolling} --cnf", *simulations):
+            for words in ("aigtoaig --keep-map", undoing, *others, *simulations):
                 self.expect(words, text, b"", errors, 1)
             return
         made, end = generators.parsed(canonical)
@@ -132,7 +140,6 @@ class Judge:
         wanted = waves.wanted_of_run(made, {}, "-", text.decode("latin-1"))
         self.expect("aigsim --witness --vcd model", text, *wanted)
 
-
     def answer(self, text, model):
         """The witness that a solver's answer gives."""
         self.runner.put("model", model)
@@ -140,11 +147,21 @@ class Judge:
         wanted = answers.wanted(made, FRAMES, None, "-", text)
         self.expect(f"aigunroll --frames {FRAMES} model --answer -", text, *wanted)
 
+    def refutation(self, text, model):
+        """Whether a refutation shows that there is no run. Two frames are one too many for those of one."""
+        self.runner.put("model", model)
+        made, _ = generators.parsed(self.ask("aigtoaig --ascii", model)[0])
+        for frames in range(1, FRAMES + 1):
+            wanted = refutations.wanted(made, frames, None, "-", text)
+            self.expect(f"aigunroll --frames {frames} model --refutation -", text, *wanted)
 
-def edits(text, place):
-    """The text cut before this byte, and with the byte changed."""
+
+def edits(text, place, bits=()):
+    """The text cut before this byte, and with the byte changed, also in each of these bits."""
     yield "cuts", text[:place]
     if place < len(text):
+        for bit in bits:
+            yield "changes", text[:place] + bytes([text[place] ^ bit]) + text[place + 1 :]
         for other in [it for it in OTHERS if it != text[place]][:TIMES]:
             yield "changes", text[:place] + bytes([other]) + text[place + 1 :]
 
@@ -152,7 +169,7 @@ def edits(text, place):
 def judge(program, under, how, text, beside, place):
     """What came of the edits at this place, and what was wrong."""
     it, wrong = Judge(program, under), []
-    for kind, edited in edits(text, place):
+    for kind, edited in edits(text, place, refutations.BITS if how == "refutation" else ()):
         it.came[kind] += 1
         try:
             getattr(it, how)(edited, beside)
@@ -165,7 +182,8 @@ def tasks():
     """The name of each file, how it is judged, its text and what stands beside it."""
     for name, text in CIRCUITS.items():
         yield name, "circuit", text, b""
-    for how, files in (("stimulus", STIMULI), ("witness", WITNESSES), ("answer", ANSWERS)):
+    beside = {"stimulus": STIMULI, "witness": WITNESSES, "answer": ANSWERS, "refutation": REFUTATIONS}
+    for how, files in beside.items():
         for name, (model, text) in files.items():
             yield name, how, text, model
 

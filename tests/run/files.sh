@@ -384,6 +384,12 @@ made 'a witness to a file in .aag' "$files/w.aag" witness - "$answered" "$files/
 made 'a witness to a file, the model by standard input' "$files/w" witness "$files/answer" - "$files/w" < "$answered"
 cp "$files/answer" "$files/same"
 made 'a file as answer and destination' "$files/same" witness "$files/same" "$answered" "$files/same"
+cp "$work/want_file" "$work/witness"
+printf 'none within 1\n' > "$work/want_file"
+made 'what a refutation shows, to a file' "$files/w" unroll 1 --refutation "$files/answer" "$answered" "$files/w"
+cp "$files/answer" "$files/same"
+made 'a file as refutation and destination' "$files/same" unroll 1 --refutation "$files/same" "$answered" "$files/same"
+cp "$work/witness" "$work/want_file"
 cp "$answered" "$files/same"
 made 'a file as model and destination' "$files/same" witness "$files/answer" "$files/same" "$files/same"
 made 'all streams closed, and a witness to a file' "$files/w" streams_closed witness "$files/answer" "$answered" "$files/w"
@@ -411,6 +417,12 @@ no_witness 'a bad answer' "$answered: line 1: bad answer line" witness "$answere
 no_witness 'an answer that reaches nothing' "$files/answer: no bad state is reached" \
     unroll 1 --answer "$files/answer" "$answered"
 no_witness 'an answer that is not there' "$files/none.ans: cannot read" witness "$files/none.ans" "$answered"
+no_witness 'a forged refutation' "$files/answer: line 1: bad line" unroll 2 --refutation "$files/answer" "$answered"
+printf '3 0\n' > "$files/proof"
+no_witness 'a refutation that refutes nothing' "$files/proof: no refutation" unroll 2 --refutation "$files/proof" "$answered"
+no_witness 'a refutation that is not there' "$files/none.drat: cannot read" unroll 2 --refutation "$files/none.drat" "$answered"
+no_witness 'a refused model of a refutation that is not there' "$held: no bad states" \
+    unroll 2 --refutation "$files/none.drat" "$held"
 no_witness 'a refused model of an answer that is not there' "$held: no bad states" witness "$files/none.ans" "$held"
 # cannot_write_both NAME FILE: neither clauses nor a witness
 cannot_write_both() {
@@ -503,7 +515,11 @@ refused 'three names to unroll' 'c' aigunroll --frames 1 a b c
 refused 'an option that unrolling does not have' '--properties' aigunroll --frames 1 --properties
 refused 'clauses in ASCII' 'aiger: --cnf excludes --ascii' aigunroll --frames 2 --cnf --ascii
 refused 'clauses of an answer' 'aiger: --answer excludes --cnf and --ascii' aigunroll --frames 2 --answer a --cnf
-refused 'a bad state alone' 'aiger: --bad needs --cnf or --answer' aigunroll --frames 2 --bad 0
+refused 'a refutation and an answer' 'aiger: --refutation excludes --cnf, --ascii and --answer' \
+    aigunroll --frames 2 --refutation a --answer b
+refused 'a bad state alone' 'aiger: --bad needs --cnf, --answer or --refutation' aigunroll --frames 2 --bad 0
+refused 'one stream for model and refutation' 'aiger: model and refutation are both standard input' \
+    aigunroll --frames 2 --refutation -
 refused 'one stream for model and answer' 'aiger: model and answer are both standard input' aigunroll --frames 2 --answer -
 refused 'a bad state above the largest' '2147483648 is not in 0..=2147483647' aigunroll --frames 2 --cnf --bad 2147483648
 refused 'a compressed witness' 'aiger: compressed output is not supported' aigunroll --frames 1 --answer a b x.gz
@@ -557,16 +573,21 @@ if grep -q '^$comment confirmed 0 $end$' "$files/w.vcd"; then pass; else
 fi
 helps 'help of aigunroll' aigunroll --help
 # its examples too; the half adder has no latches, so each frame is a copy of it. In the place of the solver is one that knows
-# how its carry is 1 in the first frame.
-grep '^  aiger aigunroll ' "$work/out" | sed 's/^  aiger/"$program"/; s/   .*//' > "$work/examples"
+# how its carry is 1 in the first frame, and that it is never 1 beside 0, which is the model of the last example.
+grep '^  aiger aigunroll \|^  cadical ' "$work/out" | sed 's/^  aiger/"$program"/; s/   .*//' > "$work/examples"
 aig "$files/model.aag" "$files/model.aig"
 unroll 20 "$files/model.aig" > "$work/want_file"
 unroll 2 "$files/model.aag" --ascii > "$work/frames"
-cadical() { cmp - model.cnf && printf 's SATISFIABLE\nv 2 3 0\n'; }
+printf 'aag 8 2 0 0 4 1\n2\n4\n16\n6 13 15\n12 2 4\n14 3 5\n16 12 0\n' > "$files/beside.aag"
+cadical() {
+    if [ "$*" = '-q model.cnf model.drat' ]; then cp beside.aag model.aig && echo 0 > model.drat; else
+        cmp - model.cnf && printf 's SATISFIABLE\nv 2 3 0\n'
+    fi
+}
 ran=$(cd "$files" && set -e && . "$work/examples" 2>&1 && echo all)
-if [ "$ran" = all ] && [ "$(wc -l < "$work/examples")" = 6 ] && cmp -s "$files/long.aig" "$work/want_file" &&
+if [ "$ran" = $'none within 20\nall' ] && [ "$(wc -l < "$work/examples")" = 8 ] && cmp -s "$files/long.aig" "$work/want_file" &&
     cmp -s "$files/out" "$work/want_file" && cmp -s "$files/two.aag" "$work/frames" &&
-    [ "$(sim --witness "$files/model.aig" "$files/witness.txt")" = 'confirmed 0' ]; then pass; else
+    [ "$(sim --witness "$files/model.aag" "$files/witness.txt")" = 'confirmed 0' ]; then pass; else
     fail 'the examples of help of aigunroll run' "came   $ran, of" "$(cat "$work/examples")"
 fi
 # the manual page has the same options

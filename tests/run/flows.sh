@@ -41,6 +41,13 @@ echo "$SAYS"
 [ -z "${GIVES+x}" ] || echo "$GIVES" > counterexample
 exit "${ENDS:-0}"
 SOLVER
+# in the place of cadical: it gives a refutation if it is told one
+cat > "$work/cadical" << 'CADICAL'
+#!/usr/bin/env bash
+echo "$SAYS"
+[ -z "${GIVES+x}" ] || printf '%b' "$GIVES" > "$2"
+exit "${ENDS:-0}"
+CADICAL
 # in the place of MiniSat: it says so, and gives a result if it is told one
 cat > "$work/minisat" << 'MINISAT'
 #!/usr/bin/env bash
@@ -60,7 +67,7 @@ cat > "$work/replay/yosys" << 'REPLAY'
 #!/usr/bin/env bash
 case "$*" in *'sim -q'*) exec "$SIM" ;; *) exec "$YOSYS" "$@" ;; esac
 REPLAY
-chmod +x "$work/solver" "$work/minisat" "$work/failing" "$work/replay/yosys"
+chmod +x "$work/solver" "$work/cadical" "$work/minisat" "$work/failing" "$work/replay/yosys"
 printf 'aag 1 1 0 0 0 1\n2\n2\n' > "$place/input.aag"
 printf 'aag 1 1 0 1 0\n2\n2\n' > "$place/output.aag"
 printf 'aag 1 1 0 0 0 1 0 1\n2\n2\n1\n2\n' > "$place/justice.aag"
@@ -68,8 +75,11 @@ printf 'aag 1 1 0 0 0 1 0 1\n2\n2\n1\n2\n' > "$place/justice.aag"
 # unrolls NAME WANTED WORD..: the input as bad state for 3 steps, by the solver, with these words of env; unrolls_by_minisat
 unrolls() { flow "$1" "$2" SOLVER="$work/solver" "${@:3}" "$flows/check_unrolled.sh" input.aag 3; }
 unrolls_by_minisat() { flow "$1" "$2" SOLVER="$work/minisat" "${@:3}" "$flows/check_unrolled.sh" input.aag 3; }
-none='0 no counterexample of at most 3 steps ' said="2 check_unrolled.sh: the answer of $work/solver:"
-unrolls 'the solver finds none' "$none" SAYS='s UNSATISFIABLE' ENDS=20
+# unproved SOLVER STEPS: what is said where it finds none, and gives no refutation; proved STEPS: where it gives one
+unproved() { echo "0 no counterexample of at most $2 steps, which is not proved: $1 gives no refutation "; }
+proved() { echo "0 none within $1 solved in *.* s, its refutation of * bytes checked in *.* s "; }
+said="2 check_unrolled.sh: the answer of $work/solver:"
+unrolls 'the solver finds none' "$(unproved solver 3)" SAYS='s UNSATISFIABLE' ENDS=20
 unrolls 'the solver finds one' '1 b0: confirmed 2 ' SAYS=$'c a solver\ns SATISFIABLE\nv -1 -2 -3 4\nv 0' ENDS=10
 unrolls 'the solver ends with status 0' '1 b0: confirmed 2 ' SAYS=$'s SATISFIABLE\nv 4 0'
 # the files of the last row are there
@@ -84,7 +94,7 @@ broken="check_unrolled.sh: $work/solver failed: see solver.log"
 unrolls 'the solver fails' '2 check_unrolled.sh: false failed: see solver.log ' SOLVER=false
 unrolls 'the solver fails behind its answer' "2 $broken " SAYS='s UNSATISFIABLE' ENDS=1
 unrolls 'the solver is ended behind its answer' "2 $broken " SAYS=$'s SATISFIABLE\nv 4 0' ENDS=137
-unrolls_by_minisat 'MiniSat finds none' "$none" GIVES=UNSAT ENDS=20
+unrolls_by_minisat 'MiniSat finds none' "$(unproved minisat 3)" GIVES=UNSAT ENDS=20
 unrolls_by_minisat 'MiniSat finds one' '1 b0: confirmed 2 ' GIVES=$'SAT\n-1 -2 -3 4 0' ENDS=10
 said="2 check_unrolled.sh: the answer of $work/minisat:"
 # no result, beside that of the last row
@@ -104,6 +114,29 @@ aiger_fails 'aiger fails at the witness' '2  ' aigsim
 aiger_fails 'aiger does not confirm it' '2 b0: not confirmed check_unrolled.sh: the witness is wrong: see run.aiw ' \
     aigsim WITH='not confirmed'
 aiger_fails 'aiger says another thing' '2  ' aigsim WITH='confirmed'
+# refutes NAME WANTED MODEL STEPS REFUTATION WORD..: the solver finds none, and gives this
+refutes() {
+    flow "$1" "$2" SOLVER="$work/cadical" SAYS='s UNSATISFIABLE' ENDS=20 GIVES="$5" "${@:6}" "$flows/check_unrolled.sh" "$3" "$4"
+}
+# of two inputs, no two of whose four values are at once: that needs a lemma, as 3
+printf 'aag 9 2 0 0 7 1\n2\n4\n18\n6 5 3\n8 5 2\n10 4 3\n12 4 2\n14 9 7\n16 13 11\n18 16 14\n' > "$place/never.aag"
+printf 'aag 1 0 1 0 0 1\n2 3\n2\n' > "$place/toggle.aag"
+refused="check_unrolled.sh: the refutation of $work/cadical is not accepted: see clauses.drat"
+refutes 'a refutation' "$(proved 1)" never.aag 1 '3 0\n0\n'
+refutes 'a binary refutation' "$(proved 1)" never.aag 1 'a\006\000a\000'
+refutes 'an empty refutation that is enough' "$(proved 1)" toggle.aag 1 ''
+# the clauses can be satisfied, whatever the solver says
+refutes 'a forged refutation' "2 aiger: clauses.drat: line 1: does not follow $refused " input.aag 3 '0\n'
+refutes 'a forged refutation of a run' "2 aiger: clauses.drat: line 1: does not follow $refused " toggle.aag 2 '-3 0\n0\n'
+refutes 'an empty refutation that is not enough' "2 aiger: clauses.drat: no refutation $refused " never.aag 1 ''
+refutes 'a refutation of other clauses' "2 aiger: clauses.drat: line 1: bad line $refused " toggle.aag 2 '4 0\n0\n'
+refutes 'a refutation that is cut' "2 aiger: clauses.drat: no refutation $refused " never.aag 1 'a\006'
+refutes 'what is no refutation' "2 aiger: clauses.drat: line 2: bad line $refused " never.aag 1 'c\nx\n'
+flow 'cadical gives none' "$(unproved cadical 3)" SOLVER="$work/cadical" SAYS='s UNSATISFIABLE' ENDS=20 \
+    "$flows/check_unrolled.sh" input.aag 3
+refutes 'a refutation beside a run' '1 b0: confirmed 2 ' input.aag 3 '0\n' SAYS=$'s SATISFIABLE\nv 4 0'
+failing=(AIGER="$work/failing" PROGRAM="$program" FAILS=--refutation)
+refutes 'aiger fails at the refutation' "2 $refused " never.aag 1 '3 0\n' "${failing[@]}"
 # refused NAME WANTED MODEL STEPS
 refused() { flow "$1" "2 $2" SOLVER="$work/solver" SAYS='s UNSATISFIABLE' "$flows/check_unrolled.sh" "$3" "$4"; }
 refused 'a model that is not there' 'aiger: none.aig: cannot read ' none.aig 3
@@ -131,10 +164,14 @@ fi
 solvers=()
 for tool in cadical kissat minisat picosat; do ! command -v "$tool" > /dev/null || solvers+=("$tool"); done
 turns=0
-# by_solver NAME WANTED WORD..: a flow by the next solver
+# by_solver NAME WANTED WORD..: a flow by the next solver; or by this one, in $solver. WANTED may be `none STEPS`.
 by_solver() {
-    local solver=${solvers[turns++ % ${#solvers[@]}]}
-    flow "$1, by $solver" "$2" SOLVER="$solver" "${@:3}"
+    local solver=${solver:-${solvers[turns++ % ${#solvers[@]}]}} wanted=$2
+    case $wanted,$solver in
+        none*,cadical) wanted=$(proved "${wanted#none }") ;;
+        none*) wanted=$(unproved "$solver" "${wanted#none }") ;;
+    esac
+    flow "$1, by $solver" "$wanted" SOLVER="$solver" "${@:3}"
 }
 design() { flow "$1" "$2" "$flows/check.sh" "$top/tests/flows/$1.v" "$1" clk; }
 # unrolled NAME STEPS WANTED [MODEL]: by default the model that check.sh has just written
@@ -142,7 +179,7 @@ unrolled() { by_solver "$1, unrolled for $2 steps" "$3" "$flows/check_unrolled.s
 # least NAME STEP [BAD [MODEL]]: a bad state, or this one, is reached in this step, and none before
 least() {
     unrolled "$1" $(($2 + 1)) "1 b${3:-[0-9]}: confirmed $2 " "${4-}"
-    [ "$2" = 0 ] || unrolled "$1" "$2" "0 no counterexample of at most $2 steps " "${4-}"
+    [ "$2" = 0 ] || unrolled "$1" "$2" "none $2" "${4-}"
 }
 # fails DESIGN STEP [BAD]: by check.sh in this step, which is the least
 fails() {
@@ -152,7 +189,8 @@ fails() {
 # holds DESIGN: within both bounds
 holds() {
     design "$1" '0 no counterexample of at most 50 steps '
-    unrolled "$1" 7 '0 no counterexample of at most 7 steps '
+    for solver in "${solvers[@]}"; do unrolled "$1" 7 'none 7'; done
+    solver=
 }
 # says_nothing DESIGN WORDS WORDS: of check.sh, and of aiger
 says_nothing() {
@@ -220,10 +258,17 @@ import random
 import sys
 from pathlib import Path
 
-from lib import answers, images
+from lib import answers, images, refutations
+
+
+def model(chance, number):
+    """A model that has latches, since bmc3 takes no other one."""
+    made = iter(lambda: (refutations.sums if number % 4 == 0 else answers.small)(chance), None)
+    return next(it for it in made if it.latches)
+
 
 for number in range(int(sys.argv[2])):
-    Path(sys.argv[1], f"{number}.aig").write_bytes(images.image(answers.small(random.Random(number))))
+    Path(sys.argv[1], f"{number}.aig").write_bytes(images.image(model(random.Random(number), number)))
 MODELS
 }
 
@@ -237,12 +282,14 @@ least_of_abc() {
 }
 
 flows_of_models_by_chance() {
-    local number step
+    local number step solver
     models_by_chance 100
     for ((number = 0; number < 100; number++)); do
+        # in all others by that which gives refutations, if it is there
+        solver=$([ $((number % 2)) = 0 ] || printf '%s\n' "${solvers[@]}" | grep -x cadical)
         step=$(least_of_abc "$place/models/$number.aig")
         if [ "$step" = none ]; then
-            unrolled "model $number" 10 '0 no counterexample of at most 10 steps ' "models/$number.aig"
+            unrolled "model $number" 10 'none 10' "models/$number.aig"
         else
             least "model $number" "${step:-99}" 0 "models/$number.aig"
         fi
@@ -303,6 +350,6 @@ if command -v yosys > /dev/null && command -v berkeley-abc > /dev/null && [ ${#s
     flows_that_abc_or_aiger_ends
     flows_with_spaces
 else
-    skip 247 'yosys, berkeley-abc or a SAT solver is not installed, to check designs'
+    skip 243 'yosys, berkeley-abc or a SAT solver is not installed, to check designs'
 fi
 finish

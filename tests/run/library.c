@@ -50,6 +50,9 @@ static const char toggle[] = "aag 1 0 1 1 0 1\n2 3\n2\n2\n";
 static const char steps[] = "\n\n\n";
 static const char claim[] = "1\nb0\n0\n\n\n.\n";
 static const char said[] = "c\ns SATISFIABLE\nv -1 2\nv 0\n";
+/* two bits that are at no value, so that a lemma is needed */
+static const char four[] = "aag 9 2 0 0 7 1\n2\n4\n18\n6 5 3\n8 5 2\n10 4 3\n12 4 2\n14 9 7\n16 13 11\n18 16 14\n";
+static const char refutation[] = "2 3 0\nd 3 2 0\n3 0\n0\n";
 static const char wrong_claim[] = "1\nb0\n0\n\n.\n";
 
 typedef uint32_t call(uint8_t *output, size_t room, aigtools_outcome *outcome);
@@ -75,15 +78,24 @@ static uint32_t clauses(uint8_t *output, size_t room, aigtools_outcome *outcome)
 static uint32_t reached(uint8_t *output, size_t room, aigtools_outcome *outcome) {
     return aigtools_answer(0, 5, AIGTOOLS_LARGEST, TEXT(toggle), TEXT(said), output, room, outcome);
 }
-/* the witness has no text: its words stand for it */
+/* what has no text: its words stand for it */
+static uint32_t put_words(const char *words, unsigned long number, uint8_t *output, size_t room,
+                          aigtools_outcome *outcome) {
+    char text[32];
+    outcome->length = (uint64_t)snprintf(text, sizeof text, "%s %lu", words, number);
+    if (outcome->length > room) return outcome->status = AIGTOOLS_TOO_SHORT;
+    memcpy(output, text, outcome->length);
+    return outcome->status;
+}
 static uint32_t judged(uint8_t *output, size_t room, aigtools_outcome *outcome) {
-    char words[32];
     uint32_t status = aigtools_witness(AIGTOOLS_LARGEST, TEXT(toggle), TEXT(claim), outcome);
     if (status != AIGTOOLS_DONE) return status;
-    outcome->length = (uint64_t)snprintf(words, sizeof words, "confirmed %lu", (unsigned long)outcome->number);
-    if (outcome->length > room) return outcome->status = AIGTOOLS_TOO_SHORT;
-    memcpy(output, words, outcome->length);
-    return status;
+    return put_words("confirmed", (unsigned long)outcome->number, output, room, outcome);
+}
+static uint32_t refuted(uint8_t *output, size_t room, aigtools_outcome *outcome) {
+    uint32_t status = aigtools_refute(0, 1, AIGTOOLS_LARGEST, TEXT(four), TEXT(refutation), outcome);
+    if (status != AIGTOOLS_DONE) return status;
+    return put_words("none within", 1, output, room, outcome);
 }
 
 static uint32_t run_of(const char *witness, size_t length, uint8_t *output, size_t room, aigtools_outcome *outcome) {
@@ -96,7 +108,7 @@ static uint32_t run(uint8_t *output, size_t room, aigtools_outcome *outcome) {
 static const struct { const char *name; call *of; } calls[] = {
     {"to binary", to_binary}, {"to ascii", to_ascii}, {"frames", frames}, {"trace", trace},
     {"dump", dump},           {"judged", judged},     {"run", run},       {"clauses", clauses},
-    {"reached", reached},
+    {"reached", reached},     {"refuted", refuted},
 };
 #define CALLS (sizeof calls / sizeof *calls)
 
@@ -200,6 +212,8 @@ static void check_refused_options(void) {
     IS_BAD(aigtools_clauses(0, 1, above, text, 0, output, 1, &x));
     IS_BAD(aigtools_answer(AIGTOOLS_ALL_BAD, 1000001, 1, text, 0, text, 0, output, 1, &x));
     IS_BAD(aigtools_answer(0, 1, above, text, 0, text, 0, output, 1, &x));
+    IS_BAD(aigtools_refute(0, 0, 1, text, 0, text, 0, &x));
+    IS_BAD(aigtools_refute(AIGTOOLS_ALL_BAD, 1, above, text, 0, text, 0, &x));
     IS_BAD(aigtools_witness(above, text, 0, text, 0, &x));
     IS_BAD(aigtools_dump(above, text, 0, text, 0, output, 1, &x));
     check(aigtools_message(&x, output, 1) == 0 && output[0] == UNTOUCHED, "message", "no fault", 0);
@@ -253,6 +267,27 @@ static void check_answers(void) {
     check(x.status == AIGTOOLS_REFUSED && x.kind == AIGTOOLS_NO_BAD_STATES, "clauses", "no bad states", x.kind);
 }
 
+static void check_refutations(void) {
+    static const struct { const char *said; uint32_t bad, kind, place, subject; uint64_t number; } refused[] = {
+        {"", AIGTOOLS_ALL_BAD, AIGTOOLS_NO_REFUTATION, AIGTOOLS_WHOLE, 0, 0},
+        {"2 3 0\nx\n", 0, AIGTOOLS_BAD_REFUTATION, AIGTOOLS_LINE, 0, 2},
+        {"c\n2 3 0\n0\n", 0, AIGTOOLS_DOES_NOT_FOLLOW, AIGTOOLS_LINE, 0, 3},
+        {"3 0\n", 1, AIGTOOLS_NO_SUCH_BAD_STATE, AIGTOOLS_WHOLE, 1, 0},
+    };
+    aigtools_outcome x;
+    size_t i;
+    for (i = 0; i < sizeof refused / sizeof *refused; i++) {
+        aigtools_refute(refused[i].bad, 1, AIGTOOLS_LARGEST, TEXT(four), (const uint8_t *)refused[i].said,
+                        strlen(refused[i].said), &x);
+        check(x.status == AIGTOOLS_REFUSED && x.kind == refused[i].kind && x.place == refused[i].place &&
+                  x.subject == refused[i].subject && x.number == refused[i].number && x.length == 0,
+              "refuted", "refused", (long)i);
+    }
+    aigtools_refute(0, 1, AIGTOOLS_LARGEST, TEXT(four), TEXT(refutation), &x);
+    check(x.status == AIGTOOLS_DONE && x.kind == 0 && x.place == 0 && x.number == 0 && x.length == 0, "refuted", "done",
+          x.status);
+}
+
 static int time_conversion(const char *path, long times) {
     FILE *file = fopen(path, "rb");
     size_t length;
@@ -284,6 +319,7 @@ int main(int count, char **words) {
     }
     check_verdicts_with_runs();
     check_answers();
+    check_refutations();
     check_refused_options();
     check_threads();
     return failed;

@@ -71,8 +71,8 @@ def options_of(words):
             options[{"-a": "ascii", "-s": "strip"}.get(word, word[2:].replace("-", "_"))] = True
         elif word in ("--max-var", "--frames", "--bad") and rest and rest[0].isdigit():
             options[word[2:].replace("-", "_")] = int(rest.pop(0))
-        elif word == "--answer" and rest:
-            options["answer"] = rest.pop(0)
+        elif word in ("--answer", "--refutation") and rest:
+            options[word[2:]] = rest.pop(0)
         elif word.startswith("-") and word != "-":
             return None
         else:
@@ -98,6 +98,9 @@ def answer(name, options, first, second):
             return aigtools.convert(first, **options), "", 0
         if name == "aigunroll" and options.pop("answer", False):
             return aigtools.answer(first, second, **options), "", 0
+        if name == "aigunroll" and options.pop("refutation", False):
+            aigtools.refute(first, second, **options)
+            return b"none within %d\n" % options["frames"], "", 0
         if name == "aigunroll":
             call = aigtools.clauses if options.pop("cnf", False) else aigtools.unroll
             return call(first, **options), "", 0
@@ -121,14 +124,15 @@ def rows(folder):
         if asked is None or status not in (b"0", b"1") or asked[0] not in ("aigtoaig", "aigunroll", "aigsim"):
             continue
         tool, options, files = asked
-        if "answer" in options:
-            files = [*(files or ["-"]), options["answer"]]
+        written = options.get("answer", options.get("refutation"))
+        if written is not None:
+            files = [*(files or ["-"]), written]
         inputs = [meant(given) if it == "-" else Path(it).read_bytes() if os.path.isfile(it) else None for it in files]
         if tool == "aigsim":
             inputs += [meant(given)] * (len(inputs) == 1)
             whole = "batch" in options or "witness" in options or status == b"0"
         else:
-            inputs = (inputs or [meant(given)]) + [b""] * ("answer" not in options)
+            inputs = (inputs or [meant(given)]) + [b""] * (written is None)
             whole = True
         if whole and len(inputs) == 2 and None not in inputs:
             yield name.decode(), tool, options, inputs, (meant(output), meant(errors).decode(), int(status)), files
@@ -179,8 +183,11 @@ def mutants(folder, program):
         elif kind < 10:
             options = {"frames": chance.randrange(1, 4), **chance.choice([{}, {"bad": chance.randrange(3)}])}
             words = [word for name, number in options.items() for word in (f"--{name}", str(number))]
-            if kind == 8:
+            if kind == 8 and chance.randrange(2):
                 yield "aigunroll", [*words, "--cnf"], {**options, "cnf": True}, text, b""
+            elif kind == 8:
+                said = chance.choice([b"", b"c\n-2 0\nd 2 0\n3 0\n0\n", b"a\5\0d\6\0a\7\0a\0"])
+                yield "aigunroll", [*words, "--refutation", "-"], {**options, "refutation": "-"}, text, mutated(chance, said)
             else:
                 said = b"c\ns SATISFIABLE\nv %d %d 5 -6\nv 0\n" % (chance.randrange(1, 9), chance.randrange(1, 9))
                 yield "aigunroll", [*words, "--answer", "-"], {**options, "answer": "-"}, text, mutated(chance, said)
@@ -205,7 +212,7 @@ def check_mutants(program):
         def compare(mutant):
             number, (tool, words, options, first, second) = mutant
             given, files = first, []
-            if tool == "aigsim" or "answer" in options:
+            if tool == "aigsim" or {"answer", "refutation"} & options.keys():
                 model = Path(folder, str(number))
                 model.write_bytes(first)
                 given, files = second, [str(model)]
@@ -283,6 +290,17 @@ class Sizes:
         judge("an answer of megabytes", len(given) > MANY and made == ran.stdout == wanted, len(given), len(made), ran.stderr)
         judge("its witness", aigtools.confirm(source, made) == 0)
 
+    def refuted(self):
+        """A refutation of megabytes, and one that does not follow at its end."""
+        source, words = b"aag 1 0 1 0 0 1\n2 3\n2\n", f"aigunroll --frames 2 --refutation - {self.model}"
+        self.model.write_bytes(source)
+        given = b"3 0\nd 2 3 0\n-2 -2 0\n" * LINES
+        for rest, said in ((b"", "no refutation"), (b"0\n", f"line {3 * LINES + 1}: does not follow")):
+            ran = subprocess.run([self.program, *words.split()], input=given + rest, capture_output=True, check=False)
+            came = answer("aigunroll", {"frames": 2, "refutation": "-"}, source, given + rest)
+            judge("a refutation of megabytes", len(given) > MANY and came == (b"", said, 1), came)
+            judge("and by the program", ran.stderr == f"aiger: -: {said}\n".encode(), ran.stderr)
+
     def traces(self, count, runs):
         """The traces and the dump of these runs of a circuit of this size."""
         source = "".join(large.wide(count, range(count), "ilobc")).encode()
@@ -322,6 +340,7 @@ def check_sizes(program):
         sizes.conversions()
         sizes.unrolled()
         sizes.answered()
+        sizes.refuted()
         *some, last = large.inputs(LINES)
         run = [*itertools.islice(itertools.cycle(some), STEPS), last]
         dump = sizes.traces(LINES, [run])
@@ -470,7 +489,10 @@ def check_options(program):
     """Each option of a command is one of its calls, or says which call it is; and each of a call one of the command."""
     calls = {
         "aigtoaig": ((aigtools.convert,), set()),
-        "aigunroll": ((aigtools.unroll, aigtools.clauses, aigtools.answer), {"cnf", "answer"}),
+        "aigunroll": (
+            (aigtools.unroll, aigtools.clauses, aigtools.answer, aigtools.refute),
+            {"cnf", "answer", "refutation"},
+        ),
         "aigsim": ((aigtools.simulate, aigtools.confirm, aigtools.dump), {"batch", "witness"}),
     }
     for command, (functions, chosen) in calls.items():
@@ -478,7 +500,7 @@ def check_options(program):
         words = re.findall(r"^ {2,6}(?:-\w, )?--([a-z-]+)", said, re.M)
         there = {it.replace("-", "_") for it in words} - {"help", "version"}
         names = {name for it in functions for name in inspect.signature(it).parameters}
-        here = names - {"data", "model", "stimulus", "witness", "answer"} | chosen
+        here = names - {"data", "model", "stimulus", "witness", "answer", "refutation"} | chosen
         judge(f"the options of {command}", there == here and len(there) > 1, there, here)
 
 
@@ -499,6 +521,7 @@ def check_arguments():
     for data in (17, "aag 0 0 0 0 0\n", None, [97]):
         judge("no bytes", refuses(TypeError, "bytes-like", aigtools.convert, data), data)
         judge("no bytes for a witness", refuses(TypeError, "bytes-like", aigtools.dump, gate, data), data)
+        judge("no bytes for a refutation", refuses(TypeError, "bytes-like", aigtools.refute, gate, data, 1), data)
     for other in ("ascii", "strip", "undo_map"):
         why = f"keep_map excludes {other}"
         judge(why, refuses(ValueError, why, aigtools.convert, gate, keep_map=True, **{other: True}))
@@ -510,10 +533,12 @@ def check_arguments():
     for frames in (0, 1000001):
         for call in (aigtools.unroll, aigtools.clauses):
             judge("frames", refuses(ValueError, "frames is not from 1 to 1000000", call, gate, frames), frames)
-        judge("frames", refuses(ValueError, "frames is not from", aigtools.answer, gate, b"", frames), frames)
+        for call in (aigtools.answer, aigtools.refute):
+            judge("frames", refuses(ValueError, "frames is not from", call, gate, b"", frames), frames)
     for bad in (-1, aigtools.LARGEST + 1):
         why = f"bad is not from 0 to {aigtools.LARGEST}"
         judge(why, refuses(ValueError, why, aigtools.clauses, gate, 1, bad=bad), bad)
+        judge(why, refuses(ValueError, why, aigtools.refute, gate, b"", 1, bad=bad), bad)
     for limit in (-1, aigtools.LARGEST + 1):
         why = f"max_var is not from 0 to {aigtools.LARGEST}"
         judge(why, refuses(ValueError, why, aigtools.confirm, gate, b"", max_var=limit), limit)

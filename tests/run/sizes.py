@@ -3,9 +3,10 @@
 
     tests/run/sizes.py PROGRAM [NAME]     all, or what has NAME in the name of its function
 
-Files, stimuli, witnesses and map blocks have more than 64 MB, comments of a solver's answer 100 MB, and a line of its
-values 50 MB. Each section has 500,000 lines. There are 20,000 runs, 1,000 frames, and 4,000,000 gates, each before the
-one that it is over. Dumps have 350,000 signals, and 1,200,000 steps.
+Files, stimuli, witnesses and map blocks have more than 64 MB, comments of a solver's answer 100 MB, a line of its
+values 50 MB, and refutations 100 MB, with a lemma of a million literals. Each section has 500,000 lines. There are
+20,000 runs, 1,000 frames, and 4,000,000 gates, each before the one that it is over. Dumps have 350,000 signals, and
+1,200,000 steps.
 What is wanted is made here by rule. A run may take 1.5 GB of memory.
 
 The last line is 'N passed, M failed'.
@@ -34,6 +35,8 @@ WIDTH, INPUTS, FRAMES, CARRIED = 5_000, 1_000, 1_000, 1_000
 SIGNALS, STEPS = 70_000, 1_200_000
 # bytes of comments in a solver's answer, and of a line of its values
 COMMENTS, VALUES = 100_000_000, 50_000_000
+# literals of a lemma, and lines of a refutation
+LITERALS, LEMMAS = 1_000_000, 1_000_000
 # bytes of a file that are held at a time
 EDGE = 65_536
 
@@ -275,6 +278,36 @@ def large_answers(room):
     room.gives("aigunroll --frames 4 model --answer -", "answer", "wanted")
 
 
+def large_refutations(room):
+    """Of two inputs, which have none of their four values, beside many inputs that are in long lemmas alone."""
+    count = LITERALS + 2
+    gates = [(1, 2), (1, -2), (-1, 2), (-1, -2)]
+
+    def literal(number):
+        return 2 * abs(number) + (number < 0)
+
+    lines = [(2 * (count + at), *map(literal, both)) for at, both in enumerate(gates, 1)]
+    lines += [(2 * (count + 5), 2 * count + 3, 2 * count + 5), (2 * (count + 6), 2 * count + 7, 2 * count + 9)]
+    lines += [(2 * (count + 7), 2 * (count + 5), 2 * (count + 6))]
+    head = f"aag {count + 7} {count} 0 0 7 1\n".encode()
+    ends = (f"{2 * (count + 7)}\n", *(f"{own} {left} {right}\n" for own, left, right in lines))
+    write("model", head, (f"{2 * at}\n" for at in range(1, count + 1)), ends)
+    write("wanted", b"none within 1\n")
+    # its last two literals are those by which it follows
+    long = b" ".join(b"%d" % at for at in range(4, count + 2)) + b" 2 3 0\n"
+    few = b"2 3 0\nd 3 2 0\n" * (LEMMAS // 2)
+    words = "aigunroll --frames 1 model --refutation -"
+    write("proof", b"c" * COMMENTS, b"\n", long, b"d ", long, few, long, b"2 0\n")
+    room.gives(words, "proof", "wanted")
+    write("proof", long, few, b"4 0\n")
+    came = room.run(words, "proof", "came")
+    told = b"aiger: -: line %d: does not follow\n" % (2 * (LEMMAS // 2) + 2)
+    room.judge("a line that does not follow behind many", came == (told, 1), came)
+    write("proof", few, long[:-2])
+    came = room.run(words, "proof", "came")
+    room.judge("a long lemma without its end", came == (b"aiger: -: no refutation\n", 1), came)
+
+
 def frames_of_nothing(room):
     """Latches that start anyhow, and nothing else: to go over all latches in each frame would take hours."""
     count, frames = LINES, 1_000_000
@@ -305,7 +338,7 @@ def window_edges(room):
 
 
 JUDGES = [large_chains, large_tails, large_sections, many_runs, many_signals, many_latches, long_stimuli, long_dumps]
-JUDGES += [many_frames, many_clauses, large_answers, frames_of_nothing, window_edges]
+JUDGES += [many_frames, many_clauses, large_answers, large_refutations, frames_of_nothing, window_edges]
 
 
 def main(program, name=""):

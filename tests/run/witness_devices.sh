@@ -269,6 +269,67 @@ answer_memory() {
     fi
 }
 
+# a refutation of a model of which two inputs have none of their four values: that needs a lemma
+refute() { "$program" aigunroll --frames 1 --refutation "$@" "$judged/four.aag"; }
+
+refutation_streams() {
+    local stream
+    printf 'aag 9 2 0 0 7 1\n2\n4\n18\n6 5 3\n8 5 2\n10 4 3\n12 4 2\n14 9 7\n16 13 11\n18 16 14\n' > "$judged/four.aag"
+    printf '2 3 0\nd 3 2 0\n3 0\n0\n' > "$judged/proof"
+    printf '0\n' > "$judged/forged"
+    for stream in closed full; do
+        wants '' 'aiger: -: cannot write\n' 1
+        check "a refutation, a $stream standard output" "output_$stream" refute "$judged/proof"
+        wants '' "aiger: $judged/forged: line 1: does not follow\n" 1
+        check "a forged refutation, a $stream standard output" "output_$stream" refute "$judged/forged"
+        wants '' '' 1
+        check "a forged refutation, a $stream standard error" "errors_$stream" refute "$judged/forged"
+        wants 'none within 1\n' '' 0
+        check "a refutation, a $stream standard error" "errors_$stream" refute "$judged/proof"
+    done
+    wants '' 'aiger: -: cannot read\n' 1
+    check 'a directory as refutation by standard input' refute - < "$work"
+    check 'a closed standard input as refutation' refute - <&-
+    check 'a closed standard input as model of a refutation' "$program" aigunroll --frames 1 - --refutation "$judged/proof" <&-
+    wants 'none within 1\n' '' 0
+    check 'the refutation by standard input' refute - < "$judged/proof"
+    refutation_in_pieces() { printf 'c\n2'; sleep 0.1; printf ' 3 0\r'; sleep 0.1; printf '\n3'; sleep 0.1; printf ' 0'; }
+    refutation_in_pieces | refute - > "$work/out" 2> "$work/err"
+    judge 'a refutation that comes in pieces' "${PIPESTATUS[1]}"
+}
+
+refutations_left_alone() {
+    wants '0\n' '' 0
+    check 'the refutation on a model that is refused' unread aigunroll --frames 2 --refutation - "$judged/cut.aag" < "$judged/forged"
+    check 'the refutation on a model that is not there' unread aigunroll --frames 2 --refutation - "$judged/none" < "$judged/forged"
+    check 'the refutation on no such bad state' \
+        unread aigunroll --frames 2 --refutation - --bad 1 "$judged/four.aag" < "$judged/forged"
+    check 'the refutation of words that are refused' \
+        unread aigunroll --frames 2 --cnf --refutation - "$judged/four.aag" < "$judged/forged"
+}
+
+# memory is taken for the clauses that are there, and not for those that are gone
+refutation_memory() {
+    local lemma
+    refute_in_little() { ( ulimit -v 20480 && exec timeout 300 "$program" aigunroll --frames 1 --refutation - "$judged/four.aag" ); }
+    wants 'none within 1\n' '' 0
+    lemma=$(many 1000 '2 3 ')
+    { many 5000 "${lemma}0 d ${lemma}0 "; printf '3 0\n'; } | refute_in_little > "$work/out" 2> "$work/err"
+    judge 'a refutation of 40 MB in 20 MB of memory' "${PIPESTATUS[1]}"
+    { printf 'c'; many 2000000 ' a comment of 25 characters'; printf '\n3 0\n'; } | refute_in_little > "$work/out" 2> "$work/err"
+    judge 'a comment of 50 MB in a refutation in 20 MB of memory' "${PIPESTATUS[1]}"
+    # which have no end, so that they must not be waited for
+    wants '' 'aiger: -: line 3: bad line\n' 1
+    { printf 'c\nc\n'; yes wrong 2> /dev/null; } | refute_in_little > "$work/out" 2> "$work/err"
+    judge 'a wrong refutation without an end' "${PIPESTATUS[1]}"
+    wants '' 'aiger: -: line 1: does not follow\n' 1
+    yes 0 2> /dev/null | refute_in_little > "$work/out" 2> "$work/err"
+    judge 'a forged refutation without an end' "${PIPESTATUS[1]}"
+    wants '' 'aiger: out of memory\n' 1
+    yes '2 3 0' 2> /dev/null | refute_in_little > "$work/out" 2> "$work/err"
+    judge 'lemmas without an end' "${PIPESTATUS[1]}"
+}
+
 make_witnesses
 witness_outputs
 witness_inputs
@@ -280,4 +341,7 @@ witness_memory
 answer_streams
 answers_left_alone
 answer_memory
+refutation_streams
+refutations_left_alone
+refutation_memory
 finish

@@ -62,8 +62,10 @@ is_usage words (Some asked) (Err usage.WitnessAlone) is some h = is ∙ ap Some 
 is_usage words (Some asked) (Err usage.VcdExcludesProperties) is some h = is ∙ ap Some h
 is_usage words (Some asked) (Err usage.CnfExcludesAscii) is some h = is ∙ ap Some h
 is_usage words (Some asked) (Err usage.AnswerAlone) is some h = is ∙ ap Some h
+is_usage words (Some asked) (Err usage.RefutationAlone) is some h = is ∙ ap Some h
 is_usage words (Some asked) (Err usage.BadNeedsClauses) is some h = is ∙ ap Some h
 is_usage words (Some asked) (Err usage.BothAreStandardInput) is some h = is ∙ ap Some h
+is_usage words (Some asked) (Err usage.RefutationIsModel) is some h = is ∙ ap Some h
 
 module _ (words : List Text) (m : ArgMatches) (h : HasMatchesOf aiger words m) (e : faults words ≡ []) where
   pub rows_known : is_some (option_and_then asked_by (subcommand_rows_of m)) ≡ true
@@ -136,8 +138,10 @@ module _ (words : List Text) (kind : ErrorKind) (passes : takes aiger words ≡ 
   refused_usage (Err usage.VcdExcludesProperties) h = absurd h
   refused_usage (Err usage.CnfExcludesAscii) h = absurd h
   refused_usage (Err usage.AnswerAlone) h = absurd h
+  refused_usage (Err usage.RefutationAlone) h = absurd h
   refused_usage (Err usage.BadNeedsClauses) h = absurd h
   refused_usage (Err usage.BothAreStandardInput) h = absurd h
+  refused_usage (Err usage.RefutationIsModel) h = absurd h
 
 -- ---- an argument that asks for a text
 

@@ -29,9 +29,11 @@ use Rattle.clap.proofs.CallerReads.{signed_reads}
 use Rattle.clap.proofs.ValueTestLemmas.{accepts-Accepts}
 use Rattle.aig_command.specs.Asked.{file, number_in, Asked, AsksWithinLimits, asked_by, command_of, conversion}
 use Rattle.aig_command.specs.Asked.{converts, faults, frames, limit, number, refused, simulates, simulation}
-use Rattle.aig_command.specs.Asked.{aigunroll, asked_reaching, asked_unrolling, is_given, options_refusal, reaches}
+use Rattle.aig_command.specs.Asked.{aigunroll, asked_reaching, is_given, options_refusal, reaches}
 use Rattle.aig_command.specs.Asked.{reaching, unrolling, unrolls}
 use Rattle.aig_command.specs.Aiger.{aiger, largest_index, max_var, most_frames, frames as frames_rule}
+use Rattle.aig_command.specs.declared.request.SolverFile.{SolverFile}
+use Rattle.aig_command.specs.declared.request.SolverFile.TheVariants as files
 use Rattle.aig_command.specs.declared.usage.Usage.{Usage}
 use Rattle.aig_command.proofs.Entered.{found_has, is_none, second_empty, stop_at, AllPass, IsFirst, first_empty}
 use Rattle.aig_command.proofs.Walked.{level_pass}
@@ -227,11 +229,18 @@ frames_are_in c a is p rows h =
 
 aigunroll_is_in : (rows : List Row) → (1 ≤ frames rows) × (frames rows ≤ most_frames) → limit rows ≤ largest_index
     → AsksWithinLimits (aigunroll rows)
-aigunroll_is_in rows few low = unless_refused (options_refusal rows) _ (go (is_given (codes "answer") rows))
+aigunroll_is_in rows few low =
+    unless_refused (options_refusal rows) _
+    (either (is_given (codes "answer") rows) _ _ (reach files.Answer)
+    (either (is_given (codes "refutation") rows) _ _ (reach files.Refutation)
+    (unless_refused _ (unrolls (unrolling rows)) (few.0, few.1, low))))
   where
-    go : (b : Bool) → AsksWithinLimits (cond b (asked_reaching rows) (asked_unrolling rows))
-    go true = unless_refused _ (reaches (reaching rows)) (few.0, few.1, low)
-    go false = unless_refused _ (unrolls (unrolling rows)) (few.0, few.1, low)
+    reach : (wrote : SolverFile) → AsksWithinLimits (asked_reaching wrote rows)
+    reach wrote = unless_refused _ (reaches (reaching wrote rows)) (few.0, few.1, low)
+
+    either : (b : Bool) (x y : Asked) → AsksWithinLimits x → AsksWithinLimits y → AsksWithinLimits (cond b x y)
+    either true x y hx hy = hx
+    either false x y hx hy = hy
 
 subcommands_are_bounded : AllByRecursion IsBounded (built aiger).subs
 subcommands_are_bounded = (

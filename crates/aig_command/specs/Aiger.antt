@@ -67,15 +67,16 @@ bad = record (new_rule (codes "bad")) {
   parser = Some (parser.Signed (pos 0) (pos largest_index));
 }
 
--- `--answer FILE`
-abbrev pub answer : Rule
-answer = record (new_rule (codes "answer")) { long = Some (codes "answer"); action = Some Set; value_names = 1 }
+-- `--answer FILE` or `--refutation FILE`
+abbrev pub solver_file : Text → Rule
+solver_file name = record (new_rule name) { long = Some name; action = Some Set; value_names = 1 }
 
 -- `aigunroll`: its options in any order, then the names of the two files, by place
 abbrev pub aigunroll : App
 aigunroll = with_rules (new_app (codes "aigunroll"))
-    (frames ∷ flag (codes "ascii") ∷ flag (codes "cnf") ∷ answer ∷ bad ∷ max_var ∷ new_rule (codes "source")
-    ∷ new_rule (codes "destination") ∷ [])
+    (frames ∷ flag (codes "ascii") ∷ flag (codes "cnf") ∷ solver_file (codes "answer")
+    ∷ solver_file (codes "refutation") ∷ bad ∷ max_var ∷ new_rule (codes "source") ∷ new_rule (codes "destination")
+    ∷ [])
 
 -- a command that has to be given a subcommand, has none for help, and has a version, as its subcommands have
 abbrev pub above : App → App

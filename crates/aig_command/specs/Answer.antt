@@ -62,14 +62,15 @@ unrolling_of request = record {
   destination = name_of request.destination;
 }
 
--- the answer and its model that a request is for
+-- the solver's file and the model that a request is for
 abbrev pub reaching_of : Reach → Reaching
 reaching_of request = record {
   frames = request.frames;
   bad = request.bad;
   max_var = request.max_var;
   model = name_of request.model;
-  answer = name_of request.answer;
+  wrote = request.wrote;
+  file = name_of request.file;
   destination = name_of request.destination;
 }
 
@@ -135,13 +136,13 @@ IsDumpAlone request = request.vcd ≡ true → request.properties ≡ false
 abbrev pub HasFrames : Unroll → Type 0
 HasFrames request = (1 ≤ request.frames) × (request.frames ≤ most_frames)
 
--- The standard input gives the model, or the answer, or neither, but never both.
-abbrev pub IsAnswerApart : Reach → Type 0
-IsAnswerApart request = name_of request.model ≡ None → name_of request.answer ≡ None → ⊥
+-- The standard input gives the model, or what a solver wrote, or neither, but never both.
+abbrev pub IsFileApart : Reach → Type 0
+IsFileApart request = name_of request.model ≡ None → name_of request.file ≡ None → ⊥
 
--- An answer is on a circuit that was unrolled over one frame or more, and not over too many.
+-- What a solver wrote is on a circuit that was unrolled over one frame or more, and not over too many.
 abbrev pub CanReach : Reach → Type 0
-CanReach request = (1 ≤ request.frames) × (request.frames ≤ most_frames) × IsAnswerApart request
+CanReach request = (1 ≤ request.frames) × (request.frames ≤ most_frames) × IsFileApart request
 
 -- what the command asks for can be done
 abbrev pub CanDo : Command → Type 0

@@ -9,6 +9,8 @@ use Rattle.std.specs.Str.{bytes_eq}
 use Rattle.std.specs.Str.Parse.{digits_value, without_leading_plus}
 use Rattle.clap.specs.Words.{Kinds, Row, Text, fault_of, first_of, one_of, subcommand_of}
 use Rattle.aig_command.specs.Aiger.{aiger, largest_index, most_frames}
+use Rattle.aig_command.specs.declared.request.SolverFile.{SolverFile}
+use Rattle.aig_command.specs.declared.request.SolverFile.TheVariants as files
 use Rattle.aig_command.specs.declared.request.UnrolledForm.{UnrolledForm}
 use Rattle.aig_command.specs.declared.request.UnrolledForm.TheVariants as forms
 use Rattle.aig_command.specs.declared.usage.Usage.{Usage}
@@ -152,42 +154,56 @@ unrolling rows = record {
   destination = file (codes "destination") rows;
 }
 
--- a solver's answer, in which there is the witness of a run that reaches a bad state: on which model, over how many
--- frames, and of which bad state, if not of any
+-- what a solver wrote, by which a bad state is reached or is not: on which model, over how many frames, and of which
+-- bad state, if not of any
 pub record Reaching : Type 0 where
   pub frames : ℕ
   pub bad : Option ℕ
   pub max_var : ℕ
   pub model : Option Text
-  pub answer : Option Text
+  pub wrote : SolverFile
+  pub file : Option Text
   pub destination : Option Text
 
--- what the arguments of `aigunroll --answer` name
-abbrev pub reaching : List Row → Reaching
-reaching rows = record {
+-- the option that names what a solver wrote
+abbrev pub option_of : SolverFile → Text
+option_of files.Answer = codes "answer"
+option_of files.Refutation = codes "refutation"
+
+-- what the arguments of `aigunroll` name with that option
+abbrev pub reaching : SolverFile → List Row → Reaching
+reaching wrote rows = record {
   frames = frames rows;
   bad = bad_number rows;
   max_var = limit rows;
   model = file (codes "source") rows;
-  answer = file (codes "answer") rows;
+  wrote = wrote;
+  file = file (option_of wrote) rows;
   destination = file (codes "destination") rows;
 }
 
--- the first reason to refuse an answer's files: the standard input is one stream and cannot give two files
+-- the standard input is one stream, and cannot give a model and what a solver wrote
+abbrev pub stream_refusal : SolverFile → Usage
+stream_refusal files.Answer = usage.BothAreStandardInput
+stream_refusal files.Refutation = usage.RefutationIsModel
+
+-- the first reason to refuse the files of a model and of what a solver wrote
 abbrev pub reaching_refusal : Reaching → Option Usage
 reaching_refusal r =
-    if is_none r.model && is_none r.answer then Some usage.BothAreStandardInput else destination_refusal r.destination
+    if is_none r.model && is_none r.file then Some (stream_refusal r.wrote) else destination_refusal r.destination
 
--- the first reason to refuse options of `aigunroll` together: clauses are neither ASCII nor binary, an answer is read
--- in place of writing them, and only these two know of one bad state
+-- the first reason to refuse options of `aigunroll` together: clauses are neither ASCII nor binary, an answer or a
+-- refutation is read in place of writing them, and only these three know of one bad state
 abbrev pub options_refusal : List Row → Option Usage
 options_refusal rows =
     let clauses = is_set (codes "cnf") rows in
     let ascii = is_set (codes "ascii") rows in
     let answer = is_given (codes "answer") rows in
+    let refutation = is_given (codes "refutation") rows in
     if clauses && ascii then Some usage.CnfExcludesAscii
     else if answer && (clauses || ascii) then Some usage.AnswerAlone
-    else if is_given (codes "bad") rows && not (clauses || answer) then Some usage.BadNeedsClauses
+    else if refutation && (clauses || ascii || answer) then Some usage.RefutationAlone
+    else if is_given (codes "bad") rows && not (clauses || answer || refutation) then Some usage.BadNeedsClauses
     else None
 
 -- what is asked for, or why that is refused
@@ -214,20 +230,23 @@ to_aig rows = option_map_or refused (refusal (conversion rows)) (converts (conve
 abbrev pub aigsim : List Row → Asked
 aigsim rows = option_map_or refused (simulation_refusal (simulation rows)) (simulates (simulation rows))
 
--- what the arguments of `aigunroll` ask for without `--answer`
+-- what the arguments of `aigunroll` ask for without a solver's file
 abbrev pub asked_unrolling : List Row → Asked
 asked_unrolling rows =
     option_map_or refused (destination_refusal (unrolling rows).destination) (unrolls (unrolling rows))
 
--- what they ask for with it
-abbrev pub asked_reaching : List Row → Asked
-asked_reaching rows = option_map_or refused (reaching_refusal (reaching rows)) (reaches (reaching rows))
+-- what they ask for with one
+abbrev pub asked_reaching : SolverFile → List Row → Asked
+asked_reaching wrote rows =
+    option_map_or refused (reaching_refusal (reaching wrote rows)) (reaches (reaching wrote rows))
 
 -- what the arguments of `aigunroll` ask for
 abbrev pub aigunroll : List Row → Asked
 aigunroll rows =
     option_map_or refused (options_refusal rows)
-    (if is_given (codes "answer") rows then asked_reaching rows else asked_unrolling rows)
+    (if is_given (codes "answer") rows then asked_reaching files.Answer rows
+    else if is_given (codes "refutation") rows then asked_reaching files.Refutation rows
+    else asked_unrolling rows)
 
 -- each subcommand: its name, and what its arguments ask for
 abbrev pub subcommands : List (Text × (List Row → Asked))

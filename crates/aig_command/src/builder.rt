@@ -1,14 +1,15 @@
 //! The command line as `clap` takes it, with its help texts.
 ghost use Rattle.std.specs.Prelude.{IfOk, codes};
 ghost use Rattle.clap.specs.Words.{App, Rule, new_app, new_rule, with_rule, with_subcommand};
-ghost use Rattle.aig_command.specs.Aiger.{HasApp, HasRule, above, aiger, aigsim, answer};
+ghost use Rattle.aig_command.specs.Aiger.{HasApp, HasRule, above, aiger, aigsim};
 ghost use Rattle.aig_command.specs.Aiger.{aigunroll, bad, flag, frames, max_var};
-ghost use Rattle.aig_command.specs.Aiger.{required_file, to_aig};
+ghost use Rattle.aig_command.specs.Aiger.{required_file, solver_file, to_aig};
 
 use clap::{Arg, ArgAction, Command, value_parser};
 use std::alloc::{AllocError, Global};
 
-/// The program's version, the one place in the sources that has it. By its contract the library's number is the same.
+/// The program's version, the one place in the sources that has it. By its contract the library's
+/// number is the same.
 pub const VERSION: &str = "1.1.0";
 
 const ABOUT: &str = "Tools for circuits in the AIGER format";
@@ -118,10 +119,16 @@ With --answer the solver's output on those clauses is read, by the same K and
 --bad, and the run that it gives is followed. Up to the first bad state it is
 written as a witness, which aigsim --witness confirms whatever the solver said.
 
+With --refutation a solver's proof that those clauses cannot be satisfied is
+checked, by the same K and --bad: DRAT, in text or binary, as CaDiCaL writes it
+without RAT lines. If it is right, 'none within K' is written: no run of at
+most K steps reaches a bad state with all constraints kept.
+
 Exit status:
   0  done, also for --help
   1  the input was refused, a file or stream failed, or memory ran out; or the
-     answer is not 'satisfiable', or its run reaches no bad state
+     answer is not 'satisfiable', or its run reaches no bad state; or the
+     refutation is not right
   2  the command line was refused
 
 Examples:
@@ -130,19 +137,28 @@ Examples:
   aiger aigunroll --frames 20 - < model.aig > out    from stream to stream
   aiger aigunroll --frames 20 --cnf model.aig model.cnf    clauses
   aiger aigunroll --frames 20 --cnf model.aig | cadical -q > answer.txt
-  aiger aigunroll --frames 20 --answer answer.txt model.aig witness.txt";
+  aiger aigunroll --frames 20 --answer answer.txt model.aig witness.txt
+  cadical -q model.cnf model.drat
+  aiger aigunroll --frames 20 --refutation model.drat model.aig";
 
 const FRAMES_HELP: &str = "The number of time frames: 1 to 1000000";
 
-const CNF_HELP: &str = "Write clauses for a SAT solver (DIMACS); not with --ascii";
+const CNF_HELP: &str = "\
+Write clauses for a SAT solver (DIMACS); not with
+--ascii";
 
 const ANSWER_HELP: &str = "\
-Take the witness from a solver's answer, FILE; - is the
-standard input. Not with --cnf or --ascii";
+Take the witness from a solver's answer, FILE; - is
+the standard input. Not with --cnf or --ascii";
+
+const REFUTATION_HELP: &str = "\
+Check a SAT solver's refutation of these clauses, and
+say that no bad state is reached; - is the standard
+input. Not with --cnf, --ascii or --answer";
 
 const BAD_HELP: &str = "\
-Of the bad states take that of number N alone, counted
-from 0; with --cnf or --answer";
+Of the bad states take that of number N alone,
+counted from 0; with --cnf, --answer or --refutation";
 
 const BATCH_HELP: &str = "\
 Read the whole stimulus first, and write nothing if a line
@@ -237,14 +253,14 @@ fn bad<'a>(alloc: Global) -> Arg<'a>
         .help(BAD_HELP)
 }
 
-fn answer<'a>(alloc: Global) -> Arg<'a>
-    ensures { HasRule answer result }
+fn solver_file<'a>(alloc: Global, name: &'a str, help: &'a str) -> Arg<'a>
+    ensures { HasRule (solver_file name.now) result }
 {
-    Arg::new(alloc, "answer")
-        .long("answer")
+    Arg::new(alloc, name)
+        .long(name)
         .value_name("FILE")
         .action(ArgAction::Set)
-        .help(ANSWER_HELP)
+        .help(help)
 }
 
 fn file<'a>(alloc: Global, name: &'a str, help: &'a str) -> Arg<'a>
@@ -316,7 +332,8 @@ fn aigunroll<'a>(alloc: Global) -> Result<Command<'a>, AllocError>
     let command = with_argument(command, frames(alloc));
     let command = with_argument(command, flag(alloc, "ascii", ASCII_HELP));
     let command = with_argument(command, flag(alloc, "cnf", CNF_HELP));
-    let command = with_argument(command, answer(alloc));
+    let command = with_argument(command, solver_file(alloc, "answer", ANSWER_HELP));
+    let command = with_argument(command, solver_file(alloc, "refutation", REFUTATION_HELP));
     let command = with_argument(command, bad(alloc));
     let command = with_argument(command, max_var(alloc));
     let command = with_argument(command, file(alloc, "source", SOURCE_HELP));

@@ -20,5 +20,5 @@ mod usage;
 
 pub use crate::builder::VERSION;
 pub use crate::reader::command;
-pub use crate::request::{Command, Reach, Sim, ToAig, Unroll, UnrolledForm};
+pub use crate::request::{Command, Reach, Sim, SolverFile, ToAig, Unroll, UnrolledForm};
 pub use crate::usage::Usage;

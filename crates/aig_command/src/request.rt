@@ -73,20 +73,31 @@ pub struct Unroll {
     pub destination: Option<String>,
 }
 
-/// A solver's answer on the clauses of an unrolled circuit, and the witness in it: a run that
-/// reaches a bad state.
+/// What a solver wrote on clauses.
+#[derive(Clone, Copy)]
+pub enum SolverFile {
+    /// Its answer, in which there is a run that reaches a bad state.
+    Answer,
+    /// Its refutation (a DRAT proof), by which no run reaches one.
+    Refutation,
+}
+
+/// What a solver wrote on the clauses of an unrolled circuit: the witness in its answer, or that
+/// its refutation is right.
 #[derive(Drop)]
 pub struct Reach {
     /// The number of frames, from 1 to 1000000.
     pub frames: u32,
-    /// The number of the bad state that is to be reached, counted from 0; `None` is any.
+    /// The number of the bad state that the clauses are for, counted from 0; `None` is any.
     pub bad: Option<u32>,
     /// The limit on the largest variable index and the counts of the model.
     pub max_var: u32,
     /// The model's name; `None` is the standard input.
     pub model: Option<String>,
-    /// The answer's name; `None` is the standard input. This or the model is a file with a name.
-    pub answer: Option<String>,
+    /// What is read beside the model.
+    pub wrote: SolverFile,
+    /// Its name; `None` is the standard input. This or the model is a file with a name.
+    pub file: Option<String>,
     /// The destination's name; `None` is the standard output.
     pub destination: Option<String>,
 }
@@ -98,9 +109,9 @@ pub enum Command {
     ToAig(ToAig),
     /// `aigsim`.
     Sim(Sim),
-    /// `aigunroll`, without `--answer`.
+    /// `aigunroll`, without `--answer` and `--refutation`.
     Unroll(Unroll),
-    /// `aigunroll --answer`.
+    /// `aigunroll --answer` or `aigunroll --refutation`.
     Reach(Reach),
     /// Help; this is its text.
     Help(String),

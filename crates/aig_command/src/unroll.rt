@@ -8,7 +8,7 @@ ghost use Rattle.aig_command.specs.Asked.{options_refusal, unrolled_form, unroll
 use crate::destination::{check_destination, wants_ascii};
 use crate::options::{bad_number, frame_count, is_given, is_set, limit, named_file};
 use crate::reach::asked_reaching;
-use crate::request::{Command, Unroll, UnrolledForm};
+use crate::request::{Command, SolverFile, Unroll, UnrolledForm};
 use crate::usage::Usage;
 use clap::ArgMatches;
 use std::alloc::{AllocError, Global};
@@ -51,13 +51,17 @@ fn check_options(matches: &ArgMatches<'_>) -> Result<(), Usage>
     let clauses = is_set(matches, "cnf");
     let ascii = is_set(matches, "ascii");
     let answer = is_given(matches, "answer");
+    let refutation = is_given(matches, "refutation");
     if clauses && ascii {
         return Err(Usage::CnfExcludesAscii);
     }
     if answer && (clauses || ascii) {
         return Err(Usage::AnswerAlone);
     }
-    if is_given(matches, "bad") && !(clauses || answer) {
+    if refutation && (clauses || ascii || answer) {
+        return Err(Usage::RefutationAlone);
+    }
+    if is_given(matches, "bad") && !(clauses || answer || refutation) {
         return Err(Usage::BadNeedsClauses);
     }
     Ok(())
@@ -80,8 +84,10 @@ pub(crate) fn aigunroll(alloc: Global, matches: &ArgMatches<'_>) -> Result<Comma
 {
     check_options(matches)?;
     if is_given(matches, "answer") {
-        asked_reaching(alloc, matches)
-    } else {
-        asked_unrolling(alloc, matches)
+        return asked_reaching(alloc, matches, SolverFile::Answer);
     }
+    if is_given(matches, "refutation") {
+        return asked_reaching(alloc, matches, SolverFile::Refutation);
+    }
+    asked_unrolling(alloc, matches)
 }

@@ -34,10 +34,14 @@ pub enum Usage {
     CnfExcludesAscii,
     /// An answer is read, and clauses or the circuit in ASCII are asked for too.
     AnswerAlone,
-    /// A bad state is chosen, and neither clauses nor an answer need it.
+    /// A refutation is read, and clauses, the circuit in ASCII or an answer are asked for too.
+    RefutationAlone,
+    /// A bad state is chosen, and there are no clauses that need it.
     BadNeedsClauses,
     /// Both a model and an answer on it are read from the standard input.
     BothAreStandardInput,
+    /// Both a model and a refutation of it are read from the standard input.
+    RefutationIsModel,
     /// An allocation failed; nothing is known of the command line.
     OutOfMemory,
 }
@@ -60,8 +64,10 @@ impl Usage {
             Usage::VcdExcludesProperties => "--vcd excludes --properties",
             Usage::CnfExcludesAscii => "--cnf excludes --ascii",
             Usage::AnswerAlone => "--answer excludes --cnf and --ascii",
-            Usage::BadNeedsClauses => "--bad needs --cnf or --answer",
+            Usage::RefutationAlone => "--refutation excludes --cnf, --ascii and --answer",
+            Usage::BadNeedsClauses => "--bad needs --cnf, --answer or --refutation",
             Usage::BothAreStandardInput => "model and answer are both standard input",
+            Usage::RefutationIsModel => "model and refutation are both standard input",
             Usage::OutOfMemory => "out of memory",
         }
     }

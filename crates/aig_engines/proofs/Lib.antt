@@ -7,6 +7,7 @@ pub mod Verdicts
 pub mod Lines
 pub mod Unrollings
 pub mod Reachings
+pub mod Refutings
 pub mod AskedFor
 pub mod Answered
 pub mod Values

@@ -42,8 +42,10 @@ line_of_usage usages.VcdExcludesProperties other = refl
 line_of_usage usages.CompressedOutput other = refl
 line_of_usage usages.CnfExcludesAscii other = refl
 line_of_usage usages.AnswerAlone other = refl
+line_of_usage usages.RefutationAlone other = refl
 line_of_usage usages.BadNeedsClauses other = refl
 line_of_usage usages.BothAreStandardInput other = refl
+line_of_usage usages.RefutationIsModel other = refl
 line_of_usage usages.OutOfMemory other = refl
 
 -- where an answer is no success it is an error

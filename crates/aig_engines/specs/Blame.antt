@@ -6,12 +6,14 @@ use Rattle.aig_map.specs.declared.fault.MapFault.TheVariants as map_faults
 use Rattle.aig_engines.specs.declared.fault.ToolFault.{ToolFault}
 use Rattle.aig_step.specs.declared.fault.SimFault.{SimFault}
 use Rattle.aig_step.specs.declared.fault.SimFault.TheVariants as sim_faults
+use Rattle.aig_refute.specs.declared.fault.RefutationFault.{RefutationFault}
+use Rattle.aig_refute.specs.declared.fault.RefutationFault.TheVariants as refutation_faults
 use Rattle.aig_search.specs.declared.fault.AnswerFault.{AnswerFault}
 use Rattle.aig_search.specs.declared.fault.AnswerFault.TheVariants as answer_faults
 use Rattle.aig_unroll.specs.declared.fault.UnrollFault.{UnrollFault}
 use Rattle.aig_unroll.specs.declared.fault.UnrollFault.TheVariants as unroll_faults
 use Rattle.aig_engines.specs.declared.fault.ToolFault.TheVariants.{Read, Map, HasBad, Sim, NoBad, Unroll, Clauses}
-use Rattle.aig_engines.specs.declared.fault.ToolFault.TheVariants.{Answer, Source, Sink, OutOfMemory}
+use Rattle.aig_engines.specs.declared.fault.ToolFault.TheVariants.{Answer, Refutation, Source, Sink, OutOfMemory}
 
 -- The device that failed, memory that was refused, or else what the source gave, or the stimulus. Of a simulation the
 -- model is the source; a witness file stands in the place of the stimulus.
@@ -52,6 +54,12 @@ answer_blamed answer_faults.OutOfMemory = Memory
 answer_blamed answer_faults.ReadFailed = TheSource
 answer_blamed _ = TheInput
 
+-- where a solver's refutation is not taken
+abbrev pub refutation_blamed : RefutationFault → Party
+refutation_blamed refutation_faults.OutOfMemory = Memory
+refutation_blamed refutation_faults.ReadFailed = TheSource
+refutation_blamed _ = TheInput
+
 -- want of memory while a text or a map is judged, for a simulation, or while a circuit is unrolled, is reported as a
 -- fault of it
 abbrev pub at_fault : ToolFault → Party
@@ -63,6 +71,7 @@ at_fault (NoBad number) = TheInput
 at_fault (Unroll fault) = unroll_blamed fault
 at_fault (Clauses fault) = TheInput
 at_fault (Answer fault) = answer_blamed fault
+at_fault (Refutation fault) = refutation_blamed fault
 at_fault Source = TheSource
 at_fault Sink = TheSink
 at_fault OutOfMemory = Memory

@@ -22,6 +22,7 @@ use Rattle.aig_command.specs.declared.request.Unroll.{Unroll}
 use Rattle.aig_command.specs.declared.request.UnrolledForm.{UnrolledForm}
 use Rattle.aig_command.specs.declared.request.UnrolledForm.TheVariants.{Ascii, Binary, Clauses}
 use Rattle.aig_search.specs.Alone.{HasAsked, asked_of}
+use Rattle.aig_search.specs.Laws.{IsOfAsked}
 use Rattle.aig_meaning.specs.Meaning.{Row}
 use Rattle.aig_meaning.specs.Trace.{IsTrace}
 use Rattle.aig_circuit.specs.declared.value.Val.{Val}
@@ -37,6 +38,7 @@ use Rattle.aig_engines.specs.Conversion.{IsConversionText}
 use Rattle.aig_engines.specs.OutputsAsBad.{row_with_outputs_as_bad}
 use Rattle.aig_engines.specs.Simulation.{IsSimulationText}
 use Rattle.aig_engines.specs.Reaching.{IsModelAsked, IsReachText}
+use Rattle.aig_engines.specs.Refuting.{IsNoneText}
 use Rattle.aig_engines.specs.Unrolling.{IsUnrollingText, IsWritable, bad_of}
 use Rattle.aig_engines.specs.WitnessOutcome.{IsWitnessAnswer}
 
@@ -244,6 +246,14 @@ SolverAnswersAreConfirmed = (request : Reach) (judging : Sim) (asked : Circuit) 
     → judging.max_var ≡ request.max_var → IsModelAsked request model asked → IsReachText request asked answer text
     → (step : ℕ) × (step < request.frames) × (confirmed : IsWitnessAnswer judging model text (Confirmed step))
     × ((number : ℕ) → request.bad ≡ Some number → confirmed.claim.property ≡ number)
+
+-- Where it is written for a model that there is none, no witness file of the bad state that is asked for, or of any
+-- where none is, is confirmed of the model at one of the frames, however many steps it has.
+abbrev pub RefutationsMeanNone : Type 0
+RefutationsMeanNone = (request : Reach) (judging : Sim) (asked : Circuit) (model text witness : List ℕ) (step : ℕ)
+    → judging.max_var ≡ request.max_var → IsModelAsked request model asked → IsNoneText request asked text
+    → step < request.frames → (confirmed : IsWitnessAnswer judging model witness (Confirmed step))
+    → ¬ IsOfAsked request.bad confirmed.claim
 
 -- A witness that is confirmed at a step sets the unrolled circuit of as many frames and one more. Where that is given
 -- the first values of the uninitialised latches and then the inputs of the witness's steps, it has exactly one trace,

@@ -4,6 +4,7 @@ pub mod Conversion
 pub mod Simulation
 pub mod Unrolling
 pub mod Reaching
+pub mod Refuting
 pub mod Blame
 pub mod Reading
 pub mod Outcome

@@ -6,6 +6,9 @@ use Rattle.aig_rows.specs.declared.fault.ReadFault.{ReadFault}
 use Rattle.aig_text.specs.Reading.{IsFirstFault}
 use Rattle.aig_binary.specs.declared.source_fault.SourceFault.{SourceFault}
 use Rattle.aig_binary.specs.declared.source_fault.SourceFault.TheVariants as source_faults
+use Rattle.aig_refute.specs.Refuted.{EndsFor}
+use Rattle.aig_refute.specs.declared.fault.RefutationFault.{RefutationFault}
+use Rattle.aig_refute.specs.declared.fault.RefutationFault.TheVariants as refutation_faults
 use Rattle.aig_search.specs.declared.fault.AnswerFault.{AnswerFault}
 use Rattle.aig_search.specs.declared.fault.AnswerFault.TheVariants as answer_faults
 use Rattle.aig_search.specs.declared.fault.AskedFault.{AskedFault}
@@ -31,6 +34,12 @@ fault_of_answer answer_faults.OutOfMemory = faults.OutOfMemory
 fault_of_answer answer_faults.ReadFailed = faults.Source
 fault_of_answer fault = faults.Answer fault
 
+-- why a refutation was not taken, as a fault of a tool
+abbrev pub fault_of_refutation : RefutationFault → ToolFault
+fault_of_refutation refutation_faults.OutOfMemory = faults.OutOfMemory
+fault_of_refutation refutation_faults.ReadFailed = faults.Source
+fault_of_refutation fault = faults.Refutation fault
+
 -- these bytes are refused; or so many came of them that they are, whatever comes behind
 abbrev pub IsRefusedAt : (List ℕ → Type 0) → List ℕ → Ending → Type 0
 IsRefusedAt IsRefused bytes AtEnd = IsRefused bytes
@@ -38,12 +47,14 @@ IsRefusedAt IsRefused bytes Open = (more : List ℕ) → IsRefused (bytes ++ mor
 IsRefusedAt IsRefused bytes Broken = ⊥
 
 -- Why nothing was made of what came: the source failed; memory was refused; or all came, and is refused with this
--- fault, of a solver's answer so much that it is refused. No sink is called.
+-- fault, of what a solver wrote so much that it is refused. No sink is called.
 abbrev pub NotRead : (ToolFault → List ℕ → Type 0) → ToolFault → List ℕ → Ending → Type 0
 NotRead IsRefused faults.Source bytes ending = ending ≡ Broken
 NotRead IsRefused faults.Sink bytes ending = ⊥
 NotRead IsRefused faults.OutOfMemory bytes ending = IsUnbroken ending
 NotRead IsRefused (faults.Answer fault) bytes ending = IsRefusedAt (IsRefused (faults.Answer fault)) bytes ending
+NotRead IsRefused (faults.Refutation fault) bytes ending =
+    EndsFor fault ending × IsRefusedAt (IsRefused (faults.Refutation fault)) bytes ending
 NotRead IsRefused fault bytes ending = (ending ≡ AtEnd) × IsRefused fault bytes
 
 -- all came, and this holds of what was made and of the bytes; or nothing was made

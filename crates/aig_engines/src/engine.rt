@@ -45,8 +45,8 @@ pub trait Engine {
         ensures { name_of result.now ≡ destination_name self.now };
 
     /// Reads the source to its end, and makes of it what is to be written. It fails if the source
-    /// or an allocation fails, or if the bytes are refused; of a solver's answer that may be known
-    /// before the end.
+    /// or an allocation fails, or if the bytes are refused; of what a solver wrote that may be
+    /// known before the end.
     fn read<R: Source>(&self, alloc: Global, source: &mut R) -> Result<Self::Work, ToolFault>
         requires source { CanFail (R.past source.old) }
         requires can_do { can_do self.now }

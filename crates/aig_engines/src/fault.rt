@@ -4,11 +4,13 @@ ghost use Rattle.aig_engines.specs.Messages.{error_text};
 ghost use Rattle.aig_engines.specs.declared.fault.ToolFault.TheVariants.{Clauses, Map, OutOfMemory};
 ghost use Rattle.aig_engines.specs.declared.fault.ToolFault.TheVariants.{Read, Sim, Sink, Unroll};
 ghost use Rattle.aig_engines.specs.Blame.{at_fault, Memory};
-ghost use Rattle.aig_engines.specs.Reading.{fault_of_answer, fault_of_asked, fault_of_source};
+ghost use Rattle.aig_engines.specs.Reading.{fault_of_answer, fault_of_asked, fault_of_refutation};
+ghost use Rattle.aig_engines.specs.Reading.{fault_of_source};
 
 use aig_binary::SourceFault;
 use aig_core::ReadError;
 use aig_order::MapFault;
+use aig_refute::RefutationFault;
 use aig_search::{AnswerFault, AskedFault};
 use aig_step::SimFault;
 use aig_text::{CANNOT_READ, CANNOT_WRITE, OUT_OF_MEMORY, ReadFault, ReadKind, WriteFault};
@@ -38,6 +40,8 @@ pub enum ToolFault {
     Clauses(ClauseFault),
     /// The solver's answer gives no witness.
     Answer(AnswerFault),
+    /// The solver's refutation does not show that the clauses cannot be satisfied.
+    Refutation(RefutationFault),
     /// The source failed; of a simulation or a witness, the model's.
     Source,
     /// The sink failed.
@@ -59,6 +63,7 @@ impl ToolFault {
             ToolFault::Sim(fault) => matches!(fault, SimFault::OutOfMemory),
             ToolFault::Unroll(fault) => matches!(fault, UnrollFault::OutOfMemory),
             ToolFault::Answer(fault) => matches!(fault, AnswerFault::OutOfMemory),
+            ToolFault::Refutation(fault) => matches!(fault, RefutationFault::OutOfMemory),
             ToolFault::HasBad | ToolFault::NoBad(_) | ToolFault::Clauses(_) => false,
             ToolFault::Source | ToolFault::Sink => false,
         }
@@ -78,6 +83,7 @@ impl fmt::Display for ToolFault {
             ToolFault::Unroll(fault) => write!(f, "{fault}"),
             ToolFault::Clauses(fault) => write!(f, "{fault}"),
             ToolFault::Answer(fault) => write!(f, "{fault}"),
+            ToolFault::Refutation(fault) => write!(f, "{fault}"),
             ToolFault::Source => write!(f, "{CANNOT_READ}"),
             ToolFault::Sink => write!(f, "{CANNOT_WRITE}"),
             ToolFault::OutOfMemory => write!(f, "{OUT_OF_MEMORY}"),
@@ -166,6 +172,18 @@ impl From<AnswerFault> for ToolFault {
             AnswerFault::OutOfMemory => ToolFault::OutOfMemory,
             AnswerFault::ReadFailed => ToolFault::Source,
             _ => ToolFault::Answer(error),
+        }
+    }
+}
+
+impl From<RefutationFault> for ToolFault {
+    ghost from_gives = { λ error fault. fault ≡ fault_of_refutation error };
+
+    fn from(error: RefutationFault) -> ToolFault {
+        match error {
+            RefutationFault::OutOfMemory => ToolFault::OutOfMemory,
+            RefutationFault::ReadFailed => ToolFault::Source,
+            _ => ToolFault::Refutation(error),
         }
     }
 }

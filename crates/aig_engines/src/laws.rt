@@ -9,7 +9,7 @@ ghost use Rattle.aig_engines.specs.Laws.{UnrollingsAreUnambiguous};
 ghost use Rattle.aig_engines.specs.Laws.{ConfirmedWitnessesSetUnrolledCircuits};
 ghost use Rattle.aig_engines.specs.Laws.{RightRunsAreConfirmed, VerdictsAreKept};
 ghost use Rattle.aig_engines.specs.Laws.{ReachTextsAreUnambiguous, RightAnswersHaveWitnesses};
-ghost use Rattle.aig_engines.specs.Laws.{SolverAnswersAreConfirmed};
+ghost use Rattle.aig_engines.specs.Laws.{RefutationsMeanNone, SolverAnswersAreConfirmed};
 ghost use Rattle.aig_engines.specs.Laws.{WitnessAnswersAreUnambiguous, WitnessAnswersExist};
 
 /// What is read of a text is a circuit exactly where the text is a file of that circuit, ASCII or
@@ -132,4 +132,10 @@ pub fn right_answers_have_witnesses()
 /// bad state that was asked for.
 pub fn solver_answers_are_confirmed()
     ensures { SolverAnswersAreConfirmed }
+{}
+
+/// Where it is written for a model and a solver's refutation that there is none, no witness file is
+/// confirmed of the model at one of the frames.
+pub fn refutations_mean_none()
+    ensures { RefutationsMeanNone }
 {}

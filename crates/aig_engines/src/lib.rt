@@ -2,12 +2,12 @@
 //! of it all.
 //!
 //! Others call `run_toaig`, `run_witness` and `run_unroll`, which work over any source and sink;
-//! `read_circuit`; for a solver's answer `read_asked` and `AnswerFor`; the trait `Engine`; and what
-//! is reported on standard error. The engine of `aigsim` stands above, in `aig_tools`, since it
-//! needs `aig_dump`, which stands beside this crate.
+//! `read_circuit`; for what a solver wrote `read_asked`, `AnswerFor` and `RefutationFor`; the trait
+//! `Engine`; and what is reported on standard error. The engine of `aigsim` stands above, in
+//! `aig_tools`, since it needs `aig_dump`, which stands beside this crate.
 //!
 //! The definitions that matter most are `IsConversionText`, `IsSimulationText`, `IsUnrollingText`,
-//! `IsReachText` and `Headline`.
+//! `IsReachText`, `IsNoneText` and `Headline`.
 #![tactic(auto)]
 
 mod conversion;
@@ -19,6 +19,7 @@ pub mod laws;
 mod message;
 mod outputs_as_bad;
 mod reaching;
+mod refuting;
 mod unrolling;
 mod witness;
 
@@ -31,5 +32,6 @@ pub use crate::message::{
     report_usage, report_words,
 };
 pub use crate::reaching::{AnswerFor, read_asked};
+pub use crate::refuting::RefutationFor;
 pub use crate::unrolling::run_unroll;
 pub use crate::witness::{judge, run_witness};

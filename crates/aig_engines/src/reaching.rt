@@ -8,7 +8,7 @@ ghost use Rattle.aig_io.specs.Devices.{CanFail};
 ghost use Rattle.aig_io.specs.Runs.{Read};
 ghost use Rattle.aig_search.specs.WitnessLines.{witness_text};
 ghost use Rattle.aig_unroll.specs.Outcome.{HasClauses};
-ghost use Rattle.aig_unroll.specs.Unrolled.{IsTooLarge};
+ghost use Rattle.aig_unroll.specs.Unrolled.{IsTooLarge, IsUnsupported};
 ghost use Rattle.aig_engines.specs.declared.fault.ToolFault.TheVariants as faults;
 ghost use Rattle.aig_engines.specs.Reaching.{IsModelAsked, IsModelRefused, IsReachRefused};
 ghost use Rattle.aig_engines.specs.Reaching.{IsReachText};
@@ -41,7 +41,7 @@ fn check_clauses(alloc: Global, asked: &Checked, frames: u32) -> Result<(), Tool
 
 /// Reads the model to its end, as a file of either kind, and takes the bad state alone that is
 /// asked for. It fails where its clauses could not be written, if an allocation fails, or if the
-/// source does. What a solver answered is not needed for that.
+/// source does. What a solver wrote is not needed for that.
 pub fn read_asked<R: Source>(
     alloc: Global,
     request: &Reach,
@@ -51,6 +51,7 @@ pub fn read_asked<R: Source>(
     requires frames { (1 ≤ request.now.frames) × (request.now.frames ≤ most_frames) }
     ensures read { Read (ReadSays (λ asked bytes. IsModelAsked request.now bytes asked)
         (IsModelRefused request.now) result) (R.past model.old) (R.past model.new) }
+    ensures supported { IfOk result (λ asked. ¬ IsUnsupported asked) }
     ensures fits { IfOk result (λ asked. ¬ IsTooLarge asked request.now.frames) }
 {
     let found = read_circuit(alloc, model, request.max_var, Keep::Order)?;
@@ -79,7 +80,7 @@ impl Engine for AnswerFor {
 
     ghost can_do = { λ answer. ¬ IsTooLarge answer.asked answer.request.frames };
 
-    ghost source_name = { λ answer. name_of answer.request.answer };
+    ghost source_name = { λ answer. name_of answer.request.file };
 
     ghost destination_name = { λ answer. name_of answer.request.destination };
 
@@ -90,7 +91,7 @@ impl Engine for AnswerFor {
     ghost text = { λ _ claim. witness_text claim };
 
     fn source(&self) -> &Option<String> {
-        &self.request.answer
+        &self.request.file
     }
 
     fn destination(&self) -> &Option<String> {

@@ -51,6 +51,8 @@ module _ (input : List ℕ) (now : Past) (given : HasGiven now) where
   not_read Holds IsRefused (Err faults.OutOfMemory) read = inr refl
   not_read Holds IsRefused (Err (faults.Answer fault)) read =
       inl (refused (IsRefused (faults.Answer fault)) read.bytes read.ending read.came read.says)
+  not_read Holds IsRefused (Err (faults.Refutation fault)) read =
+      inl (refused (IsRefused (faults.Refutation fault)) read.bytes read.ending read.came read.says.1)
   not_read Holds IsRefused (Err fault) read =
       let bytes = lents.all_read input now given read.bytes (rw read.says.0 at read.came) in
       inl (subst (IsRefused fault) bytes read.says.1)

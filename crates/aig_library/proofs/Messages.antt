@@ -7,6 +7,7 @@ use Rattle.aig_rows.specs.declared.fault.ReadKind.{ReadKind}
 use Rattle.aig_rows.specs.declared.fault.ReadKind.TheVariants as kinds
 use Rattle.aig_map.specs.declared.fault.MapFault.TheVariants as map_faults
 use Rattle.aig_step.specs.declared.fault.SimFault.TheVariants as sim_faults
+use Rattle.aig_refute.specs.declared.fault.RefutationFault.TheVariants as refutation_faults
 use Rattle.aig_search.specs.declared.fault.AnswerFault.TheVariants as answer_faults
 use Rattle.aig_unroll.specs.declared.fault.ClauseFault.TheVariants as clause_faults
 use Rattle.aig_unroll.specs.declared.fault.UnrollFault.TheVariants as unroll_faults
@@ -75,6 +76,13 @@ messages_tell_faults (faults.Answer answer_faults.Unknown) = refl
 messages_tell_faults (faults.Answer answer_faults.NotReached) = refl
 messages_tell_faults (faults.Answer answer_faults.OutOfMemory) = refl
 messages_tell_faults (faults.Answer answer_faults.ReadFailed) = refl
+messages_tell_faults (faults.Refutation refutation_faults.NoRefutation) = refl
+messages_tell_faults (faults.Refutation (refutation_faults.BadLine line)) =
+    in_line line (codes "line ") (codes "bad line")
+messages_tell_faults (faults.Refutation (refutation_faults.DoesNotFollow line)) =
+    in_line line (codes "line ") (codes "does not follow")
+messages_tell_faults (faults.Refutation refutation_faults.OutOfMemory) = refl
+messages_tell_faults (faults.Refutation refutation_faults.ReadFailed) = refl
 messages_tell_faults faults.Source = refl
 messages_tell_faults faults.Sink = refl
 messages_tell_faults faults.OutOfMemory = refl

@@ -4,6 +4,7 @@ use Rattle.aig_circuit.specs.declared.circuit.Circuit.{Circuit}
 use Rattle.aig_command.specs.Aiger.{largest_index}
 use Rattle.aig_command.specs.declared.request.Reach.{Reach}
 use Rattle.aig_command.specs.declared.request.Sim.{Sim}
+use Rattle.aig_command.specs.declared.request.SolverFile.TheVariants.{Refutation}
 use Rattle.aig_step.specs.declared.fault.SimFault.{SimFault}
 use Rattle.aig_witness.specs.declared.verdict.Verdict.{Verdict}
 use Rattle.aig_witness.specs.declared.verdict.Verdict.TheVariants.{Confirmed, NotConfirmed}
@@ -13,9 +14,10 @@ use Rattle.aig_engines.specs.declared.fault.ToolFault.TheVariants as faults
 use Rattle.aig_engines.specs.File.{IsFileOf}
 use Rattle.aig_engines.specs.Reaching.{IsModelAsked, IsModelRefused, IsReachRefused, IsReachText}
 use Rattle.aig_engines.specs.Reading.{IsUnreadable}
+use Rattle.aig_engines.specs.Refuting.{IsNoneText, NotRefuted, none_text}
 use Rattle.aig_engines.specs.WitnessDump.{IsWitnessDumpText}
 use Rattle.aig_engines.specs.WitnessOutcome.{IsWitnessAnswer}
-use Rattle.aig_library.specs.Asked.{simulation}
+use Rattle.aig_library.specs.Asked.{CanReach, reaching, simulation}
 use Rattle.aig_library.specs.Numbers as numbers
 use Rattle.aig_library.specs.Outcome.{IsPlaced, IsPlacedAs, ending, fault_outcome, out_of_memory}
 use Rattle.aig_library.specs.declared.outcome.Outcome.{Outcome}
@@ -70,6 +72,25 @@ abbrev pub IsAnswerRefused : Reach → (model answer : List ℕ) → ToolFault �
 IsAnswerRefused request model answer fault =
     IsModelRefused request fault model
     ⊎ ((asked : Circuit) × IsModelAsked request model asked × IsReachRefused request asked fault answer)
+
+-- No claim of the model, of the bad state that is asked for, is confirmed within so many frames.
+pub record IsNoneWithinModel (request : Reach) (model : List ℕ) : Type 0 where
+  pub asked : Circuit
+  pub is_model : IsModelAsked request model asked
+  pub is_none : IsNoneText request asked (none_text request.frames)
+
+-- That is not known for this reason: the model has no clauses, or the refutation does not show it.
+abbrev pub IsRefutationRefused : Reach → (model : List ℕ) → ToolFault → Type 0
+IsRefutationRefused request model fault = IsModelRefused request fault model ⊎ NotRefuted fault
+
+-- What is answered where a refutation is checked.
+abbrev pub RefutationAnswers : (bad frames max_var : ℕ) (model : List ℕ) → Outcome → Type 0
+RefutationAnswers bad frames max_var model outcome =
+    let request = reaching Refutation bad frames max_var in
+    ((¬ CanReach frames max_var) × (outcome ≡ ending numbers.bad_options 0 0))
+    ⊎ (CanReach frames max_var
+    × ((IsNoneWithinModel request model × (outcome ≡ ending numbers.done 0 0))
+    ⊎ NotMade (IsRefutationRefused request model) outcome))
 
 -- the outcome of a verdict, with a text of so many bytes
 abbrev pub verdict_outcome : Verdict → (length : ℕ) → Outcome

@@ -4,6 +4,7 @@ use Rattle.std.specs.Prelude.{if◌then◌else◌}
 use Rattle.aig_command.specs.Aiger.{largest_index, most_frames}
 use Rattle.aig_command.specs.Answer.{HasFrames, IsDumpAlone, IsKeptAlone, IsWithoutMap}
 use Rattle.aig_command.specs.declared.request.Reach.{Reach}
+use Rattle.aig_command.specs.declared.request.SolverFile.{SolverFile}
 use Rattle.aig_command.specs.declared.request.Sim.{Sim}
 use Rattle.aig_command.specs.declared.request.ToAig.{ToAig}
 use Rattle.aig_command.specs.declared.request.Unroll.{Unroll}
@@ -52,13 +53,14 @@ clauses bad frames max_var = record {
   destination = None;
 }
 
-abbrev pub reaching : (bad frames max_var : ℕ) → Reach
-reaching bad frames max_var = record {
+abbrev pub reaching : SolverFile → (bad frames max_var : ℕ) → Reach
+reaching wrote bad frames max_var = record {
   frames = frames;
   bad = bad_asked bad;
   max_var = max_var;
   model = None;
-  answer = None;
+  wrote = wrote;
+  file = None;
   destination = None;
 }
 
@@ -75,7 +77,7 @@ simulation options max_var = record {
 
 -- Which numbers can be met: only known options are given, the limit is at most the largest index, a map is kept in
 -- binary and alone, outputs become bad states without a map, there are as many frames as can be unrolled, also for
--- clauses and answers on them, and a dump is asked for without the properties.
+-- clauses and what is written on them, and a dump is asked for without the properties.
 abbrev pub CanConvert : (options max_var : ℕ) → Type 0
 CanConvert options max_var =
     OnlyHas options (numbers.ascii + numbers.strip + numbers.keep_map + numbers.undo_map + numbers.outputs_as_bad)

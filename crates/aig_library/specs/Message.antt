@@ -51,7 +51,10 @@ kind_words kind subject =
     if kind == 28 then codes "bad answer line" else
     if kind == 29 then codes "unsatisfiable" else
     if kind == 30 then codes "unknown" else
-    if kind == 31 then codes "no bad state is reached" else []
+    if kind == 31 then codes "no bad state is reached" else
+    if kind == 32 then codes "no refutation" else
+    if kind == 33 then codes "bad line" else
+    if kind == 34 then codes "does not follow" else []
 
 -- the words for an outcome: none where nothing is wrong with the input and memory was not refused
 abbrev pub outcome_text : Outcome → List ℕ

@@ -11,6 +11,8 @@ use Rattle.aig_step.specs.declared.fault.SimFault.{SimFault}
 use Rattle.aig_step.specs.declared.fault.SimFault.TheVariants as sim_faults
 use Rattle.aig_search.specs.declared.fault.AnswerFault.{AnswerFault}
 use Rattle.aig_search.specs.declared.fault.AnswerFault.TheVariants as answer_faults
+use Rattle.aig_refute.specs.declared.fault.RefutationFault.{RefutationFault}
+use Rattle.aig_refute.specs.declared.fault.RefutationFault.TheVariants as refutation_faults
 use Rattle.aig_unroll.specs.declared.fault.ClauseFault.{ClauseFault}
 use Rattle.aig_unroll.specs.declared.fault.ClauseFault.TheVariants as clause_faults
 use Rattle.aig_unroll.specs.declared.fault.UnrollFault.{UnrollFault}
@@ -104,6 +106,13 @@ answer_outcome answer_faults.NotReached = refusal 31 numbers.whole 0 0
 answer_outcome answer_faults.OutOfMemory = out_of_memory
 answer_outcome answer_faults.ReadFailed = out_of_memory
 
+abbrev pub refutation_outcome : RefutationFault → Outcome
+refutation_outcome refutation_faults.NoRefutation = refusal 32 numbers.whole 0 0
+refutation_outcome (refutation_faults.BadLine line) = refusal 33 numbers.line line 0
+refutation_outcome (refutation_faults.DoesNotFollow line) = refusal 34 numbers.line line 0
+refutation_outcome refutation_faults.OutOfMemory = out_of_memory
+refutation_outcome refutation_faults.ReadFailed = out_of_memory
+
 abbrev pub sim_outcome : SimFault → Outcome
 sim_outcome (sim_faults.BadStimulus line) = refusal 23 numbers.line line 0
 sim_outcome (sim_faults.BadWitness line) = refusal 24 numbers.line line 0
@@ -120,6 +129,7 @@ fault_outcome (faults.NoBad number) = refusal 27 numbers.whole 0 number
 fault_outcome (faults.Unroll fault) = unroll_outcome fault
 fault_outcome (faults.Clauses fault) = clause_outcome fault
 fault_outcome (faults.Answer fault) = answer_outcome fault
+fault_outcome (faults.Refutation fault) = refutation_outcome fault
 fault_outcome faults.Source = out_of_memory
 fault_outcome faults.Sink = out_of_memory
 fault_outcome faults.OutOfMemory = out_of_memory

@@ -3,7 +3,7 @@ ghost use Rattle.std.specs.Prelude.{◌≡◌, ◌↔◌, IsTrue};
 ghost use Rattle.aig_library.specs.Asked.{bad_asked, clauses, conversion, has, OnlyHas, reaching};
 ghost use Rattle.aig_library.specs.Asked.{unrolling};
 
-use aig_command::{Reach, ToAig, Unroll, UnrolledForm};
+use aig_command::{Reach, SolverFile, ToAig, Unroll, UnrolledForm};
 
 /// ASCII is written, and not binary.
 pub const ASCII: u32 = 1;
@@ -99,16 +99,17 @@ pub(crate) fn clauses(bad: u32, frames: u32, max_var: u32) -> Unroll
     }
 }
 
-/// The request for the witness in an answer on these clauses.
-pub(crate) fn reaching(bad: u32, frames: u32, max_var: u32) -> Reach
-    ensures { result ≡ reaching bad frames max_var }
+/// The request for what a solver wrote on these clauses.
+pub(crate) fn reaching(wrote: SolverFile, bad: u32, frames: u32, max_var: u32) -> Reach
+    ensures { result ≡ reaching wrote bad frames max_var }
 {
     Reach {
         frames,
         bad: bad_asked(bad),
         max_var,
         model: None,
-        answer: None,
+        wrote,
+        file: None,
         destination: None,
     }
 }

@@ -62,3 +62,9 @@ pub const UNSATISFIABLE: u32 = 29;
 pub const UNKNOWN: u32 = 30;
 
 pub const NOT_REACHED: u32 = 31;
+
+pub const NO_REFUTATION: u32 = 32;
+
+pub const BAD_REFUTATION: u32 = 33;
+
+pub const DOES_NOT_FOLLOW: u32 = 34;

@@ -1,7 +1,7 @@
 //! Conversion, unrolling, simulation and witnesses from bytes to bytes, in memory.
 //!
-//! Others call `convert`, `unroll`, `write_clauses`, `reach`, `simulate`, `witness`, `dump_witness`
-//! and `message`. What is asked of them is numbers, and so is the `Outcome` that each call answers:
+//! Others call `convert`, `unroll`, `write_clauses`, `reach`, `refute`, `simulate`, `witness`,
+//! `dump_witness` and `message`. What is asked of them is numbers, and so is the `Outcome` that each call answers:
 //! a caller may stand in any language. A call makes its whole text first, and then copies it to the
 //! output where there is room for it; otherwise the output is as it was.
 //!
@@ -26,7 +26,7 @@ pub use crate::outcome::{
     BAD_OPTIONS, DONE, GATE, LINE, MAP_LINE, NOT_CONFIRMED, OUT_OF_MEMORY, Outcome, REFUSED,
     TOO_SHORT, WHOLE,
 };
-pub use crate::reaching::reach;
+pub use crate::reaching::{reach, refute};
 pub use crate::simulation::simulate;
 pub use crate::texts::{convert, unroll, write_clauses};
 pub use crate::verdicts::witness;

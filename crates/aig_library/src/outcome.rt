@@ -1,13 +1,14 @@
 //! What came of a call, in numbers.
 ghost use Rattle.std.specs.Prelude.{◌≡◌, IfErr, IfOk};
 ghost use Rattle.aig_library.specs.Outcome.{answer_outcome, clause_outcome, ending, fault_outcome};
-ghost use Rattle.aig_library.specs.Outcome.{map_outcome, place_number};
+ghost use Rattle.aig_library.specs.Outcome.{map_outcome, place_number, refutation_outcome};
 ghost use Rattle.aig_library.specs.Outcome.{place_kind, read_outcome, IsPlaced, kind_number};
 ghost use Rattle.aig_library.specs.Outcome.{refusal, sim_outcome, subject_of, unroll_outcome};
 
 use crate::kind;
 use aig_engines::ToolFault;
 use aig_order::MapFault;
+use aig_refute::RefutationFault;
 use aig_search::AnswerFault;
 use aig_step::SimFault;
 use aig_text::{Place, ReadFault, ReadKind};
@@ -194,6 +195,17 @@ fn answer_outcome(fault: &AnswerFault) -> Outcome
     }
 }
 
+fn refutation_outcome(fault: &RefutationFault) -> Outcome
+    ensures { result ≡ refutation_outcome fault.now }
+{
+    match fault {
+        RefutationFault::NoRefutation => refusal(kind::NO_REFUTATION, WHOLE, 0, 0),
+        RefutationFault::BadLine(line) => refusal(kind::BAD_REFUTATION, LINE, *line, 0),
+        RefutationFault::DoesNotFollow(line) => refusal(kind::DOES_NOT_FOLLOW, LINE, *line, 0),
+        RefutationFault::OutOfMemory | RefutationFault::ReadFailed => ending(OUT_OF_MEMORY, 0, 0),
+    }
+}
+
 fn sim_outcome(fault: &SimFault) -> Outcome
     ensures { result ≡ sim_outcome fault.now }
 {
@@ -219,6 +231,7 @@ pub(crate) fn fault_outcome(fault: &ToolFault) -> Outcome
         ToolFault::Unroll(fault) => unroll_outcome(fault),
         ToolFault::Clauses(fault) => clause_outcome(fault),
         ToolFault::Answer(fault) => answer_outcome(fault),
+        ToolFault::Refutation(fault) => refutation_outcome(fault),
         ToolFault::Sim(fault) => sim_outcome(fault),
         ToolFault::Source | ToolFault::Sink | ToolFault::OutOfMemory => {
             ending(OUT_OF_MEMORY, 0, 0)

@@ -16,8 +16,27 @@ use aig_core::{LARGEST, SliceSource, VecSink};
 use aig_engines::{Engine, ToolFault};
 use std::alloc::Global;
 
+/// What an engine makes of the bytes of its source, before anything is written.
+pub(crate) fn engine_work<T: Engine>(
+    alloc: Global,
+    request: &T,
+    input: &[u8],
+) -> Result<T::Work, ToolFault>
+    requires can_do { T.can_do request.now }
+    ensures ok { IfOk result (λ work.
+        T.is_text request.now input.now (T.text request.now work)) }
+    ensures err { IfErr result (λ fault.
+        T.is_refused request.now fault input.now ⊎ (fault_outcome fault ≡ out_of_memory)) }
+{
+    let Ok(mut source) = SliceSource::new(input) else {
+        return Err(ToolFault::OutOfMemory);
+    };
+    let read = request.read(alloc, &mut source);
+    source.gives_its_bytes();
+    read
+}
+
 /// The text that an engine makes of the bytes of its source.
-#[tactic(auto, using(crate::proofs::Lents::whole, crate::proofs::Lents::not_read))]
 pub(crate) fn engine_text<T: Engine>(
     alloc: Global,
     request: &T,
@@ -28,12 +47,7 @@ pub(crate) fn engine_text<T: Engine>(
     ensures err { IfErr result (λ fault.
         T.is_refused request.now fault input.now ⊎ (fault_outcome fault ≡ out_of_memory)) }
 {
-    let Ok(mut source) = SliceSource::new(input) else {
-        return Err(ToolFault::OutOfMemory);
-    };
-    let read = request.read(alloc, &mut source);
-    source.gives_its_bytes();
-    let work = read?;
+    let work = engine_work(alloc, request, input)?;
     let mut sink = VecSink::new(alloc);
     request.write(work, &mut sink)?;
     Ok(sink.into_vec())

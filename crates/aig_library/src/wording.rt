@@ -56,7 +56,7 @@ fn put_kind(words: &mut Block, kind: u32, subject: u64)
         kind::NOT_AIGER => put(words, "not an AIGER file"),
         kind::BAD_HEADER => put(words, "bad header"),
         kind::TOO_LARGE => put(words, "number above the limit"),
-        kind::BAD_LINE | kind::BAD_MAP_LINE => put(words, "bad line"),
+        kind::BAD_LINE | kind::BAD_MAP_LINE | kind::BAD_REFUTATION => put(words, "bad line"),
         kind::NOT_VARIABLE => put(words, "not a variable"),
         kind::LITERAL_RANGE => put(words, "literal out of range"),
         kind::BAD_RESET => put(words, "bad reset"),
@@ -83,6 +83,8 @@ fn put_kind(words: &mut Block, kind: u32, subject: u64)
         kind::UNSATISFIABLE => put(words, "unsatisfiable"),
         kind::UNKNOWN => put(words, "unknown"),
         kind::NOT_REACHED => put(words, "no bad state is reached"),
+        kind::NO_REFUTATION => put(words, "no refutation"),
+        kind::DOES_NOT_FOLLOW => put(words, "does not follow"),
         _ => {}
     }
 }

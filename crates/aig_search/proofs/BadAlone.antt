@@ -14,7 +14,9 @@ use Rattle.aig_meaning.specs.Trace.{Follow}
 use Rattle.aig_meaning.proofs.Traces.{same_row}
 use Rattle.aig_witness.specs.declared.verdict.Verdict.TheVariants.{Confirmed}
 use Rattle.aig_witness.specs.Witness.{Claim, IsConfirmedAt, IsFirstConfirmed, IsHeld, IsVerdict}
+use Rattle.aig_reach.proofs.Whole.{unsatisfiable_means_none}
 use Rattle.aig_search.specs.Alone.{HasAsked, asked_of, with_bad_alone}
+use Rattle.aig_search.specs.Laws.{RefutedMeansNone}
 use Rattle.aig_search.proofs.FirstFound.{empty_before, here, later, later_too, split}
 
 pub alone_is_well_formed : (c : Circuit) (n : ℕ) → n < length c.bad → IsWellFormed c
@@ -136,6 +138,46 @@ module _ (c : Circuit) (n : ℕ) (low : n < length c.bad) where
     held = All-map IsHeld (row_alone n) is.before is.held;
   }
 
+  row_there : (full : Row) → IsRow c full → IsRow (with_bad_alone n c) (row_alone n full)
+  row_there full (a, shown) = (
+    a,
+    record {
+      assigned = record {
+        constant = shown.assigned.constant;
+        inputs = shown.assigned.inputs;
+        latches = shown.assigned.latches;
+        gates = shown.assigned.gates;
+      };
+      outputs_shown = shown.outputs_shown;
+      next_shown = shown.next_shown;
+      bad_shown = ap (λ (v : Val). v ∷ [])
+          (ap (λ (vs : List Val). get_or vs n Zero) shown.bad_shown ∙ get_or-map (literal_value a) c.bad n 0 Zero low);
+      constraints_shown = shown.constraints_shown;
+    },
+  )
+
+  follow_there : (state : List Val) (vectors : List (List Val)) (rows : List Row) → Follow c state vectors rows
+      → Follow (with_bad_alone n c) state vectors (map (row_alone n) rows)
+  follow_there state [] [] follow = tt
+  follow_there state [] (r ∷ rs) follow = absurd follow
+  follow_there state (v ∷ vs) [] follow = absurd follow
+  follow_there state (v ∷ vs) (r ∷ rs) follow =
+      (follow.0, follow.1, row_there r follow.2, follow_there r.next vs rs follow.3)
+
+  pub verdict_there : (claim : Claim) (step : ℕ) → claim.property ≡ n → IsVerdict c claim (Confirmed step)
+      → IsVerdict (with_bad_alone n c) (record claim { property = 0 }) (Confirmed step)
+  verdict_there claim step named is =
+      let first : IsFirstConfirmed n is.rows step =
+      subst (λ (p : ℕ). IsFirstConfirmed p is.rows step) named is.is_verdict in
+      record {
+        rows = map (row_alone n) is.rows;
+        trace = (is.trace.0, follow_there claim.first claim.steps is.rows is.trace.1);
+        is_verdict = record {
+          confirmed = confirmed_there is.rows step first.confirmed;
+          first = λ earlier less on. first.first earlier less (confirmed_back is.rows earlier on);
+        };
+      }
+
   pub verdict_back : (claim : Claim) (step : ℕ) → claim.property ≡ 0
       → IsVerdict (with_bad_alone n c) claim (Confirmed step)
       → IsVerdict c (record claim { property = n }) (Confirmed step)
@@ -152,3 +194,10 @@ module _ (c : Circuit) (n : ℕ) (low : n < length c.bad) where
           first = λ earlier less on. first.first earlier less (confirmed_there full.0 earlier on);
         };
       }
+
+pub refuted_means_none : RefutedMeansNone
+refuted_means_none c d None frames good there formed unrolled none claim step low named is =
+    unsatisfiable_means_none c d frames good formed unrolled none claim step low is
+refuted_means_none c d (Some n) frames good there formed unrolled none claim step low named is =
+    unsatisfiable_means_none (with_bad_alone n c) d frames (alone_is_well_formed c n there good) formed unrolled none
+    (record claim { property = 0 }) step low (verdict_there c n there claim step (named n refl) is)

@@ -11,6 +11,7 @@ use Rattle.aig_unroll.specs.Unrolled.{IsUnrolled}
 use Rattle.aig_witness.specs.declared.verdict.Verdict.TheVariants.{Confirmed}
 use Rattle.aig_witness.specs.Witness.{Claim, IsConfirmedAt, IsFirstConfirmed, IsVerdict, SaysClaim}
 use Rattle.aig_search.specs.declared.search.Hit.{Hit}
+use Rattle.aig_search.specs.Alone.{HasAsked, asked_of}
 use Rattle.aig_search.specs.Finding.{hit_from}
 use Rattle.aig_search.specs.WitnessLines.{witness_text}
 
@@ -43,3 +44,14 @@ AnswersAreFound = (c d : Circuit) (frames : ℕ) (a : ℕ → Bool) (rows : List
 abbrev pub WitnessTextsSay : Type 0
 WitnessTextsSay = (c : Circuit) (claim : Claim) (rows : List Row) → IsWellFormed c → claim.property < length c.bad
     → IsTrace c claim.first claim.steps rows → SaysClaim c (witness_text claim) claim
+
+-- the claim is of the bad state that was asked for, if one was
+abbrev pub IsOfAsked : Option ℕ → Claim → Type 0
+IsOfAsked asked claim = (n : ℕ) → asked ≡ Some n → claim.property ≡ n
+
+-- Where nothing satisfies the clauses of what was asked, unrolled over so many frames, no claim of that is confirmed at
+-- one of the first so many steps, of any number of steps, with x or without.
+abbrev pub RefutedMeansNone : Type 0
+RefutedMeansNone = (c d : Circuit) (asked : Option ℕ) (frames : ℕ) → IsWellFormed c → HasAsked asked c
+    → IsWellFormed d → IsUnrolled (asked_of asked c) frames d → ((a : ℕ → Bool) → ¬ Satisfies a (bad_clauses d))
+    → (claim : Claim) (step : ℕ) → step < frames → IsOfAsked asked claim → ¬ IsVerdict c claim (Confirmed step)

@@ -1,6 +1,6 @@
 //! Laws: facts about the definitions alone, each the contract of a function with an empty body.
 ghost use Rattle.aig_search.specs.Laws.{AnswersAreFound, FirstIsFound, FoundRunsAreConfirmed};
-ghost use Rattle.aig_search.specs.Laws.{WitnessTextsSay};
+ghost use Rattle.aig_search.specs.Laws.{RefutedMeansNone, WitnessTextsSay};
 ghost use Rattle.aig_search.specs.Reached.{AnswersHaveOneWitness};
 
 /// What is found in rows is the first step that confirms a bad state, or there is none.
@@ -26,4 +26,9 @@ pub fn answers_have_one_witness()
 /// The witness file that is written of a claim says it.
 pub fn witness_texts_say()
     ensures { WitnessTextsSay }
+{}
+
+/// Where the clauses of what was asked are refuted, no claim of that is confirmed in so many steps.
+pub fn refuted_means_none()
+    ensures { RefutedMeansNone }
 {}

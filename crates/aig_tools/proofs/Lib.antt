@@ -1,2 +1,3 @@
 pub mod NamedFiles
+pub mod Solved
 pub mod Tasks

@@ -7,6 +7,8 @@ use Rattle.aig_command.specs.Answer.{IsCommand, IsUsage, name_of}
 use Rattle.aig_command.specs.declared.request.Command.{Command}
 use Rattle.aig_command.specs.declared.request.Command.TheVariants as commands
 use Rattle.aig_command.specs.declared.request.Reach.{Reach}
+use Rattle.aig_command.specs.declared.request.SolverFile.{SolverFile}
+use Rattle.aig_command.specs.declared.request.SolverFile.TheVariants as wrote
 use Rattle.aig_command.specs.declared.request.Sim.{Sim}
 use Rattle.aig_command.specs.declared.usage.Usage.{Usage}
 use Rattle.aig_command.specs.declared.usage.Usage.TheVariants as usages
@@ -20,6 +22,7 @@ use Rattle.aig_engines.specs.Messages.{error_line, line_naming, line_of, IsRepor
 use Rattle.aig_engines.specs.Messages.{usage_text}
 use Rattle.aig_engines.specs.Reaching.{IsModelAsked, IsModelRefused, IsReachRefused, IsReachText}
 use Rattle.aig_engines.specs.Reading.{NotRead}
+use Rattle.aig_engines.specs.Refuting.{IsNoneText, NotRefuted}
 use Rattle.aig_tools.specs.Named.{RanBetween, ReadIn, World}
 use Rattle.aig_tools.specs.SimulationOutcome.{RanForIn, TaskSays, task_of}
 
@@ -54,16 +57,23 @@ EndsBetween Says source destination before after errors errors_now status =
     (answer : Result (Unit {0}) ToolFault) × RanBetween (Says answer) source destination before after
     × AnswerEnds (λ done. 0) (error_line source destination) answer errors errors_now status
 
--- A witness was asked for: the model was not read or has no clauses, which is reported, and nothing else was called; or
--- this circuit was asked of it, and an answer on its clauses was read.
+-- what the answer says where a solver's answer was read on the clauses of this circuit, or its refutation
+abbrev pub SolverSays : SolverFile → Reach → Circuit → Result (Unit {0}) ToolFault → List ℕ → Ending → List ℕ → Taking
+    → Type 0
+SolverSays wrote.Answer request asked = Says (IsReachText request asked) (IsReachRefused request asked)
+SolverSays wrote.Refutation request asked =
+    Says (λ bytes text. IsNoneText request asked text) (λ fault bytes. NotRefuted fault)
+
+-- What a solver wrote was to be looked at: the model was not read or has no clauses, which is reported, and nothing else
+-- was called; or this circuit was asked of it, and what was written on its clauses was read.
 abbrev pub ReachEnds : Reach → (before after : World) (errors errors_now : Past) → ℕ → Type 0
 ReachEnds request before after errors errors_now status =
     ((fault : ToolFault) × ReadIn (NotRead (IsModelRefused request) fault) (name_of request.model) before after
     × (status ≡ 1) × IsReported errors errors_now (line_naming (shown (name_of request.model)) fault))
     ⊎ ((asked : Circuit) × (read : World)
     × ReadIn (λ bytes ending. (ending ≡ AtEnd) × IsModelAsked request bytes asked) (name_of request.model) before read
-    × EndsBetween (Says (IsReachText request asked) (IsReachRefused request asked)) (name_of request.answer)
-    (name_of request.destination) read after errors errors_now status)
+    × EndsBetween (SolverSays request.wrote request asked) (name_of request.file) (name_of request.destination) read
+    after errors errors_now status)
 
 -- a simulation was asked for, or a verdict on a witness file
 abbrev pub SimulationEnds : Sim → (before after : World) (errors errors_now : Past) → ℕ → Type 0

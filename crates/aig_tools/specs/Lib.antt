@@ -5,6 +5,7 @@ pub use Rattle.aig_engines.specs.Unrolling
 pub use Rattle.aig_engines.specs.Blame
 pub use Rattle.aig_engines.specs.Reading
 pub use Rattle.aig_engines.specs.Reaching
+pub use Rattle.aig_engines.specs.Refuting
 pub use Rattle.aig_engines.specs.Outcome
 pub use Rattle.aig_engines.specs.WitnessOutcome
 pub use Rattle.aig_engines.specs.Messages

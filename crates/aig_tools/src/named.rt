@@ -8,7 +8,7 @@ ghost use Rattle.aig_engines.specs.Reaching.{IsModelAsked, IsModelRefused};
 ghost use Rattle.aig_engines.specs.Reading.{IsUnreadable, ReadSays};
 ghost use Rattle.aig_tools.specs.Named.{RanBetween, ReadIn, SentIn, TakesAs, world};
 ghost use Rattle.aig_tools.specs.SimulationOutcome.{RanForIn, TaskSays, task_of};
-ghost use Rattle.aig_unroll.specs.Unrolled.{IsTooLarge};
+ghost use Rattle.aig_unroll.specs.Unrolled.{IsTooLarge, IsUnsupported};
 
 use crate::simulation::perform;
 use crate::task::task_of;
@@ -94,6 +94,7 @@ pub(crate) fn read_model_asked<A: FileAccess, R: Source>(
         (IsModelRefused request.now) result)
         (name_of request.now.model) (world (A.files access.old) (R.past input.old) output)
         (world (A.files access.new) (R.past input.new) output) }
+    ensures supported { IfOk result (λ asked. ¬ IsUnsupported asked) }
     ensures fits { IfOk result (λ asked. ¬ IsTooLarge asked request.now.frames) }
     ensures unfailed { IfOk result (λ _.
         (R.past input.new).failures ≡ (R.past input.old).failures) }

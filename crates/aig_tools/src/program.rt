@@ -1,19 +1,21 @@
 //! What the program does with its arguments.
 ghost use Rattle.std.specs.Prelude.{◌≡◌, ◌≤◌, None};
 ghost use Rattle.aig_io.specs.Devices.{CanFail};
-ghost use Rattle.aig_command.specs.Answer.{CanReach, texts};
+ghost use Rattle.aig_command.specs.Aiger.{most_frames};
+ghost use Rattle.aig_command.specs.Answer.{CanReach, name_of, texts};
 ghost use Rattle.aig_engines.specs.Outcome.{Says};
 ghost use Rattle.aig_engines.specs.Messages.{memory_line, IsReported, usage_text, words_line};
 ghost use Rattle.aig_tools.specs.Ending.{done_status, Ends, EndsBetween, IsPrinted};
-ghost use Rattle.aig_tools.specs.Ending.{ReachEnds, SimulationEnds, status_of};
+ghost use Rattle.aig_tools.specs.Ending.{ReachEnds, SimulationEnds, SolverSays, status_of};
 ghost use Rattle.aig_tools.specs.Named.{world};
+ghost use Rattle.aig_unroll.specs.Unrolled.{IsTooLarge, IsUnsupported};
 
 use crate::named::{read_model_asked, run_between, run_model};
-use aig_command::{Command, Reach, Sim, Usage, command};
-use aig_core::{Output, Sink, Source};
+use aig_command::{Command, Reach, Sim, SolverFile, Usage, command};
+use aig_core::{Checked, Output, Sink, Source};
 use aig_engines::{
-    AnswerFor, Engine, report_error, report_memory, report_simulation_error, report_source_error,
-    report_unwritten, report_usage, report_words,
+    AnswerFor, Engine, RefutationFor, report_error, report_memory, report_simulation_error,
+    report_source_error, report_unwritten, report_usage, report_words,
 };
 use aig_files::{FileAccess, HostFiles};
 use aig_witness::Verdict;
@@ -63,7 +65,48 @@ fn run_reporting<T: Engine, A: FileAccess, R: Source, W: Sink, E: Sink>(
     }
 }
 
-/// Reads a model and a solver's answer on its clauses, writes the witness in it, reports a fault,
+/// Reads what a solver wrote on the clauses of this circuit, writes what it shows, reports a fault,
+/// and answers the status.
+fn run_solver_file<A: FileAccess, R: Source, W: Sink, E: Sink>(
+    alloc: Global,
+    access: &mut A,
+    request: Reach,
+    asked: Checked,
+    input: &mut R,
+    output: &mut W,
+    errors: &mut E,
+) -> u8
+    requires input { CanFail (R.past input.old) }
+    requires output { CanFail (W.past output.old) }
+    requires errors { CanFail (E.past errors.old) }
+    requires idle { (A.files access.old).current ≡ None }
+    requires frames { (1 ≤ request.frames) × (request.frames ≤ most_frames) }
+    requires supported { ¬ IsUnsupported asked }
+    requires fits { ¬ IsTooLarge asked request.frames }
+    ensures idle { (A.files access.new).current ≡ None }
+    ensures ends { EndsBetween (SolverSays request.wrote request asked)
+        (name_of request.file) (name_of request.destination)
+        (world (A.files access.old) (R.past input.old) (W.past output.old))
+        (world (A.files access.new) (R.past input.new) (W.past output.new))
+        (E.past errors.old) (E.past errors.new) result }
+{
+    match request.wrote {
+        SolverFile::Answer => {
+            let answer = AnswerFor { request, asked };
+            let status = run_reporting(alloc, access, &answer, input, output, errors);
+            drop(answer); // for the proof
+            status
+        }
+        SolverFile::Refutation => {
+            let refutation = RefutationFor { request, asked };
+            let status = run_reporting(alloc, access, &refutation, input, output, errors);
+            drop(refutation); // for the proof
+            status
+        }
+    }
+}
+
+/// Reads a model and what a solver wrote on its clauses, writes what that shows, reports a fault,
 /// and answers the status.
 #[inline(never)]
 fn run_reach<A: FileAccess, R: Source, W: Sink, E: Sink>(
@@ -86,12 +129,7 @@ fn run_reach<A: FileAccess, R: Source, W: Sink, E: Sink>(
         (E.past errors.old) (E.past errors.new) result }
 {
     match read_model_asked(alloc, access, &request, input) {
-        Ok(asked) => {
-            let answer = AnswerFor { request, asked };
-            let status = run_reporting(alloc, access, &answer, input, output, errors);
-            drop(answer); // for the proof
-            status
-        }
+        Ok(asked) => run_solver_file(alloc, access, request, asked, input, output, errors),
         Err(fault) => {
             report_source_error(errors, &request.model, &fault);
             drop(request); // for the proof

@@ -8,14 +8,16 @@ ghost use Rattle.aig_engines.specs.Conversion.{IsConversionRefused, IsConversion
 ghost use Rattle.aig_engines.specs.Simulation.{IsWrittenText};
 ghost use Rattle.aig_engines.specs.Unrolling.{IsUnrollingRefused, IsUnrollingText};
 ghost use Rattle.aig_library.specs.Answers.{Answers, DumpAnswers, IsAnswerRefused, IsAnswerText, IsSimulationRefused};
-ghost use Rattle.aig_library.specs.Answers.{WitnessAnswers};
+ghost use Rattle.aig_command.specs.declared.request.SolverFile.TheVariants.{Answer};
+ghost use Rattle.aig_library.specs.Answers.{RefutationAnswers, WitnessAnswers};
 ghost use Rattle.aig_library.specs.Asked.{CanConvert, CanReach, CanSimulate, CanUnroll, clauses, conversion, reaching};
 ghost use Rattle.aig_library.specs.Asked.{simulation, unrolling};
 ghost use Rattle.aig_library.specs.Message.{IsWritten, outcome_text};
 ghost use Rattle.aigtools_c.specs.Version.{version_text};
 
 use aig_library::{
-    Outcome, convert, dump_witness, message, reach, simulate, unroll, witness, write_clauses,
+    Outcome, convert, dump_witness, message, reach, refute, simulate, unroll, witness,
+    write_clauses,
 };
 use std::alloc::Global;
 
@@ -91,11 +93,29 @@ pub extern "C" fn aigtools_answer(
     outcome: &mut Outcome,
 ) -> u32
     ensures status { result ≡ outcome.new.status }
-    ensures answers { let request = reaching bad frames max_var in
+    ensures answers { let request = reaching Answer bad frames max_var in
         Answers (CanReach frames max_var) (IsAnswerText request model.now answer.now)
         (IsAnswerRefused request model.now answer.now) output.old output.new outcome.new }
 {
     *outcome = reach(alloc, bad, frames, max_var, model, answer, output);
+    outcome.status
+}
+
+/// Checks a solver's refutation of these clauses.
+#[unsafe(no_mangle)]
+pub extern "C" fn aigtools_refute(
+    alloc: Global,
+    bad: u32,
+    frames: u32,
+    max_var: u32,
+    model: &[u8],
+    refutation: &[u8],
+    outcome: &mut Outcome,
+) -> u32
+    ensures status { result ≡ outcome.new.status }
+    ensures answers { RefutationAnswers bad frames max_var model.now outcome.new }
+{
+    *outcome = refute(alloc, bad, frames, max_var, model, refutation);
     outcome.status
 }
 

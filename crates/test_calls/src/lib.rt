@@ -14,3 +14,5 @@ mod large;
 mod messages;
 #[cfg(test)]
 mod orders;
+#[cfg(test)]
+mod refutations;

@@ -1,5 +1,5 @@
 //! Command lines and what is answered to them.
-use aig_command::{Command, Reach, Sim, ToAig, Unroll, UnrolledForm, Usage, command};
+use aig_command::{Command, Reach, Sim, SolverFile, ToAig, Unroll, UnrolledForm, Usage, command};
 use std::alloc::{AllocError, Global};
 use std::test::Fail;
 
@@ -97,20 +97,32 @@ aigunroll --frames 2 --cnf --bad 2147483647 => 2 clauses of 2147483647 214748364
 aigunroll --frames 2 --cnf -- --ascii --bad => 2 clauses of any 2147483647 --ascii --bad";
 
 /// Arguments after the program's name, and what they ask for: the frames, the bad state, the limit,
-/// the model, the solver's answer and the destination.
+/// the model, what the solver wrote and in which file, and the destination.
 const REACHINGS: &str = "\
-aigunroll --frames 1 --answer a m => 1 any 2147483647 m a -;\
-aigunroll --frames 1000000 --answer=a m w => 1000000 any 2147483647 m a w;\
-aigunroll --answer - --frames 2 m => 2 any 2147483647 m - -;\
-aigunroll --frames 2 --answer a => 2 any 2147483647 - a -;\
-aigunroll --frames 2 - w --answer a => 2 any 2147483647 - a w;\
-aigunroll --frames 2 --answer a m w.aag => 2 any 2147483647 m a w.aag;\
-aigunroll --frames 2 --answer a.gz m.gz => 2 any 2147483647 m.gz a.gz -;\
-aigunroll --frames 2 --bad 0 --answer a m => 2 0 2147483647 m a -;\
-aigunroll --answer a --bad=2147483647 m --frames 2 => 2 2147483647 2147483647 m a -;\
-aigunroll --max-var 7 --frames 2 --answer m m m => 2 any 7 m m m;\
-aigunroll --frames 2 --answer <> => 2 any 2147483647 - <> -;\
-aigunroll --frames 2 --answer a -- --cnf --ascii => 2 any 2147483647 --cnf a --ascii";
+aigunroll --frames 1 --answer a m => 1 any 2147483647 m answer a -;\
+aigunroll --frames 1000000 --answer=a m w => 1000000 any 2147483647 m answer a w;\
+aigunroll --answer - --frames 2 m => 2 any 2147483647 m answer - -;\
+aigunroll --frames 2 --answer a => 2 any 2147483647 - answer a -;\
+aigunroll --frames 2 - w --answer a => 2 any 2147483647 - answer a w;\
+aigunroll --frames 2 --answer a m w.aag => 2 any 2147483647 m answer a w.aag;\
+aigunroll --frames 2 --answer a.gz m.gz => 2 any 2147483647 m.gz answer a.gz -;\
+aigunroll --frames 2 --bad 0 --answer a m => 2 0 2147483647 m answer a -;\
+aigunroll --answer a --bad=2147483647 m --frames 2 => 2 2147483647 2147483647 m answer a -;\
+aigunroll --max-var 7 --frames 2 --answer m m m => 2 any 7 m answer m m;\
+aigunroll --frames 2 --answer <> => 2 any 2147483647 - answer <> -;\
+aigunroll --frames 2 --answer a -- --cnf --ascii => 2 any 2147483647 --cnf answer a --ascii;\
+aigunroll --frames 1 --refutation p m => 1 any 2147483647 m refutation p -;\
+aigunroll --refutation=p --frames 1000000 m r => 1000000 any 2147483647 m refutation p r;\
+aigunroll --refutation - --frames 2 m => 2 any 2147483647 m refutation - -;\
+aigunroll --frames 2 --refutation p => 2 any 2147483647 - refutation p -;\
+aigunroll --frames 2 - r --refutation p => 2 any 2147483647 - refutation p r;\
+aigunroll --frames 2 --refutation p.gz m.gz r.aag => 2 any 2147483647 m.gz refutation p.gz r.aag;\
+aigunroll --frames 2 --bad 0 --refutation p m => 2 0 2147483647 m refutation p -;\
+aigunroll --refutation p --bad=2147483647 m --frames 2 => 2 2147483647 2147483647 m refutation p -;\
+aigunroll --max-var 7 --frames 2 --refutation m m m => 2 any 7 m refutation m m;\
+aigunroll --frames 2 --refutation <> => 2 any 2147483647 - refutation <> -;\
+aigunroll --frames 2 --refutation answer --bad 1 => 2 1 2147483647 - refutation answer -;\
+aigunroll --frames 2 --refutation p -- --bad --cnf => 2 any 2147483647 --bad refutation p --cnf";
 
 /// Arguments after the program's name, and why they are refused (`words` where `clap` refuses
 /// them); or that they ask for help.
@@ -156,12 +168,26 @@ aigunroll --ascii --frames 2 --answer - --bad 1 --cnf - x.gz => --cnf excludes -
 aigunroll --frames 2 --answer a --cnf m => --answer excludes --cnf and --ascii;\
 aigunroll --frames 2 --ascii --answer a m => --answer excludes --cnf and --ascii;\
 aigunroll --frames 2 --cnf --bad 1 --answer - - x.gz => --answer excludes --cnf and --ascii;\
-aigunroll --frames 2 --bad 0 => --bad needs --cnf or --answer;\
-aigunroll --bad 7 --ascii --frames 2 - x.gz => --bad needs --cnf or --answer;\
-aigunroll --frames 2 --bad 1 -- --cnf --answer => --bad needs --cnf or --answer;\
+aigunroll --cnf --ascii --frames 2 --refutation p --answer a m => --cnf excludes --ascii;\
+aigunroll --frames 2 --refutation p --answer a --ascii m => --answer excludes --cnf and --ascii;\
+aigunroll --cnf --answer - --refutation - --frames 2 => --answer excludes --cnf and --ascii;\
+aigunroll --frames 2 --refutation p --cnf m => --refutation excludes --cnf, --ascii and --answer;\
+aigunroll --ascii --frames 2 --refutation p => --refutation excludes --cnf, --ascii and --answer;\
+aigunroll --frames 2 --answer - --refutation - \
+=> --refutation excludes --cnf, --ascii and --answer;\
+aigunroll --refutation a --frames 2 --answer a m x.gz \
+=> --refutation excludes --cnf, --ascii and --answer;\
+aigunroll --frames 2 --bad 0 => --bad needs --cnf, --answer or --refutation;\
+aigunroll --bad 7 --ascii --frames 2 - x.gz => --bad needs --cnf, --answer or --refutation;\
+aigunroll --frames 2 --bad 1 -- --cnf --answer => --bad needs --cnf, --answer or --refutation;\
+aigunroll --frames 2 --bad 1 -- --refutation p => --bad needs --cnf, --answer or --refutation;\
 aigunroll --frames 2 --answer - => model and answer are both standard input;\
 aigunroll --frames 2 --answer - - => model and answer are both standard input;\
 aigunroll --frames 2 --bad 1 --answer - - x.gz => model and answer are both standard input;\
+aigunroll --frames 2 --refutation - => model and refutation are both standard input;\
+aigunroll --frames 2 --refutation - - => model and refutation are both standard input;\
+aigunroll --frames 2 --bad 1 --refutation - - x.gz => model and refutation are both standard input;\
+aigunroll --refutation p --frames 2 m x.gz => compressed output is not supported;\
 aigunroll --frames 2 --answer a m x.gz => compressed output is not supported;\
 aigunroll --frames 2 --bad 1 --cnf - x.gz => compressed output is not supported;\
 aigtoaig --help => help;\
@@ -180,6 +206,7 @@ aigunroll --help => help;\
 aigunroll -h => help;\
 aigunroll --frames 2 - b.gz --help => help;\
 aigunroll --cnf --ascii --help => help;\
+aigunroll --answer - --refutation - --help => help;\
 aigtoaig a b c => words;\
 aigtoaig --ascii --ascii => words;\
 aigtoaig --max-var => words;\
@@ -292,6 +319,13 @@ aigunroll --frames 2 --answer => words;\
 aigunroll --frames 2 --answer a --answer b m => words;\
 aigunroll --frames 2 --answer a b c d => words;\
 aigunroll --frames 2 --answers a m => words;\
+aigunroll --refutation p m => words;\
+aigunroll --frames 0 --refutation p m => words;\
+aigunroll --frames 2 --refutation => words;\
+aigunroll --frames 2 --refutation p --refutation q m => words;\
+aigunroll --frames 2 --refutation p b c d => words;\
+aigunroll --frames 2 --refute p m => words;\
+aigunroll --frames 2 --refutation p --bad => words;\
 aigunroll --frames 2 --cnf --bad => words;\
 aigunroll --frames 2 --cnf --bad= => words;\
 aigunroll --frames 2 --cnf --bad <> => words;\
@@ -304,9 +338,11 @@ aigunroll --frames 2 --bad 2147483648 => words;\
 aigtoaig --cnf => words;\
 aigtoaig --bad 1 => words;\
 aigtoaig --answer a m => words;\
+aigtoaig --refutation p m => words;\
 aigsim --cnf m => words;\
 aigsim --bad 1 m => words;\
 aigsim --answer a m => words;\
+aigsim --refutation p m => words;\
 aigunroll --frames 2 a b c => words;\
 aigunroll --frames 2 - - - => words;\
 help => words;\
@@ -410,10 +446,14 @@ fn shown_reaching(alloc: Global, request: &Reach) -> Result<String, AllocError> 
     let frames = request.frames;
     let bad = shown_bad(alloc, request.bad)?;
     let model = show_file(&request.model);
-    let answer = show_file(&request.answer);
+    let wrote = match request.wrote {
+        SolverFile::Answer => "answer",
+        SolverFile::Refutation => "refutation",
+    };
+    let file = show_file(&request.file);
     let destination = show_file(&request.destination);
     let limit = request.max_var;
-    format!(in alloc; "{frames} {bad} {limit} {model} {answer} {destination}")
+    format!(in alloc; "{frames} {bad} {limit} {model} {wrote} {file} {destination}")
 }
 
 fn shown_answer(alloc: Global, answered: &Result<Command, Usage>) -> Result<String, AllocError> {

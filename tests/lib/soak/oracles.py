@@ -3,7 +3,7 @@ import dataclasses
 import itertools
 import re
 
-from lib import answers, images, refusals, traces, unrolled, waves, witnesses
+from lib import answers, images, refusals, refutations, traces, unrolled, waves, witnesses
 from lib.soak.calls import Call, Failed
 from lib.soak.editors import edited
 from lib.soak.generators import parsed, simulation, some_rows, stimulus
@@ -192,6 +192,24 @@ def clauses_alike(here, models, made):
     if not answers.refusal(made, bad):
         text = answers.given(chance, made, frames)
         same_run(here, models, made, frames, bad, edited(chance, text, text) if chance.randrange(2) else text)
+        same_refutation(here, models, made, frames, bad)
+
+
+def same_refutation(here, models, made, frames, bad):
+    """Of all models a refutation shows what the plain checker says, and where it shows that there is no run, there is none."""
+    chance = here.chance
+    frames, largest, clauses, is_unsatisfiable, lemmas = refutations.searched(made, frames, bad)
+    proof = refutations.given(chance, largest, clauses, lemmas)
+    proof = edited(chance, proof, proof) if chance.randrange(2) else proof
+    words = answers.words_of(frames, bad)
+    for model in models:
+        call, name = Call([*words, "--refutation", "-", "model"], proof, {"model": model}), "-"
+        if chance.randrange(2):
+            call, name = Call([*words, "-", "--refutation", "proof"], model, {"proof": proof}), "proof"
+        wanted = refutations.wanted(made, frames, bad, name, proof)
+        here.expect("what a refutation shows", call, *wanted)
+        if is_unsatisfiable is False and wanted[2] == 0:
+            raise Failed("what is shown is so", call, "a run", wanted)
 
 
 def same_run(here, models, made, frames, bad, text):

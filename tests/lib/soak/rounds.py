@@ -11,7 +11,8 @@ from lib.soak.oracles import relations, same_answer, same_trace, undone
 LARGEST = 2**31 - 1
 WORDS = """aigtoaig aigtoaig aigsim aigsim aigunroll aigunroll --ascii --strip --keep-map --undo-map
     --outputs-as-bad --max-var --max-var=9 --max-var=2147483648 --frames --frames=2 --frames=0 --batch --properties
-    --vcd --witness --cnf --cnf --bad=0 --bad=1 --answer=source --answer --help -h -- - source source source out.aag
+    --vcd --witness --cnf --cnf --bad=0 --bad=1 --answer=source --answer
+    --refutation=source --refutation --help -h -- - source source source out.aag
     out.aig out.gz 3 --unknown""".split() + [""]
 # what the arguments that refusals.py lists are refused for, in this order; and names of files that cannot be there
 REFUSED_WORDS = """aigtoaig --keep-map --ascii
@@ -25,8 +26,10 @@ aigsim --witness --batch model
 aigsim --vcd --properties model
 aigunroll --frames 2 --cnf --ascii
 aigunroll --frames 2 --answer model --cnf
+aigunroll --frames 2 --refutation model --answer -
 aigunroll --frames 2 --bad 0
 aigunroll --frames 2 --answer - -
+aigunroll --frames 2 --refutation - -
 aigtoaig \udcff""".split("\n")
 NO_FILES = {
     "aigtoaig none/source": "none/source: cannot read",
@@ -72,7 +75,7 @@ def refused_alike(here, text, errors, limit):
         call = Call(["aigsim", *words, *limit, "-", "steps"], text, steps)
         here.expect("a refusal is one of all tools", call, b"", errors, 1)
     unroll = ["aigunroll", "--frames", "2", *limit]
-    for words in ([], ["--cnf"], ["-", "--answer", "steps"]):
+    for words in ([], ["--cnf"], ["-", "--answer", "steps"], ["-", "--refutation", "steps"]):
         here.expect("a refusal is one of all tools", Call([*unroll, *words], text, steps), b"", errors, 1)
     told = errors.replace(b"aiger: -: ", b"aiger: source: ", 1)
     named = [["aigtoaig", *limit, "source", "out.aag"], [*unroll, "source", "out.aag"], ["aigsim", *limit, "source"]]

@@ -7,5 +7,6 @@ pub returns : goal.returns
 returns c =
     let can : CanReach c.args.frames c.args.max_var = search rules in
     answered (λ v. v.items) _ _ _ c.witness_found.result _ _ _ can
-    (rw c.reaching.ensures at c.witness_found.ensures.ok) (rw c.reaching.ensures at c.witness_found.ensures.err)
+    (rw c.reaching-request.ensures at c.witness_found.ensures.ok)
+    (rw c.reaching-request.ensures at c.witness_found.ensures.err)
     c.answer.ensures.text c.answer.ensures.fault

@@ -1,0 +1,42 @@
+-- Which text is written for a solver's refutation (this project's profile): a model is read, the clauses of its
+-- unrolled circuit are refuted, and so no run of so many steps reaches a bad state.
+use Rattle.std.specs.Prelude.{◌≡◌, ◌++◌, ◌<◌, ◌≤◌, ℕ, List, Option, codes, decimal}
+use Rattle.aig_circuit.specs.declared.circuit.Circuit.{Circuit}
+use Rattle.aig_circuit.specs.Wellformed.{IsWellFormed}
+use Rattle.aig_command.specs.Aiger.{most_frames}
+use Rattle.aig_command.specs.declared.request.Reach.{Reach}
+use Rattle.aig_refute.specs.declared.fault.RefutationFault.{RefutationFault}
+use Rattle.aig_search.specs.Alone.{HasAsked, asked_of}
+use Rattle.aig_search.specs.Laws.{IsOfAsked}
+use Rattle.aig_unroll.specs.Unrolled.{IsTooLarge, IsUnsupported}
+use Rattle.aig_witness.specs.declared.verdict.Verdict.TheVariants.{Confirmed}
+use Rattle.aig_witness.specs.Witness.{Claim, IsVerdict}
+use Rattle.aig_engines.specs.declared.fault.ToolFault.{ToolFault}
+use Rattle.aig_engines.specs.declared.fault.ToolFault.TheVariants as faults
+
+-- the circuit can be unrolled over so many frames
+pub record CanUnroll (c : Circuit) (frames : ℕ) : Type 0 where
+  pub some : 1 ≤ frames
+  pub not_many : frames ≤ most_frames
+  pub supported : ¬ IsUnsupported c
+  pub fits : ¬ IsTooLarge c frames
+
+-- no claim of what is asked for, or of any bad state where nothing is, is confirmed at one of the first so many steps
+abbrev pub IsNoneWithin : Circuit → Option ℕ → ℕ → Type 0
+IsNoneWithin c asked frames =
+    (claim : Claim) (step : ℕ) → step < frames → IsOfAsked asked claim → ¬ IsVerdict c claim (Confirmed step)
+
+-- the line that says so
+abbrev pub none_text : ℕ → List ℕ
+none_text frames = codes "none within " ++ (decimal frames ++ codes "\n")
+
+-- The text that is written for a refutation of the clauses of this circuit: of each circuit that this one was asked of,
+-- nothing is confirmed within so many frames. Which bytes the refutation has makes no difference.
+pub record IsNoneText (request : Reach) (asked : Circuit) (text : List ℕ) : Type 0 where
+  pub none : (c : Circuit) → IsWellFormed c → HasAsked request.bad c → asked ≡ asked_of request.bad c
+      → IsNoneWithin c request.bad request.frames
+  pub written_as : text ≡ none_text request.frames
+
+-- It is not known that the clauses are refuted, for this reason.
+abbrev pub NotRefuted : ToolFault → Type 0
+NotRefuted fault = (reason : RefutationFault) × (fault ≡ faults.Refutation reason)

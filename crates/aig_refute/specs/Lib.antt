@@ -1,0 +1,4 @@
+pub mod Store
+pub mod Agree
+pub mod Messages
+pub mod Refuted

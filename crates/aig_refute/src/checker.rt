@@ -1,0 +1,240 @@
+//! Clauses, and what follows from them: what was given, and what a refutation adds.
+ghost use Rattle.std.specs.Prelude.{◌≡◌, ℕ, Bool, true, IfErr, IfOk, OnOk};
+ghost use Rattle.aig_cnf.specs.Clauses.{HasTrue};
+ghost use Rattle.aig_refute.specs.Agree.{Excludes, Supposes};
+ghost use Rattle.aig_refute.specs.Refuted.{Admits, IsOfLine};
+
+use crate::clause_table::ClauseTable;
+use crate::fault::RefutationFault;
+use crate::kernel::Derived;
+use crate::propagation::Propagation;
+use crate::reader::{LineEnd, RefutationReader};
+use crate::words::negation;
+use std::alloc::{AllocError, Global};
+
+/// Below so many words nothing is given back.
+const LEAST_GARBAGE: usize = 100_000;
+
+/// Clauses, and what follows from them.
+#[derive(Drop)]
+pub struct Checker {
+    propagation: Propagation,
+    table: ClauseTable,
+    /// About how many words of the store belong to clauses that were let go.
+    garbage: usize,
+}
+
+impl Checker {
+    /// No clauses, over variables up to this one.
+    pub fn new(alloc: Global, max_var: u32) -> Result<Checker, AllocError>
+        ensures { IfOk result (λ checker. (a : ℕ → Bool) → Admits checker a) }
+    {
+        let literals = max_var.saturating_mul(2).saturating_add(2) as usize;
+        Ok(Checker {
+            propagation: Propagation::new(alloc, literals)?,
+            table: ClauseTable::new(alloc, literals)?,
+            garbage: 0,
+        })
+    }
+
+    /// The literals are below this one.
+    pub fn literals(&self) -> usize {
+        self.propagation.kernel.literals()
+    }
+
+    /// Whether no assignment satisfies the clauses.
+    pub fn is_refuted(&self) -> bool
+        ensures { result ≡ true → (a : ℕ → Bool) → ¬ Admits self.now a }
+    {
+        self.propagation.kernel.is_refuted()
+    }
+
+    /// Adds a clause that holds. Where the store has more than 2^32 words, it is not used.
+    pub(crate) fn add_given(&mut self, clause: &[u32]) -> Result<(), AllocError>
+        ensures { OnOk result ((a : ℕ → Bool) → Admits self.old a
+            → HasTrue a clause.now → Admits self.new a) }
+    {
+        let at = self.propagation.kernel.end();
+        self.propagation.kernel.push_clause(clause)?;
+        if let Ok(place) = u32::try_from(at) {
+            self.table.insert(clause, place)?;
+            self.attach(place)?;
+        }
+        Ok(())
+    }
+
+    /// Lets a clause be watched, or follows what it says at once.
+    fn attach(&mut self, clause: u32) -> Result<(), AllocError>
+        ensures { (a : ℕ → Bool) → Admits self.old a
+            → Admits self.new a }
+    {
+        if let Some((first, second)) = self.propagation.kernel.arrange(clause as usize) {
+            self.propagation.watch(first, second, clause)?;
+            self.propagation.watch(second, first, clause)?;
+            return Ok(());
+        }
+        match self.propagation.kernel.derive(clause as usize)? {
+            Derived::Conflict => self.propagation.kernel.refute(),
+            Derived::Assigned => {
+                if self.propagation.propagate()? {
+                    self.propagation.kernel.refute();
+                }
+            }
+            Derived::Nothing => {}
+        }
+        Ok(())
+    }
+
+    /// Assumes that the literals of a clause are false, and answers whether one of them is true.
+    #[tactic(auto, using(crate::proofs::Later::supposes_one, crate::proofs::Later::supposes_none))]
+    fn assume_false(&mut self, clause: &[u32]) -> Result<bool, AllocError>
+        ensures supposes { Supposes clause.now self.old.propagation.kernel
+            self.new.propagation.kernel }
+        ensures clash { IfOk result (λ c. c ≡ true
+            → Excludes clause.now self.old.propagation.kernel) }
+    {
+        for k in 0..clause.len() {
+            let literal = clause[k];
+            if self.propagation.kernel.is_known(literal) {
+                return Ok(true);
+            }
+            self.propagation.kernel.assign(negation(literal))?;
+        }
+        Ok(false)
+    }
+
+    /// Whether unit propagation finds that not all literals of a clause can be false.
+    #[tactic(auto, using(crate::proofs::Later::supposes_grown))]
+    fn contradicts(&mut self, clause: &[u32]) -> Result<bool, AllocError>
+        ensures supposes { Supposes clause.now self.old.propagation.kernel
+            self.new.propagation.kernel }
+        ensures clash { IfOk result (λ c. c ≡ true
+            → Excludes clause.now self.old.propagation.kernel) }
+    {
+        if self.assume_false(clause)? {
+            return Ok(true);
+        }
+        self.propagation.propagate()
+    }
+
+    /// Whether a clause follows by unit propagation.
+    fn follows(&mut self, clause: &[u32]) -> Result<bool, AllocError>
+        ensures agrees { OnOk result ((a : ℕ → Bool) → Admits self.old a
+            → Admits self.new a) }
+        ensures follows { IfOk result (λ yes. yes ≡ true → (a : ℕ → Bool)
+            → Admits self.old a → HasTrue a clause.now) }
+    {
+        let base = self.propagation.kernel.known_count();
+        let conflict = self.contradicts(clause)?;
+        self.propagation.forget(base);
+        Ok(conflict)
+    }
+
+    /// Adds a clause if it follows, and answers whether it does.
+    fn add(&mut self, clause: &[u32]) -> Result<bool, AllocError>
+        ensures { OnOk result ((a : ℕ → Bool) → Admits self.old a
+            → Admits self.new a) }
+    {
+        if self.follows(clause)? {
+            self.add_given(clause)?;
+            Ok(true)
+        } else {
+            Ok(false)
+        }
+    }
+
+    /// Lets a clause go, if it is found.
+    fn let_go(&mut self, clause: &[u32])
+        ensures { (a : ℕ → Bool) → Admits self.old a
+            → Admits self.new a }
+    {
+        if let Some(place) = self.table.take(&self.propagation.kernel, clause) {
+            self.propagation.kernel.retire(place as usize);
+            self.garbage = self.garbage.saturating_add(clause.len());
+        }
+    }
+
+    /// Gives the memory of clauses that were let go back.
+    fn compact(&mut self) -> Result<(), AllocError>
+        ensures { (a : ℕ → Bool) → Admits self.old a
+            → Admits self.new a }
+    {
+        let starts = self.table.live_places()?;
+        let places = self.propagation.compact(starts.as_slice())?;
+        self.garbage = 0;
+        self.table.clear()?;
+        for k in 0..places.len() {
+            let place = places[k];
+            self.table
+                .insert(self.propagation.kernel.clause(place as usize), place)?;
+            self.attach(place)?;
+        }
+        Ok(())
+    }
+
+    /// Lets a clause go, if it is found, and gives memory back where there is much of it.
+    fn remove(&mut self, clause: &[u32]) -> Result<(), AllocError>
+        ensures { (a : ℕ → Bool) → Admits self.old a
+            → Admits self.new a }
+    {
+        self.let_go(clause);
+        if self.garbage > LEAST_GARBAGE && self.garbage > self.propagation.kernel.end() / 4 {
+            self.compact()?;
+        }
+        Ok(())
+    }
+
+    /// Does what a line says.
+    fn follow_line(
+        &mut self,
+        reader: &RefutationReader,
+        end: LineEnd,
+    ) -> Result<(), RefutationFault>
+        ensures agrees { OnOk result ((a : ℕ → Bool) → Admits self.old a
+            → Admits self.new a) }
+        ensures err { IfErr result IsOfLine }
+    {
+        match end {
+            LineEnd::Within => Ok(()),
+            LineEnd::Bad => Err(RefutationFault::BadLine(reader.line())),
+            LineEnd::Deleted => {
+                self.remove(reader.clause())?;
+                Ok(())
+            }
+            LineEnd::Added => {
+                if self.add(reader.clause())? {
+                    Ok(())
+                } else {
+                    Err(RefutationFault::DoesNotFollow(reader.line()))
+                }
+            }
+        }
+    }
+
+    /// Follows a piece of a refutation, until the clauses are refuted or a line is wrong. What
+    /// comes once they are is not looked at.
+    pub fn follow(
+        &mut self,
+        reader: &mut RefutationReader,
+        piece: &[u8],
+    ) -> Result<(), RefutationFault>
+        ensures agrees { OnOk result ((a : ℕ → Bool) → Admits self.old a
+            → Admits self.new a) }
+        ensures err { IfErr result IsOfLine }
+    {
+        if self.is_refuted() {
+            return Ok(());
+        }
+        for k in 0..piece.len() {
+            let end = reader.take(piece[k])?;
+            if end != LineEnd::Within {
+                self.follow_line(reader, end)?;
+                reader.clear();
+                if self.is_refuted() {
+                    return Ok(());
+                }
+            }
+        }
+        Ok(())
+    }
+}

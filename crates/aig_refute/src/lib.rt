@@ -1,0 +1,26 @@
+//! Refutations of clauses, checked.
+//!
+//! A refutation (DRAT, as text or binary) adds clauses one after the other, each of which follows
+//! from those before it, up to one that no assignment satisfies. Here a clause is added only where
+//! unit propagation shows that it follows, so the refutation is not believed.
+//!
+//! Others call `check_refutation` with a circuit and a source; or parts of that, a `Checker`, which
+//! is given clauses, and `read_refutation`.
+//!
+//! The definitions that matter most are `Admits` and `RefutationSays`.
+#![tactic(auto)]
+
+mod checker;
+mod clause_table;
+mod fault;
+mod gates;
+mod kernel;
+mod propagation;
+mod reader;
+mod reading;
+mod words;
+
+pub use crate::checker::Checker;
+pub use crate::fault::RefutationFault;
+pub use crate::reader::RefutationReader;
+pub use crate::reading::{check_refutation, read_refutation};
