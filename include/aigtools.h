@@ -41,10 +41,10 @@ extern "C" {
 
 /* How a call ended. */
 enum aigtools_status {
-    AIGTOOLS_DONE = 0,          /* the text was written, or the witness is confirmed */
+    AIGTOOLS_DONE = 0,          /* the text was written, the witness is confirmed, or there is no run */
     AIGTOOLS_TOO_SHORT = 1,     /* the output has no room for the text, which has outcome.length bytes */
-    AIGTOOLS_REFUSED = 2,       /* the input has a fault, or a solver's answer has no run into a bad state: see kind,
-                                   place, number and subject */
+    AIGTOOLS_REFUSED = 2,       /* the input has a fault, a solver's answer has no run into a bad state, or its
+                                   refutation shows nothing: see kind, place, number and subject */
     AIGTOOLS_OUT_OF_MEMORY = 3, /* memory was refused; nothing is said of the input */
     AIGTOOLS_BAD_OPTIONS = 4,   /* options exclude each other or are not known, or a number is out of its range */
     AIGTOOLS_NOT_CONFIRMED = 5  /* the witness file is right, and the model does not do what it claims: its waveform
@@ -95,7 +95,10 @@ enum aigtools_kind {
     AIGTOOLS_BAD_ANSWER = 28,         /* the model is right; the line is of the answer */
     AIGTOOLS_UNSATISFIABLE = 29,      /* this is the answer; nothing is proved by that */
     AIGTOOLS_UNKNOWN = 30,            /* so is this */
-    AIGTOOLS_NOT_REACHED = 31         /* the run that the answer gives reaches no bad state */
+    AIGTOOLS_NOT_REACHED = 31,        /* the run that the answer gives reaches no bad state */
+    AIGTOOLS_NO_REFUTATION = 32,      /* the model is right; the refutation ends, and has shown nothing */
+    AIGTOOLS_BAD_REFUTATION = 33,     /* the line is of the refutation */
+    AIGTOOLS_DOES_NOT_FOLLOW = 34     /* so is this line, whose clause does not follow by unit propagation */
 };
 
 /* Where it is wrong. */
@@ -145,6 +148,14 @@ uint32_t aigtools_clauses(uint32_t bad, uint32_t frames, uint32_t max_var,
 uint32_t aigtools_answer(uint32_t bad, uint32_t frames, uint32_t max_var, const uint8_t *model, size_t model_length,
                          const uint8_t *answer, size_t answer_length,
                          uint8_t *output, size_t output_length, aigtools_outcome *outcome);
+
+/*
+ * Checks a refutation of these clauses (DRAT, text or binary) that a solver wrote, as `aiger aigunroll --refutation`;
+ * pass the same `bad` and frames. AIGTOOLS_DONE: no run of at most so many steps reaches the bad state, or any, with all
+ * constraints kept. That is proved, whatever the solver said.
+ */
+uint32_t aigtools_refute(uint32_t bad, uint32_t frames, uint32_t max_var, const uint8_t *model, size_t model_length,
+                         const uint8_t *refutation, size_t refutation_length, aigtools_outcome *outcome);
 
 /*
  * Simulates the circuit of an AIGER file over a stimulus, as `aiger aigsim --batch`. The text is the trace, or, with

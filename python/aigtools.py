@@ -28,7 +28,7 @@ from pathlib import Path
 from typing import Any, Callable, Optional, Tuple, Union
 
 __all__ = ["LARGEST", "Kind", "Refused"]
-__all__ += ["answer", "clauses", "confirm", "convert", "dump", "simulate", "unroll", "version"]
+__all__ += ["answer", "clauses", "confirm", "convert", "dump", "refute", "simulate", "unroll", "version"]
 
 Data = Union[bytes, bytearray, memoryview]
 
@@ -40,7 +40,7 @@ MOST_FRAMES = 1000000
 
 
 class Kind(enum.IntEnum):
-    """What is wrong with an input, or with a solver's answer. docs/FORMAT.md says when each comes."""
+    """What is wrong with an input, or with what a solver wrote. docs/FORMAT.md says when each comes."""
 
     NOT_AIGER = 1
     BAD_HEADER = 2
@@ -73,6 +73,9 @@ class Kind(enum.IntEnum):
     UNSATISFIABLE = 29
     UNKNOWN = 30
     NOT_REACHED = 31
+    NO_REFUTATION = 32
+    BAD_REFUTATION = 33
+    DOES_NOT_FOLLOW = 34
 
 
 class Refused(ValueError):
@@ -151,6 +154,7 @@ def _load() -> ctypes.CDLL:
         ("aigtools_unroll", (number, number, number, *text, *room, outcome), number),
         ("aigtools_clauses", (number, number, number, *text, *room, outcome), number),
         ("aigtools_answer", (number, number, number, *text, *text, *room, outcome), number),
+        ("aigtools_refute", (number, number, number, *text, *text, outcome), number),
         ("aigtools_simulate", (number, number, *text, *text, *room, outcome), number),
         ("aigtools_witness", (number, *text, *text, outcome), number),
         ("aigtools_dump", (number, *text, *text, *room, outcome), number),
@@ -321,6 +325,27 @@ def answer(model: Data, answer: Data, frames: int, *, bad: Optional[int] = None,
             which, count, limit, model, len(model), answer, len(answer), output, room, outcome
         ),
     )[0]
+
+
+def refute(model: Data, refutation: Data, frames: int, *, bad: Optional[int] = None, max_var: int = LARGEST) -> None:
+    """Checks a solver's refutation (DRAT, text or binary) of the clauses of the model, with the same frames and bad
+    state, as ``aiger aigunroll --refutation``. If it is right, no run of at most so many steps reaches a bad state
+    with all constraints kept: that is proved, whatever the solver said. If it is not, it is refused: NO_REFUTATION,
+    BAD_REFUTATION or DOES_NOT_FOLLOW.
+
+    >>> refute(b"aag 1 0 1 0 0 1\\n2 3\\n2\\n", b"", 1)
+    >>> try:
+    ...     refute(b"aag 1 0 1 0 0 1\\n2 3\\n2\\n", b"-2 0\\n0\\n", 2)
+    ... except Refused as refused:
+    ...     print(refused.kind.name, refused)
+    DOES_NOT_FOLLOW line 2: does not follow
+    """
+    model, refutation = _bytes(model), _bytes(refutation)
+    which, limit = _bad(bad), _number("max_var", max_var)
+    count, outcome = _number("frames", frames, 1, MOST_FRAMES), _Outcome()
+    _library.aigtools_refute(which, count, limit, model, len(model), refutation, len(refutation), outcome)
+    if outcome.status != _DONE:
+        _raise(outcome)
 
 
 def simulate(
