@@ -161,6 +161,8 @@ def lines_of_binary(proof, largest):
 
 
 def lines(proof, largest):
+    if re.fullmatch(rb"d [-0-9]{0,11}", proof):
+        return iter(())  # cut where a text and codes still look alike
     return (lines_of_text if is_text(proof) else lines_of_binary)(proof, largest)
 
 
