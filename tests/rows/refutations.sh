@@ -224,7 +224,7 @@ rows_refutation_names() {
     row 'what a refutation shows, with a name' '3 0\n' '' '' 0 aigunroll --frames 1 --refutation - "$model" "$work/shown.aag"
     row 'a model of a refutation within the limit' '3 0\n' 'none within 1\n' '' 0 \
         aigunroll --frames 1 --refutation - "$model" --max-var 9
-    row 'many frames' '' 'none within 10000\n' '' 0 aigunroll --frames 10000 --refutation - "$(
+    row 'a hundred frames of a refutation' '' 'none within 100\n' '' 0 aigunroll --frames 100 --refutation - "$(
         printf 'aag 0 0 0 0 0 1\n0\n' > "$work/zero"; echo "$work/zero")"
     unfound 'a forged refutation by its name' '' "$work/forged: line 1: does not follow" --refutation "$work/forged" "$model"
     unfound 'the model as its own refutation' '' "$model: line 1: bad line" --refutation "$model" "$model"
