@@ -23,7 +23,7 @@ use Rattle.aig_checked.specs.Parts.Numbered.{AreFirstInOrder, AreNumbered, AreSe
 use Rattle.aig_checked.specs.Parts.Numbered.{IsGateOf, IsNumberedGateOf}
 
 -- numbers, and the next ones behind them
-ranges_joined : (a m n : ℕ) → range_with_len a m ++ range_with_len (a + m) n ≡ range_with_len a (m + n)
+pub ranges_joined : (a m n : ℕ) → range_with_len a m ++ range_with_len (a + m) n ≡ range_with_len a (m + n)
 ranges_joined a zero n = ap₂ range_with_len (omega arith) (omega arith)
 ranges_joined a (suc m) n =
     let next : a + suc m ≡ a + 1 + m = omega arith in

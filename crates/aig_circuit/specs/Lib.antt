@@ -7,4 +7,5 @@ pub mod SymbolText
 pub mod Symbols
 pub mod Naming
 pub mod Parts
+pub mod Messages
 pub mod Laws

@@ -1,5 +1,5 @@
 //! Variables and literals (AIGER report).
-ghost use Rattle.std.specs.Prelude.{◌≡◌, ◌↔◌, IsTrue};
+ghost use Rattle.std.specs.Prelude.{◌≡◌, ◌↔◌, decimal, IsTrue, Some};
 ghost use Rattle.aig_circuit.specs.Literal.{variable_of, IsNegated, negation_of};
 
 use std::fmt;
@@ -34,12 +34,16 @@ impl Model for Lit {
 }
 
 impl fmt::Display for Var {
+    ghost output = { λ variable. Some (decimal variable) };
+
     fn fmt<W: fmt::Write>(&self, f: &mut fmt::Formatter<W>) -> fmt::Result {
         write!(f, "{}", self.0)
     }
 }
 
 impl fmt::Display for Lit {
+    ghost output = { λ literal. Some (decimal literal) };
+
     fn fmt<W: fmt::Write>(&self, f: &mut fmt::Formatter<W>) -> fmt::Result {
         write!(f, "{}", self.0)
     }

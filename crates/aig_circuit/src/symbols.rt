@@ -8,7 +8,9 @@ ghost use Rattle.std.specs.Cmp.Lexicographic.{pointwise, lists_per};
 ghost use Rattle.std.specs.Iterator.{YieldsFirst, item_count};
 ghost use Rattle.aig_circuit.specs.Naming.{IsFor};
 ghost use Rattle.aig_circuit.specs.SymbolText.{kind_letter, symbol_text};
-ghost use Rattle.aig_circuit.specs.contracts.circuit.SymbolPartialEq.TheImpl.Laws.{laws-law as symbol_laws};
+ghost use Rattle.aig_circuit.specs.contracts.circuit.SymbolPartialEq.TheImpl.Laws.{
+  laws-law as symbol_laws,
+};
 
 use crate::circuit::{Kind, Symbol};
 use itoa::Buffer;

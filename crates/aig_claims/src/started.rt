@@ -26,7 +26,7 @@ fn reset_by(latches: &mut [Latch], text: &[u8])
     }
 }
 
-/// The circuit that starts in the state of a text. Nothing is checked again, and no memory is taken.
+/// The circuit that starts in the state of a text. Nothing is checked again, no memory is taken.
 pub fn started_by(text: &[u8], found: Checked) -> Checked
     ensures { result ≡ started_in (map value_or_x text.now) found }
 {

@@ -41,6 +41,7 @@ is_command words (Some asked) (Ok (commands.ToAig request)) is some h = is ∙ a
 is_command words (Some asked) (Ok (commands.Sim request)) is some h = is ∙ ap Some h
 is_command words (Some asked) (Ok (commands.Unroll request)) is some h = is ∙ ap Some h
 is_command words (Some asked) (Ok (commands.Reach request)) is some h = is ∙ ap Some h
+is_command words (Some asked) (Ok (commands.Invariant request)) is some h = is ∙ ap Some h
 is_command words (Some asked) (Ok (commands.Help text)) is some h = absurd h
 is_command words (Some asked) (Ok (commands.Version text)) is some h = absurd h
 is_command words (Some asked) (Err reason) is some h = tt
@@ -66,6 +67,11 @@ is_usage words (Some asked) (Err usage.RefutationAlone) is some h = is ∙ ap So
 is_usage words (Some asked) (Err usage.BadNeedsClauses) is some h = is ∙ ap Some h
 is_usage words (Some asked) (Err usage.BothAreStandardInput) is some h = is ∙ ap Some h
 is_usage words (Some asked) (Err usage.RefutationIsModel) is some h = is ∙ ap Some h
+is_usage words (Some asked) (Err usage.FramesNeeded) is some h = is ∙ ap Some h
+is_usage words (Some asked) (Err usage.InvariantAlone) is some h = is ∙ ap Some h
+is_usage words (Some asked) (Err usage.InvariantNeedsClauses) is some h = is ∙ ap Some h
+is_usage words (Some asked) (Err usage.InvariantIsModel) is some h = is ∙ ap Some h
+is_usage words (Some asked) (Err usage.RefutationIsInvariant) is some h = is ∙ ap Some h
 
 module _ (words : List Text) (m : ArgMatches) (h : HasMatchesOf aiger words m) (e : faults words ≡ []) where
   pub rows_known : is_some (option_and_then asked_by (subcommand_rows_of m)) ≡ true
@@ -121,6 +127,7 @@ module _ (words : List Text) (kind : ErrorKind) (passes : takes aiger words ≡ 
   refused_command (Ok (commands.Sim request)) h = absurd h
   refused_command (Ok (commands.Unroll request)) h = absurd h
   refused_command (Ok (commands.Reach request)) h = absurd h
+  refused_command (Ok (commands.Invariant request)) h = absurd h
   refused_command (Err reason) h = tt
 
   pub refused_usage : (r : Result Command Usage) → IsErrorAnswer kind words r → IfErr r (IsUsage words)
@@ -142,6 +149,11 @@ module _ (words : List Text) (kind : ErrorKind) (passes : takes aiger words ≡ 
   refused_usage (Err usage.BadNeedsClauses) h = absurd h
   refused_usage (Err usage.BothAreStandardInput) h = absurd h
   refused_usage (Err usage.RefutationIsModel) h = absurd h
+  refused_usage (Err usage.FramesNeeded) h = absurd h
+  refused_usage (Err usage.InvariantAlone) h = absurd h
+  refused_usage (Err usage.InvariantNeedsClauses) h = absurd h
+  refused_usage (Err usage.InvariantIsModel) h = absurd h
+  refused_usage (Err usage.RefutationIsInvariant) h = absurd h
 
 -- ---- an argument that asks for a text
 

@@ -29,7 +29,7 @@ use Rattle.clap.proofs.CallerReads.{signed_reads}
 use Rattle.clap.proofs.ValueTestLemmas.{accepts-Accepts}
 use Rattle.aig_command.specs.Asked.{file, number_in, Asked, AsksWithinLimits, asked_by, command_of, conversion}
 use Rattle.aig_command.specs.Asked.{converts, faults, frames, limit, number, refused, simulates, simulation}
-use Rattle.aig_command.specs.Asked.{aigunroll, asked_reaching, is_given, options_refusal, reaches}
+use Rattle.aig_command.specs.Asked.{aigunroll, asked_reaching, is_given, options_refusal, proves, proving, reaches}
 use Rattle.aig_command.specs.Asked.{reaching, unrolling, unrolls}
 use Rattle.aig_command.specs.Aiger.{aiger, largest_index, max_var, most_frames, frames as frames_rule}
 use Rattle.aig_command.specs.declared.request.SolverFile.{SolverFile}
@@ -231,9 +231,10 @@ aigunroll_is_in : (rows : List Row) → (1 ≤ frames rows) × (frames rows ≤ 
     → AsksWithinLimits (aigunroll rows)
 aigunroll_is_in rows few low =
     unless_refused (options_refusal rows) _
+    (either (is_given (codes "invariant") rows) _ _ (unless_refused _ (proves (proving rows)) low)
     (either (is_given (codes "answer") rows) _ _ (reach files.Answer)
     (either (is_given (codes "refutation") rows) _ _ (reach files.Refutation)
-    (unless_refused _ (unrolls (unrolling rows)) (few.0, few.1, low))))
+    (unless_refused _ (unrolls (unrolling rows)) (few.0, few.1, low)))))
   where
     reach : (wrote : SolverFile) → AsksWithinLimits (asked_reaching wrote rows)
     reach wrote = unless_refused _ (reaches (reaching wrote rows)) (few.0, few.1, low)

@@ -48,14 +48,13 @@ aigsim = with_rules (new_app (codes "aigsim"))
     (flag (codes "batch") ∷ flag (codes "properties") ∷ flag (codes "witness") ∷ flag (codes "vcd") ∷ max_var
     ∷ required_file (codes "model") ∷ new_rule (codes "stimulus") ∷ [])
 
--- `--frames K`, which has to be given
+-- `--frames K`
 abbrev pub frames : Rule
 frames = record (new_rule (codes "frames")) {
   long = Some (codes "frames");
   action = Some Set;
   value_names = 1;
   parser = Some (parser.Signed (pos 1) (pos most_frames));
-  required = true;
 }
 
 -- `--bad N`
@@ -67,7 +66,7 @@ bad = record (new_rule (codes "bad")) {
   parser = Some (parser.Signed (pos 0) (pos largest_index));
 }
 
--- `--answer FILE` or `--refutation FILE`
+-- `--answer FILE`, `--refutation FILE` or `--invariant FILE`
 abbrev pub solver_file : Text → Rule
 solver_file name = record (new_rule name) { long = Some name; action = Some Set; value_names = 1 }
 
@@ -75,8 +74,8 @@ solver_file name = record (new_rule name) { long = Some name; action = Some Set;
 abbrev pub aigunroll : App
 aigunroll = with_rules (new_app (codes "aigunroll"))
     (frames ∷ flag (codes "ascii") ∷ flag (codes "cnf") ∷ solver_file (codes "answer")
-    ∷ solver_file (codes "refutation") ∷ bad ∷ max_var ∷ new_rule (codes "source") ∷ new_rule (codes "destination")
-    ∷ [])
+    ∷ solver_file (codes "refutation") ∷ solver_file (codes "invariant") ∷ bad ∷ max_var
+    ∷ new_rule (codes "source") ∷ new_rule (codes "destination") ∷ [])
 
 -- a command that has to be given a subcommand, has none for help, and has a version, as its subcommands have
 abbrev pub above : App → App

@@ -8,8 +8,9 @@ use Rattle.clap.specs.Words.{IsAmong, Text, takes}
 use Rattle.clap.specs.declared.error.kind.ErrorKind.{ErrorKind}
 use Rattle.clap.specs.declared.error.kind.ErrorKind.TheVariants.{DisplayHelp, DisplayVersion, OutOfMemory}
 use Rattle.aig_command.specs.Aiger.{aiger, most_frames}
-use Rattle.aig_command.specs.Asked.{Asked, Conversion, Reaching, Simulation, Unrolling, command_of, faults}
-use Rattle.aig_command.specs.Asked.{converts, reaches, refused, simulates, unrolls}
+use Rattle.aig_command.specs.Asked.{Asked, Conversion, Proving, Reaching, Simulation, Unrolling, command_of, faults}
+use Rattle.aig_command.specs.Asked.{converts, proves, reaches, refused, simulates, unrolls}
+use Rattle.aig_command.specs.declared.request.Invariant.{Invariant}
 use Rattle.aig_command.specs.declared.request.Reach.{Reach}
 use Rattle.aig_command.specs.declared.request.Sim.{Sim}
 use Rattle.aig_command.specs.declared.request.ToAig.{ToAig}
@@ -74,6 +75,18 @@ reaching_of request = record {
   destination = name_of request.destination;
 }
 
+-- the invariant and the model that a request is for, and the refutation, if one is checked
+abbrev pub proving_of : Invariant → Proving
+proving_of request = record {
+  bad = request.bad;
+  max_var = request.max_var;
+  model = name_of request.model;
+  file = name_of request.file;
+  refuted = request.refuted;
+  refutation = name_of request.refutation;
+  destination = name_of request.destination;
+}
+
 -- the argument is the option's long name, or begins with its short one
 abbrev pub is_option : Text → Text → Text → Bool
 is_option long short word = bytes_eq word long || starts_with nat_eq word short
@@ -98,6 +111,7 @@ IsCommand words (commands.ToAig request) = command_of words ≡ Some (converts (
 IsCommand words (commands.Sim request) = command_of words ≡ Some (simulates (simulation_of request))
 IsCommand words (commands.Unroll request) = command_of words ≡ Some (unrolls (unrolling_of request))
 IsCommand words (commands.Reach request) = command_of words ≡ Some (reaches (reaching_of request))
+IsCommand words (commands.Invariant request) = command_of words ≡ Some (proves (proving_of request))
 IsCommand words (commands.Help text) =
     IsWrong words DisplayHelp × (asks_for_help words ≡ true) × (0 < string_len text)
 IsCommand words (commands.Version text) =
@@ -144,12 +158,30 @@ IsFileApart request = name_of request.model ≡ None → name_of request.file �
 abbrev pub CanReach : Reach → Type 0
 CanReach request = (1 ≤ request.frames) × (request.frames ≤ most_frames) × IsFileApart request
 
+-- The standard input gives the model or the invariant, or neither, but never both.
+abbrev pub IsInvariantApart : Invariant → Type 0
+IsInvariantApart request = name_of request.model ≡ None → name_of request.file ≡ None → ⊥
+
+-- Where a refutation is checked that comes from the standard input, the model and the invariant do not.
+abbrev pub IsRefutationApart : Invariant → Type 0
+IsRefutationApart request = request.refuted ≡ true → name_of request.refutation ≡ None
+    → (name_of request.model ≢ None) × (name_of request.file ≢ None)
+
+-- No refutation is named where none is checked.
+abbrev pub IsNamedToBeChecked : Invariant → Type 0
+IsNamedToBeChecked request = request.refuted ≡ false → name_of request.refutation ≡ None
+
+-- The files of an invariant are apart, and there are none that are not read.
+abbrev pub CanProve : Invariant → Type 0
+CanProve request = IsInvariantApart request × IsRefutationApart request × IsNamedToBeChecked request
+
 -- what the command asks for can be done
 abbrev pub CanDo : Command → Type 0
 CanDo (commands.ToAig request) = IsKeptAlone request × IsWithoutMap request
 CanDo (commands.Sim request) = HasOneStandardInput request × IsWitnessAlone request × IsDumpAlone request
 CanDo (commands.Unroll request) = HasFrames request
 CanDo (commands.Reach request) = CanReach request
+CanDo (commands.Invariant request) = CanProve request
 CanDo (commands.Help text) = ⊤
 CanDo (commands.Version text) = ⊤
 
@@ -171,6 +203,7 @@ IsAnswer asked (Ok (commands.ToAig request)) = asked ≡ converts (conversion_of
 IsAnswer asked (Ok (commands.Sim request)) = asked ≡ simulates (simulation_of request)
 IsAnswer asked (Ok (commands.Unroll request)) = asked ≡ unrolls (unrolling_of request)
 IsAnswer asked (Ok (commands.Reach request)) = asked ≡ reaches (reaching_of request)
+IsAnswer asked (Ok (commands.Invariant request)) = asked ≡ proves (proving_of request)
 IsAnswer asked (Err usage.OutOfMemory) = ⊤
 IsAnswer asked (Err (usage.Words text)) = ⊥
 IsAnswer asked (Err reason) = asked ≡ refused reason

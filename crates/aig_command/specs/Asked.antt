@@ -36,7 +36,7 @@ number name otherwise rows = unwrap_or (option_and_then number_in (one_of name r
 abbrev pub limit : List Row → ℕ
 limit = number (codes "max-var") largest_index
 
--- the number of frames that `--frames` sets, which has to be given
+-- the number of frames that `--frames` sets, which is given wherever it counts
 abbrev pub frames : List Row → ℕ
 frames = number (codes "frames") 1
 
@@ -192,17 +192,55 @@ abbrev pub reaching_refusal : Reaching → Option Usage
 reaching_refusal r =
     if is_none r.model && is_none r.file then Some (stream_refusal r.wrote) else destination_refusal r.destination
 
--- the first reason to refuse options of `aigunroll` together: clauses are neither ASCII nor binary, an answer or a
--- refutation is read in place of writing them, and only these three know of one bad state
+-- an invariant of a model, and of which bad state, if not of any: the clauses in which it is to be shown, or, where a
+-- refutation is given, that this refutes them
+pub record Proving : Type 0 where
+  pub bad : Option ℕ
+  pub max_var : ℕ
+  pub model : Option Text
+  pub file : Option Text
+  pub refuted : Bool
+  pub refutation : Option Text
+  pub destination : Option Text
+
+-- what the arguments of `aigunroll` name with `--invariant`
+abbrev pub proving : List Row → Proving
+proving rows = record {
+  bad = bad_number rows;
+  max_var = limit rows;
+  model = file (codes "source") rows;
+  file = file (codes "invariant") rows;
+  refuted = is_given (codes "refutation") rows;
+  refutation = file (codes "refutation") rows;
+  destination = file (codes "destination") rows;
+}
+
+-- the first reason to refuse the files of a model, of its invariant and of a refutation: the standard input is one
+-- stream, and gives one of them at most
+abbrev pub proving_refusal : Proving → Option Usage
+proving_refusal p =
+    if is_none p.model && is_none p.file then Some usage.InvariantIsModel
+    else if p.refuted && is_none p.refutation && is_none p.model then Some usage.RefutationIsModel
+    else if p.refuted && is_none p.refutation && is_none p.file then Some usage.RefutationIsInvariant
+    else destination_refusal p.destination
+
+-- the first reason to refuse options of `aigunroll` together: there are frames or an invariant, clauses are neither
+-- ASCII nor binary, an answer or a refutation is read in place of writing them, an invariant is shown by clauses alone,
+-- and only these know of one bad state
 abbrev pub options_refusal : List Row → Option Usage
 options_refusal rows =
+    let framed = is_given (codes "frames") rows in
+    let invariant = is_given (codes "invariant") rows in
     let clauses = is_set (codes "cnf") rows in
     let ascii = is_set (codes "ascii") rows in
     let answer = is_given (codes "answer") rows in
     let refutation = is_given (codes "refutation") rows in
-    if clauses && ascii then Some usage.CnfExcludesAscii
+    if not (framed || invariant) then Some usage.FramesNeeded
+    else if clauses && ascii then Some usage.CnfExcludesAscii
     else if answer && (clauses || ascii) then Some usage.AnswerAlone
     else if refutation && (clauses || ascii || answer) then Some usage.RefutationAlone
+    else if invariant && (framed || ascii || answer) then Some usage.InvariantAlone
+    else if invariant && not (clauses || refutation) then Some usage.InvariantNeedsClauses
     else if is_given (codes "bad") rows && not (clauses || answer || refutation) then Some usage.BadNeedsClauses
     else None
 
@@ -212,6 +250,7 @@ pub data Asked : Type 0 where
   simulates : Simulation → Asked
   unrolls : Unrolling → Asked
   reaches : Reaching → Asked
+  proves : Proving → Asked
   refused : Usage → Asked
 
 -- The numbers are within their limits: that on indices and counts, and the frames.
@@ -220,6 +259,7 @@ AsksWithinLimits (converts c) = c.max_var ≤ largest_index
 AsksWithinLimits (simulates s) = s.max_var ≤ largest_index
 AsksWithinLimits (unrolls u) = (1 ≤ u.frames) × (u.frames ≤ most_frames) × (u.max_var ≤ largest_index)
 AsksWithinLimits (reaches r) = (1 ≤ r.frames) × (r.frames ≤ most_frames) × (r.max_var ≤ largest_index)
+AsksWithinLimits (proves p) = p.max_var ≤ largest_index
 AsksWithinLimits (refused reason) = ⊤
 
 -- what the arguments of `aigtoaig` ask for
@@ -230,21 +270,26 @@ to_aig rows = option_map_or refused (refusal (conversion rows)) (converts (conve
 abbrev pub aigsim : List Row → Asked
 aigsim rows = option_map_or refused (simulation_refusal (simulation rows)) (simulates (simulation rows))
 
--- what the arguments of `aigunroll` ask for without a solver's file
+-- what the arguments of `aigunroll` ask for without another file than the model
 abbrev pub asked_unrolling : List Row → Asked
 asked_unrolling rows =
     option_map_or refused (destination_refusal (unrolling rows).destination) (unrolls (unrolling rows))
 
--- what they ask for with one
+-- what they ask for with an answer or a refutation
 abbrev pub asked_reaching : SolverFile → List Row → Asked
 asked_reaching wrote rows =
     option_map_or refused (reaching_refusal (reaching wrote rows)) (reaches (reaching wrote rows))
+
+-- what they ask for with an invariant
+abbrev pub asked_proving : List Row → Asked
+asked_proving rows = option_map_or refused (proving_refusal (proving rows)) (proves (proving rows))
 
 -- what the arguments of `aigunroll` ask for
 abbrev pub aigunroll : List Row → Asked
 aigunroll rows =
     option_map_or refused (options_refusal rows)
-    (if is_given (codes "answer") rows then asked_reaching files.Answer rows
+    (if is_given (codes "invariant") rows then asked_proving rows
+    else if is_given (codes "answer") rows then asked_reaching files.Answer rows
     else if is_given (codes "refutation") rows then asked_reaching files.Refutation rows
     else asked_unrolling rows)
 

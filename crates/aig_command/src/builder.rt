@@ -124,6 +124,12 @@ checked, by the same K and --bad: DRAT, in text or binary, as CaDiCaL writes it
 without RAT lines. If it is right, 'none within K' is written: no run of at
 most K steps reaches a bad state with all constraints kept.
 
+With --invariant the clauses are those in which an invariant is to be shown, for
+runs of any length: a PLA with a column for each latch, as ABC writes one by
+'pdr -d -e -I FILE'. With --refutation a solver's proof that they cannot be
+satisfied is checked. If it is right, 'never' is written: no run reaches a bad
+state with all constraints kept. The invariant itself is not believed.
+
 Exit status:
   0  done, also for --help
   1  the input was refused, a file or stream failed, or memory ran out; or the
@@ -139,9 +145,15 @@ Examples:
   aiger aigunroll --frames 20 --cnf model.aig | cadical -q > answer.txt
   aiger aigunroll --frames 20 --answer answer.txt model.aig witness.txt
   cadical -q model.cnf model.drat
-  aiger aigunroll --frames 20 --refutation model.drat model.aig";
+  aiger aigunroll --frames 20 --refutation model.drat model.aig
+  berkeley-abc -c 'read model.aig; pdr -d -e -I model.pla'
+  aiger aigunroll --invariant model.pla --cnf model.aig never.cnf
+  cadical -q never.cnf never.drat
+  aiger aigunroll --invariant model.pla --refutation never.drat model.aig";
 
-const FRAMES_HELP: &str = "The number of time frames: 1 to 1000000";
+const FRAMES_HELP: &str = "\
+The number of time frames: 1 to 1000000; needed where
+there is no --invariant";
 
 const CNF_HELP: &str = "\
 Write clauses for a SAT solver (DIMACS); not with
@@ -155,6 +167,11 @@ const REFUTATION_HELP: &str = "\
 Check a SAT solver's refutation of these clauses, and
 say that no bad state is reached; - is the standard
 input. Not with --cnf, --ascii or --answer";
+
+const INVARIANT_HELP: &str = "\
+In place of frames: take the clauses in which the
+invariant in FILE, a PLA, is to be shown; - is the
+standard input. With --cnf or --refutation";
 
 const BAD_HELP: &str = "\
 Of the bad states take that of number N alone,
@@ -237,7 +254,6 @@ fn frames<'a>(alloc: Global) -> Arg<'a>
         .long("frames")
         .value_name("K")
         .action(ArgAction::Set)
-        .required(true)
         .value_parser(value_parser!(u32).range(1..=1_000_000))
         .help(FRAMES_HELP)
 }
@@ -334,6 +350,7 @@ fn aigunroll<'a>(alloc: Global) -> Result<Command<'a>, AllocError>
     let command = with_argument(command, flag(alloc, "cnf", CNF_HELP));
     let command = with_argument(command, solver_file(alloc, "answer", ANSWER_HELP));
     let command = with_argument(command, solver_file(alloc, "refutation", REFUTATION_HELP));
+    let command = with_argument(command, solver_file(alloc, "invariant", INVARIANT_HELP));
     let command = with_argument(command, bad(alloc));
     let command = with_argument(command, max_var(alloc));
     let command = with_argument(command, file(alloc, "source", SOURCE_HELP));

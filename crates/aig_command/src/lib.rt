@@ -10,6 +10,7 @@ mod builder;
 mod destination;
 pub mod laws;
 mod options;
+mod proving;
 mod reach;
 mod reader;
 mod request;
@@ -20,5 +21,5 @@ mod usage;
 
 pub use crate::builder::VERSION;
 pub use crate::reader::command;
-pub use crate::request::{Command, Reach, Sim, SolverFile, ToAig, Unroll, UnrolledForm};
+pub use crate::request::{Command, Invariant, Reach, Sim, SolverFile, ToAig, Unroll, UnrolledForm};
 pub use crate::usage::Usage;

@@ -102,6 +102,27 @@ pub struct Reach {
     pub destination: Option<String>,
 }
 
+/// An invariant of a model: the clauses in which it is to be shown, or that a solver's refutation of
+/// them is right.
+#[derive(Drop)]
+pub struct Invariant {
+    /// The number of the bad state that is never to be reached, counted from 0; `None` is any.
+    pub bad: Option<u32>,
+    /// The limit on the largest variable index and the counts of the model.
+    pub max_var: u32,
+    /// The model's name; `None` is the standard input.
+    pub model: Option<String>,
+    /// The invariant's name; `None` is the standard input. This or the model is a file with a name.
+    pub file: Option<String>,
+    /// Whether a refutation is checked; else the clauses are written.
+    pub refuted: bool,
+    /// The refutation's name; `None` is the standard input, or that none is checked. Where one is,
+    /// at least two of the three have names.
+    pub refutation: Option<String>,
+    /// The destination's name; `None` is the standard output.
+    pub destination: Option<String>,
+}
+
 /// What a command line asks for.
 #[derive(Drop)]
 pub enum Command {
@@ -109,10 +130,12 @@ pub enum Command {
     ToAig(ToAig),
     /// `aigsim`.
     Sim(Sim),
-    /// `aigunroll`, without `--answer` and `--refutation`.
+    /// `aigunroll`, without `--answer`, `--refutation` and `--invariant`.
     Unroll(Unroll),
-    /// `aigunroll --answer` or `aigunroll --refutation`.
+    /// `aigunroll --answer` or `aigunroll --refutation`, without `--invariant`.
     Reach(Reach),
+    /// `aigunroll --invariant`.
+    Invariant(Invariant),
     /// Help; this is its text.
     Help(String),
     /// The program's version; this is its text.

@@ -7,6 +7,7 @@ ghost use Rattle.aig_command.specs.Asked.{options_refusal, unrolled_form, unroll
 
 use crate::destination::{check_destination, wants_ascii};
 use crate::options::{bad_number, frame_count, is_given, is_set, limit, named_file};
+use crate::proving::asked_proving;
 use crate::reach::asked_reaching;
 use crate::request::{Command, SolverFile, Unroll, UnrolledForm};
 use crate::usage::Usage;
@@ -48,10 +49,15 @@ fn check_options(matches: &ArgMatches<'_>) -> Result<(), Usage>
     ensures err { IfErr result (λ reason. IsReason reason
         × (options_refusal (rows_of (found_of matches.now)) ≡ Some reason)) }
 {
+    let framed = is_given(matches, "frames");
+    let invariant = is_given(matches, "invariant");
     let clauses = is_set(matches, "cnf");
     let ascii = is_set(matches, "ascii");
     let answer = is_given(matches, "answer");
     let refutation = is_given(matches, "refutation");
+    if !(framed || invariant) {
+        return Err(Usage::FramesNeeded);
+    }
     if clauses && ascii {
         return Err(Usage::CnfExcludesAscii);
     }
@@ -60,6 +66,12 @@ fn check_options(matches: &ArgMatches<'_>) -> Result<(), Usage>
     }
     if refutation && (clauses || ascii || answer) {
         return Err(Usage::RefutationAlone);
+    }
+    if invariant && (framed || ascii || answer) {
+        return Err(Usage::InvariantAlone);
+    }
+    if invariant && !(clauses || refutation) {
+        return Err(Usage::InvariantNeedsClauses);
     }
     if is_given(matches, "bad") && !(clauses || answer || refutation) {
         return Err(Usage::BadNeedsClauses);
@@ -83,6 +95,9 @@ pub(crate) fn aigunroll(alloc: Global, matches: &ArgMatches<'_>) -> Result<Comma
     ensures can_do { IfOk result CanDo }
 {
     check_options(matches)?;
+    if is_given(matches, "invariant") {
+        return asked_proving(alloc, matches);
+    }
     if is_given(matches, "answer") {
         return asked_reaching(alloc, matches, SolverFile::Answer);
     }

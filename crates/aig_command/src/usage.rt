@@ -42,6 +42,16 @@ pub enum Usage {
     BothAreStandardInput,
     /// Both a model and a refutation of it are read from the standard input.
     RefutationIsModel,
+    /// A circuit is to be unrolled, and there is no number of frames and no invariant.
+    FramesNeeded,
+    /// An invariant is read, and frames, the circuit in ASCII or an answer are asked for too.
+    InvariantAlone,
+    /// An invariant is read, and neither clauses nor a refutation of them are asked for.
+    InvariantNeedsClauses,
+    /// Both a model and an invariant of it are read from the standard input.
+    InvariantIsModel,
+    /// Both an invariant and a refutation for it are read from the standard input.
+    RefutationIsInvariant,
     /// An allocation failed; nothing is known of the command line.
     OutOfMemory,
 }
@@ -68,6 +78,11 @@ impl Usage {
             Usage::BadNeedsClauses => "--bad needs --cnf, --answer or --refutation",
             Usage::BothAreStandardInput => "model and answer are both standard input",
             Usage::RefutationIsModel => "model and refutation are both standard input",
+            Usage::FramesNeeded => "--frames or --invariant is needed",
+            Usage::InvariantAlone => "--invariant excludes --frames, --ascii and --answer",
+            Usage::InvariantNeedsClauses => "--invariant needs --cnf or --refutation",
+            Usage::InvariantIsModel => "model and invariant are both standard input",
+            Usage::RefutationIsInvariant => "invariant and refutation are both standard input",
             Usage::OutOfMemory => "out of memory",
         }
     }

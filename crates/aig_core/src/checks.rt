@@ -1,15 +1,18 @@
 //! The check of circuits.
-ghost use Rattle.std.specs.Prelude.{◌≡◌, ◌≢◌, ◌↔◌, IsTrue, IfOk, IfErr, OnOk, None};
+ghost use Rattle.std.specs.Prelude.{◌≡◌, ◌≢◌, ◌↔◌, ◌+◌, ◌*◌, ◌≤◌, IsTrue, IfOk, IfErr, OnOk};
+ghost use Rattle.std.specs.Prelude.{None, length};
 ghost use Rattle.aig_core.specs.declared.fault.CheckFault.TheVariants.{OutOfMemory as WantOfMemory};
 ghost use Rattle.aig_circuit.specs.Wellformed.{AreDistinct, IsWellFormed, defined_variables};
 ghost use Rattle.aig_circuit.specs.Form.{IsInForm};
 ghost use Rattle.aig_core.specs.Fault.{first_structural_fault, IsFault};
+ghost use Rattle.aig_core.specs.Steps.{steps_a_gate};
 
 use crate::checks::distinct::{is_defined_once_by_parts, is_spread};
 use crate::checks::faults::{find_fault, find_redefinition};
 use crate::fault::CheckFault;
 use aig_checked::Checked;
 use aig_circuit::{Circuit, OutOfMemory};
+use aig_topo::Steps;
 use std::alloc::Global;
 
 mod distinct;
@@ -17,7 +20,11 @@ mod faults;
 
 /// Checks a circuit in form. The error has the circuit as it was, and its first fault or that
 /// memory ran out. No order of the gates is kept (`check_keeping`).
-pub fn check(alloc: Global, circuit: Circuit) -> Result<Checked, (Circuit, CheckFault)>
+pub fn check(
+    alloc: Global,
+    circuit: Circuit,
+    steps: &mut Steps,
+) -> Result<Checked, (Circuit, CheckFault)>
     requires in_form { IsInForm circuit }
     ensures ok { IfOk result (λ checked. checked ≡ circuit) }
     ensures well_formed { OnOk result (IsWellFormed circuit) }
@@ -25,8 +32,9 @@ pub fn check(alloc: Global, circuit: Circuit) -> Result<Checked, (Circuit, Check
     ensures handed_back { IfErr result (λ e. e.0 ≡ circuit) }
     ensures fault { IfErr result (λ e. IsFault e.1 (first_structural_fault circuit)) }
     ensures refused { IfErr result (λ e. e.1 ≢ WantOfMemory → ¬ IsWellFormed circuit) }
+    ensures few { steps.new.count ≤ steps.old.count + 2 * length circuit.gates }
 {
-    check_keeping(alloc, circuit, Keep::Circuit)
+    check_keeping(alloc, circuit, Keep::Circuit, steps)
 }
 
 /// What a check keeps.
@@ -44,6 +52,7 @@ pub fn check_keeping(
     alloc: Global,
     circuit: Circuit,
     keep: Keep,
+    steps: &mut Steps,
 ) -> Result<Checked, (Circuit, CheckFault)>
     requires in_form { IsInForm circuit }
     ensures ok { IfOk result (λ checked. checked ≡ circuit) }
@@ -52,8 +61,9 @@ pub fn check_keeping(
     ensures handed_back { IfErr result (λ e. e.0 ≡ circuit) }
     ensures fault { IfErr result (λ e. IsFault e.1 (first_structural_fault circuit)) }
     ensures refused { IfErr result (λ e. e.1 ≢ WantOfMemory → ¬ IsWellFormed circuit) }
+    ensures few { steps.new.count ≤ steps.old.count + steps_a_gate keep * length circuit.gates }
 {
-    match find_fault(alloc, &circuit, keep) {
+    match find_fault(alloc, &circuit, keep, steps) {
         Ok(order) => Ok(Checked::with_order(circuit, order)),
         Err(fault) => Err((circuit, fault)),
     }

@@ -29,4 +29,4 @@ pub use aig_io::{
     Sink, SliceSource, Source, VecSink, Window, WriteSink, read_all, read_to_end,
 };
 pub use aig_tables::VarMap;
-pub use aig_topo::{Order, gate_order};
+pub use aig_topo::{Order, Steps, gate_order};

@@ -1,5 +1,6 @@
 -- What comes of a circuit that is read, with the bad state alone that is asked for.
-use Rattle.std.proofs.Common.{◌≡◌, ◌⊎◌, ℕ, List, Option, None, Result, Ok, Err, IfErr, IfOk, inl, inr, refl, subst}
+use Rattle.std.proofs.Common.{◌≡◌, ◌⊎◌, ℕ, List, Option, None, Result, Ok, Err, IfErr, IfOk, OnOk, inl, inr, refl}
+use Rattle.std.proofs.Common.{subst}
 use Rattle.aig_circuit.specs.declared.circuit.Circuit.{Circuit}
 use Rattle.aig_cnf.specs.ClauseText.{cnf_text}
 use Rattle.aig_io.specs.Devices.{Past}
@@ -71,7 +72,7 @@ unrolling_read request found (Err fault) before after read none why = record {
 }
 
 -- a model was read, and it has clauses
-pub model_asked : (request : Reach) (found asked : Circuit) (before after : Past)
+model_asked : (request : Reach) (found asked : Circuit) (before after : Past)
     → Read (ReadSays {A = Circuit} (λ c bytes. IsFileOf bytes request.max_var c) (IsUnreadable request.max_var)
     (Ok found)) before after
     → HasAsked request.bad found → asked ≡ asked_of request.bad found
@@ -101,34 +102,31 @@ model_asked request found asked before after read has same (d, is, clauses) = re
 }
 
 -- what has no clauses where the bad state was taken alone has none with it
-none_alone : (bad : Option ℕ) (frames : ℕ) (c asked : Circuit) (fault : ToolFault) → HasAsked bad c
-    → asked ≡ asked_of bad c → NotUnrolledAs (Clauses None) frames asked fault
-    → NotUnrolledAs (Clauses bad) frames c fault
-none_alone bad frames c asked (faults.NoBad number) has same (none, above) = cc
-none_alone bad frames c asked (faults.Unroll reason) has same why =
-    (has, subst (λ (k : Circuit). NotUnrolled k frames reason) same why.1)
-none_alone bad frames c asked (faults.Clauses reason) has same (d, is, why) =
-    (d, unrolled_for bad frames c asked d has same (is.supported, is.fits) is.is_unrolled, why)
-none_alone bad frames c asked fault has same why = absurd why
+pub none_alone : (bad : Option ℕ) (frames : ℕ) (c asked : Circuit) (fault : ToolFault) → HasAsked bad c
+    → asked ≡ asked_of bad c → (fault ≡ faults.OutOfMemory) ⊎ NotUnrolledAs (Clauses None) frames asked fault
+    → (fault ≡ faults.OutOfMemory) ⊎ NotUnrolledAs (Clauses bad) frames c fault
+none_alone bad frames c asked fault has same (inl memory) = inl memory
+none_alone bad frames c asked (faults.NoBad number) has same (inr (none, above)) = cc
+none_alone bad frames c asked (faults.Unroll reason) has same (inr why) =
+    inr (has, subst (λ (k : Circuit). NotUnrolled k frames reason) same why.1)
+none_alone bad frames c asked (faults.Clauses reason) has same (inr (d, is, why)) =
+    inr (d, unrolled_for bad frames c asked d has same (is.supported, is.fits) is.is_unrolled, why)
+none_alone bad frames c asked fault has same (inr why) = absurd why
 
--- a model was read, and it has no clauses
-pub model_refused : (request : Reach) (found asked : Circuit) (fault : ToolFault) (before after : Past)
+-- a model was read, and its circuit has clauses or none
+pub model_read : (request : Reach) (found : Circuit) (r : Result Circuit ToolFault) (before after : Past)
     → Read (ReadSays {A = Circuit} (λ c bytes. IsFileOf bytes request.max_var c) (IsUnreadable request.max_var)
     (Ok found)) before after
-    → HasAsked request.bad found → asked ≡ asked_of request.bad found
-    → (fault ≡ faults.OutOfMemory) ⊎ NotUnrolledAs (Clauses None) request.frames asked fault
-    → Read (ReadSays {A = Circuit} (λ c bytes. IsModelAsked request bytes c) (IsModelRefused request) (Err fault))
-    before after
-model_refused request found asked fault before after read has same (inl memory) = record {
+    → IfOk r (λ asked. asked ≡ asked_of request.bad found) → OnOk r (HasAsked request.bad found)
+    → IfOk r (λ asked. (d : Circuit) × IsUnrolledFor None request.frames asked d × HasClauses d)
+    → IfErr r (λ fault. (fault ≡ faults.OutOfMemory)
+    ⊎ NotUnrolledAs (Clauses request.bad) request.frames found fault)
+    → Read (ReadSays {A = Circuit} (λ c bytes. IsModelAsked request bytes c) (IsModelRefused request) r) before after
+model_read request found (Ok asked) before after read same has clauses none =
+    model_asked request found asked before after read has same clauses
+model_read request found (Err fault) before after read none there clauses why = record {
   bytes = read.bytes;
   ending = read.ending;
-  says = not_unrolled (clauses_asked request) found fault read.bytes read.ending read.says.0 read.says.1 (inl memory);
-  came = read.came;
-}
-model_refused request found asked fault before after read has same (inr why) = record {
-  bytes = read.bytes;
-  ending = read.ending;
-  says = not_unrolled (clauses_asked request) found fault read.bytes read.ending read.says.0 read.says.1
-      (inr (none_alone request.bad request.frames found asked fault has same why));
+  says = not_unrolled (clauses_asked request) found fault read.bytes read.ending read.says.0 read.says.1 why;
   came = read.came;
 }

@@ -9,6 +9,7 @@ pub mod Unrollings
 pub mod Reachings
 pub mod Refutings
 pub mod AskedFor
+pub mod Provings
 pub mod Answered
 pub mod Values
 pub mod Cuts

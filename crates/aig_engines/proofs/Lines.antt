@@ -46,6 +46,11 @@ line_of_usage usages.RefutationAlone other = refl
 line_of_usage usages.BadNeedsClauses other = refl
 line_of_usage usages.BothAreStandardInput other = refl
 line_of_usage usages.RefutationIsModel other = refl
+line_of_usage usages.FramesNeeded other = refl
+line_of_usage usages.InvariantAlone other = refl
+line_of_usage usages.InvariantNeedsClauses other = refl
+line_of_usage usages.InvariantIsModel other = refl
+line_of_usage usages.RefutationIsInvariant other = refl
 line_of_usage usages.OutOfMemory other = refl
 
 -- where an answer is no success it is an error

@@ -13,7 +13,7 @@ use Rattle.aig_binary.proofs.Files.{one_circuit}
 use Rattle.aig_engines.proofs.TripsExist.{well_formed_file}
 
 -- a model has one circuit that is asked
-one_asked : (request : Reach) (asked again : Circuit) (model : List ℕ) → IsModelAsked request model asked
+pub one_asked : (request : Reach) (asked again : Circuit) (model : List ℕ) → IsModelAsked request model asked
     → IsModelAsked request model again → asked ≡ again
 one_asked request asked again model p q =
     let found =

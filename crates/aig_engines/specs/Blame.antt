@@ -6,6 +6,8 @@ use Rattle.aig_map.specs.declared.fault.MapFault.TheVariants as map_faults
 use Rattle.aig_engines.specs.declared.fault.ToolFault.{ToolFault}
 use Rattle.aig_step.specs.declared.fault.SimFault.{SimFault}
 use Rattle.aig_step.specs.declared.fault.SimFault.TheVariants as sim_faults
+use Rattle.aig_invariant.specs.declared.fault.InvariantFault.{InvariantFault}
+use Rattle.aig_invariant.specs.declared.fault.InvariantFault.TheVariants as invariant_faults
 use Rattle.aig_refute.specs.declared.fault.RefutationFault.{RefutationFault}
 use Rattle.aig_refute.specs.declared.fault.RefutationFault.TheVariants as refutation_faults
 use Rattle.aig_search.specs.declared.fault.AnswerFault.{AnswerFault}
@@ -13,7 +15,7 @@ use Rattle.aig_search.specs.declared.fault.AnswerFault.TheVariants as answer_fau
 use Rattle.aig_unroll.specs.declared.fault.UnrollFault.{UnrollFault}
 use Rattle.aig_unroll.specs.declared.fault.UnrollFault.TheVariants as unroll_faults
 use Rattle.aig_engines.specs.declared.fault.ToolFault.TheVariants.{Read, Map, HasBad, Sim, NoBad, Unroll, Clauses}
-use Rattle.aig_engines.specs.declared.fault.ToolFault.TheVariants.{Answer, Refutation, Source, Sink, OutOfMemory}
+use Rattle.aig_engines.specs.declared.fault.ToolFault.TheVariants.{Answer, Refutation, Invariant, Source, Sink, OutOfMemory}
 
 -- The device that failed, memory that was refused, or else what the source gave, or the stimulus. Of a simulation the
 -- model is the source; a witness file stands in the place of the stimulus.
@@ -60,6 +62,12 @@ refutation_blamed refutation_faults.OutOfMemory = Memory
 refutation_blamed refutation_faults.ReadFailed = TheSource
 refutation_blamed _ = TheInput
 
+-- where an invariant is not taken
+abbrev pub invariant_blamed : InvariantFault → Party
+invariant_blamed invariant_faults.OutOfMemory = Memory
+invariant_blamed invariant_faults.ReadFailed = TheSource
+invariant_blamed _ = TheInput
+
 -- want of memory while a text or a map is judged, for a simulation, or while a circuit is unrolled, is reported as a
 -- fault of it
 abbrev pub at_fault : ToolFault → Party
@@ -72,6 +80,7 @@ at_fault (Unroll fault) = unroll_blamed fault
 at_fault (Clauses fault) = TheInput
 at_fault (Answer fault) = answer_blamed fault
 at_fault (Refutation fault) = refutation_blamed fault
+at_fault (Invariant fault) = invariant_blamed fault
 at_fault Source = TheSource
 at_fault Sink = TheSink
 at_fault OutOfMemory = Memory

@@ -17,6 +17,7 @@ use Rattle.aig_map.specs.declared.fault.MapFault.TheVariants.{OutOfMemory}
 use Rattle.aig_map.specs.Undone.{IsMapFault}
 use Rattle.aig_command.specs.declared.request.Sim.{Sim}
 use Rattle.aig_command.specs.declared.request.ToAig.{ToAig}
+use Rattle.aig_command.specs.declared.request.Invariant.{Invariant}
 use Rattle.aig_command.specs.declared.request.Reach.{Reach}
 use Rattle.aig_command.specs.declared.request.Unroll.{Unroll}
 use Rattle.aig_command.specs.declared.request.UnrolledForm.{UnrolledForm}
@@ -37,6 +38,7 @@ use Rattle.aig_engines.specs.File.{IsFileOf, file_reading, first_fault}
 use Rattle.aig_engines.specs.Conversion.{IsConversionText}
 use Rattle.aig_engines.specs.OutputsAsBad.{row_with_outputs_as_bad}
 use Rattle.aig_engines.specs.Simulation.{IsSimulationText}
+use Rattle.aig_engines.specs.Proving.{IsInvariantText, IsModelProved, IsNeverText, IsStrengthened}
 use Rattle.aig_engines.specs.Reaching.{IsModelAsked, IsReachText}
 use Rattle.aig_engines.specs.Refuting.{IsNoneText}
 use Rattle.aig_engines.specs.Unrolling.{IsUnrollingText, IsWritable, bad_of}
@@ -253,6 +255,21 @@ abbrev pub RefutationsMeanNone : Type 0
 RefutationsMeanNone = (request : Reach) (judging : Sim) (asked : Circuit) (model text witness : List ℕ) (step : ℕ)
     → judging.max_var ≡ request.max_var → IsModelAsked request model asked → IsNoneText request asked text
     → step < request.frames → (confirmed : IsWitnessAnswer judging model witness (Confirmed step))
+    → ¬ IsOfAsked request.bad confirmed.claim
+
+-- a model and an invariant have one text of clauses at most
+abbrev pub InvariantTextsAreUnambiguous : Type 0
+InvariantTextsAreUnambiguous = (request : Invariant) (asked again : Circuit) (model invariant text other : List ℕ)
+    → IsModelProved request model asked → IsModelProved request model again
+    → IsInvariantText asked invariant text → IsInvariantText again invariant other → text ≡ other
+
+-- Where it is written for a model and an invariant that none is ever reached, no witness file of the bad state that is
+-- asked for, or of any where none is, is confirmed of the model, at whatever step.
+abbrev pub NeverIsNever : Type 0
+NeverIsNever = (request : Invariant) (judging : Sim) (asked strengthened : Circuit)
+    (model invariant text witness : List ℕ) (step : ℕ) → judging.max_var ≡ request.max_var
+    → IsModelProved request model asked → IsStrengthened asked invariant strengthened
+    → IsNeverText request strengthened text → (confirmed : IsWitnessAnswer judging model witness (Confirmed step))
     → ¬ IsOfAsked request.bad confirmed.claim
 
 -- A witness that is confirmed at a step sets the unrolled circuit of as many frames and one more. Where that is given

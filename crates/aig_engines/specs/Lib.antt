@@ -5,6 +5,7 @@ pub mod Simulation
 pub mod Unrolling
 pub mod Reaching
 pub mod Refuting
+pub mod Proving
 pub mod Blame
 pub mod Reading
 pub mod Outcome

@@ -6,6 +6,7 @@ use Rattle.aig_map.specs.Messages.{map_fault_text}
 use Rattle.aig_step.specs.Messages.{sim_fault_text}
 use Rattle.aig_unroll.specs.Messages.{clause_fault_text, unroll_fault_text}
 use Rattle.aig_refute.specs.Messages.{refutation_fault_text}
+use Rattle.aig_invariant.specs.Messages.{invariant_fault_text}
 use Rattle.aig_search.specs.Messages.{answer_fault_text, asked_fault_text}
 use Rattle.aig_search.specs.declared.fault.AskedFault.TheVariants as asked_faults
 use Rattle.aig_engines.specs.declared.fault.ToolFault.{ToolFault}
@@ -44,6 +45,7 @@ error_text (faults.Unroll fault) = unroll_fault_text fault
 error_text (faults.Clauses fault) = clause_fault_text fault
 error_text (faults.Answer fault) = answer_fault_text fault
 error_text (faults.Refutation fault) = refutation_fault_text fault
+error_text (faults.Invariant fault) = invariant_fault_text fault
 error_text faults.Source = cannot_read_text
 error_text faults.Sink = cannot_write_text
 error_text faults.OutOfMemory = out_of_memory_text

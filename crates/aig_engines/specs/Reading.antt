@@ -6,6 +6,8 @@ use Rattle.aig_rows.specs.declared.fault.ReadFault.{ReadFault}
 use Rattle.aig_text.specs.Reading.{IsFirstFault}
 use Rattle.aig_binary.specs.declared.source_fault.SourceFault.{SourceFault}
 use Rattle.aig_binary.specs.declared.source_fault.SourceFault.TheVariants as source_faults
+use Rattle.aig_invariant.specs.declared.fault.InvariantFault.{InvariantFault}
+use Rattle.aig_invariant.specs.declared.fault.InvariantFault.TheVariants as invariant_faults
 use Rattle.aig_refute.specs.Refuted.{EndsFor}
 use Rattle.aig_refute.specs.declared.fault.RefutationFault.{RefutationFault}
 use Rattle.aig_refute.specs.declared.fault.RefutationFault.TheVariants as refutation_faults
@@ -39,6 +41,12 @@ abbrev pub fault_of_refutation : RefutationFault → ToolFault
 fault_of_refutation refutation_faults.OutOfMemory = faults.OutOfMemory
 fault_of_refutation refutation_faults.ReadFailed = faults.Source
 fault_of_refutation fault = faults.Refutation fault
+
+-- why an invariant was not taken, as a fault of a tool
+abbrev pub fault_of_invariant : InvariantFault → ToolFault
+fault_of_invariant invariant_faults.OutOfMemory = faults.OutOfMemory
+fault_of_invariant invariant_faults.ReadFailed = faults.Source
+fault_of_invariant fault = faults.Invariant fault
 
 -- these bytes are refused; or so many came of them that they are, whatever comes behind
 abbrev pub IsRefusedAt : (List ℕ → Type 0) → List ℕ → Ending → Type 0

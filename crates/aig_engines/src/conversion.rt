@@ -16,7 +16,7 @@ use crate::file::read_circuit;
 use crate::outputs_as_bad::{symbols_if_free, with_outputs_as_bad};
 use aig_binary::{Ordered, write_binary};
 use aig_command::ToAig;
-use aig_core::{Checked, Circuit, Keep, OutOfMemory, Sink, Source, Symbols};
+use aig_core::{Checked, Circuit, Keep, OutOfMemory, Sink, Source, Steps, Symbols};
 use aig_order::{MapFault, into_binary, into_binary_with_map, undo};
 use aig_text::{WriteFault, write_ascii};
 use std::alloc::Global;
@@ -93,9 +93,9 @@ fn image(alloc: Global, request: &ToAig, circuit: Checked) -> Result<Ordered, Ou
     ensures { IfOk result (λ image. IsImageAs request.now.keep_map circuit image) }
 {
     if request.keep_map {
-        into_binary_with_map(alloc, circuit)
+        into_binary_with_map(alloc, circuit, &mut Steps::new())
     } else {
-        into_binary(alloc, circuit)
+        into_binary(alloc, circuit, &mut Steps::new())
     }
 }
 

@@ -4,11 +4,12 @@ ghost use Rattle.aig_engines.specs.Messages.{error_text};
 ghost use Rattle.aig_engines.specs.declared.fault.ToolFault.TheVariants.{Clauses, Map, OutOfMemory};
 ghost use Rattle.aig_engines.specs.declared.fault.ToolFault.TheVariants.{Read, Sim, Sink, Unroll};
 ghost use Rattle.aig_engines.specs.Blame.{at_fault, Memory};
-ghost use Rattle.aig_engines.specs.Reading.{fault_of_answer, fault_of_asked, fault_of_refutation};
-ghost use Rattle.aig_engines.specs.Reading.{fault_of_source};
+ghost use Rattle.aig_engines.specs.Reading.{fault_of_answer, fault_of_asked, fault_of_invariant};
+ghost use Rattle.aig_engines.specs.Reading.{fault_of_refutation, fault_of_source};
 
 use aig_binary::SourceFault;
 use aig_core::ReadError;
+use aig_invariant::InvariantFault;
 use aig_order::MapFault;
 use aig_refute::RefutationFault;
 use aig_search::{AnswerFault, AskedFault};
@@ -42,6 +43,8 @@ pub enum ToolFault {
     Answer(AnswerFault),
     /// The solver's refutation does not show that the clauses cannot be satisfied.
     Refutation(RefutationFault),
+    /// The source is no invariant of the model.
+    Invariant(InvariantFault),
     /// The source failed; of a simulation or a witness, the model's.
     Source,
     /// The sink failed.
@@ -64,6 +67,7 @@ impl ToolFault {
             ToolFault::Unroll(fault) => matches!(fault, UnrollFault::OutOfMemory),
             ToolFault::Answer(fault) => matches!(fault, AnswerFault::OutOfMemory),
             ToolFault::Refutation(fault) => matches!(fault, RefutationFault::OutOfMemory),
+            ToolFault::Invariant(fault) => matches!(fault, InvariantFault::OutOfMemory),
             ToolFault::HasBad | ToolFault::NoBad(_) | ToolFault::Clauses(_) => false,
             ToolFault::Source | ToolFault::Sink => false,
         }
@@ -84,6 +88,7 @@ impl fmt::Display for ToolFault {
             ToolFault::Clauses(fault) => write!(f, "{fault}"),
             ToolFault::Answer(fault) => write!(f, "{fault}"),
             ToolFault::Refutation(fault) => write!(f, "{fault}"),
+            ToolFault::Invariant(fault) => write!(f, "{fault}"),
             ToolFault::Source => write!(f, "{CANNOT_READ}"),
             ToolFault::Sink => write!(f, "{CANNOT_WRITE}"),
             ToolFault::OutOfMemory => write!(f, "{OUT_OF_MEMORY}"),
@@ -184,6 +189,18 @@ impl From<RefutationFault> for ToolFault {
             RefutationFault::OutOfMemory => ToolFault::OutOfMemory,
             RefutationFault::ReadFailed => ToolFault::Source,
             _ => ToolFault::Refutation(error),
+        }
+    }
+}
+
+impl From<InvariantFault> for ToolFault {
+    ghost from_gives = { λ error fault. fault ≡ fault_of_invariant error };
+
+    fn from(error: InvariantFault) -> ToolFault {
+        match error {
+            InvariantFault::OutOfMemory => ToolFault::OutOfMemory,
+            InvariantFault::ReadFailed => ToolFault::Source,
+            _ => ToolFault::Invariant(error),
         }
     }
 }

@@ -10,6 +10,7 @@ ghost use Rattle.aig_engines.specs.Laws.{ConfirmedWitnessesSetUnrolledCircuits};
 ghost use Rattle.aig_engines.specs.Laws.{RightRunsAreConfirmed, VerdictsAreKept};
 ghost use Rattle.aig_engines.specs.Laws.{ReachTextsAreUnambiguous, RightAnswersHaveWitnesses};
 ghost use Rattle.aig_engines.specs.Laws.{RefutationsMeanNone, SolverAnswersAreConfirmed};
+ghost use Rattle.aig_engines.specs.Laws.{InvariantTextsAreUnambiguous, NeverIsNever};
 ghost use Rattle.aig_engines.specs.Laws.{WitnessAnswersAreUnambiguous, WitnessAnswersExist};
 
 /// What is read of a text is a circuit exactly where the text is a file of that circuit, ASCII or
@@ -138,4 +139,15 @@ pub fn solver_answers_are_confirmed()
 /// confirmed of the model at one of the frames.
 pub fn refutations_mean_none()
     ensures { RefutationsMeanNone }
+{}
+
+/// A model and an invariant have one text of clauses at most.
+pub fn invariant_texts_are_unambiguous()
+    ensures { InvariantTextsAreUnambiguous }
+{}
+
+/// Where it is written for a model, an invariant and a solver's refutation that no bad state is
+/// ever reached, no witness file is confirmed of the model, at whatever step.
+pub fn invariants_mean_never()
+    ensures { NeverIsNever }
 {}

@@ -2,12 +2,13 @@
 //! of it all.
 //!
 //! Others call `run_toaig`, `run_witness` and `run_unroll`, which work over any source and sink;
-//! `read_circuit`; for what a solver wrote `read_asked`, `AnswerFor` and `RefutationFor`; the trait
+//! `read_circuit`; for what a solver wrote `read_asked`, `AnswerFor` and `RefutationFor`; for an
+//! invariant `read_proving_model`, `read_strengthened`, `InvariantFor` and `NeverFor`; the trait
 //! `Engine`; and what is reported on standard error. The engine of `aigsim` stands above, in
 //! `aig_tools`, since it needs `aig_dump`, which stands beside this crate.
 //!
 //! The definitions that matter most are `IsConversionText`, `IsSimulationText`, `IsUnrollingText`,
-//! `IsReachText`, `IsNoneText` and `Headline`.
+//! `IsReachText`, `IsNoneText`, `IsNeverText` and `Headline`.
 #![tactic(auto)]
 
 mod conversion;
@@ -18,6 +19,7 @@ mod file;
 pub mod laws;
 mod message;
 mod outputs_as_bad;
+mod proving;
 mod reaching;
 mod refuting;
 mod unrolling;
@@ -31,6 +33,7 @@ pub use crate::message::{
     report_error, report_memory, report_simulation_error, report_source_error, report_unwritten,
     report_usage, report_words,
 };
+pub use crate::proving::{InvariantFor, NeverFor, read_proving_model, read_strengthened};
 pub use crate::reaching::{AnswerFor, read_asked};
 pub use crate::refuting::RefutationFor;
 pub use crate::unrolling::run_unroll;

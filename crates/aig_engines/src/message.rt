@@ -104,6 +104,7 @@ fn put_error<E: Sink>(output: &mut Output<E>, fault: &ToolFault)
         ToolFault::Clauses(fault) => fault.message().put(output),
         ToolFault::Answer(fault) => fault.message().put(output),
         ToolFault::Refutation(fault) => fault.message().put(output),
+        ToolFault::Invariant(fault) => fault.message().put(output),
         ToolFault::Source => output.put(CANNOT_READ.as_bytes()),
         ToolFault::Sink => output.put(CANNOT_WRITE.as_bytes()),
         ToolFault::OutOfMemory => output.put(OUT_OF_MEMORY.as_bytes()),

@@ -6,6 +6,7 @@ ghost use Rattle.aig_command.specs.Answer.{name_of};
 ghost use Rattle.aig_command.specs.declared.request.UnrolledForm.TheVariants.{Clauses};
 ghost use Rattle.aig_io.specs.Devices.{CanFail};
 ghost use Rattle.aig_io.specs.Runs.{Read};
+ghost use Rattle.aig_search.specs.Alone.{HasAsked, asked_of};
 ghost use Rattle.aig_search.specs.WitnessLines.{witness_text};
 ghost use Rattle.aig_unroll.specs.Outcome.{HasClauses};
 ghost use Rattle.aig_unroll.specs.Unrolled.{IsTooLarge, IsUnsupported};
@@ -39,6 +40,31 @@ fn check_clauses(alloc: Global, asked: &Checked, frames: u32) -> Result<(), Tool
     Ok(())
 }
 
+/// The circuit with the bad state alone that is asked for, which has clauses over so many frames.
+pub(crate) fn asked_with_clauses(
+    alloc: Global,
+    found: Checked,
+    bad: Option<u32>,
+    frames: u32,
+) -> Result<Checked, ToolFault>
+    requires { (1 ≤ frames) × (frames ≤ 1000000) }
+    ensures ok { IfOk result (λ asked. asked ≡ asked_of bad found) }
+    ensures there { OnOk result (HasAsked bad found) }
+    ensures clauses { IfOk result (λ asked. (d : CircuitRecord) × IsUnrolledFor None frames asked d
+        × HasClauses d) }
+    ensures err { IfErr result (λ fault. (fault ≡ faults.OutOfMemory)
+        ⊎ NotUnrolledAs (Clauses bad) frames found fault) }
+{
+    let asked = with_asked_bad(alloc, found, bad)?;
+    match check_clauses(alloc, &asked, frames) {
+        Ok(()) => Ok(asked),
+        Err(fault) => {
+            drop(asked); // for the proof
+            Err(fault)
+        }
+    }
+}
+
 /// Reads the model to its end, as a file of either kind, and takes the bad state alone that is
 /// asked for. It fails where its clauses could not be written, if an allocation fails, or if the
 /// source does. What a solver wrote is not needed for that.
@@ -55,14 +81,7 @@ pub fn read_asked<R: Source>(
     ensures fits { IfOk result (λ asked. ¬ IsTooLarge asked request.now.frames) }
 {
     let found = read_circuit(alloc, model, request.max_var, Keep::Order)?;
-    let asked = with_asked_bad(alloc, found, request.bad)?;
-    match check_clauses(alloc, &asked, request.frames) {
-        Ok(()) => Ok(asked),
-        Err(fault) => {
-            drop(asked); // for the proof
-            Err(fault)
-        }
-    }
+    asked_with_clauses(alloc, found, request.bad, request.frames)
 }
 
 /// A solver's answer that is to be read, on the clauses of this circuit: of its model, with the bad

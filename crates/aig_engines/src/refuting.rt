@@ -15,7 +15,7 @@ use aig_unroll::unroll;
 use std::alloc::Global;
 
 /// The unrolled circuit, whose clauses a refutation is of.
-fn unrolled_of(alloc: Global, asked: &Checked, frames: u32) -> Result<Ordered, ToolFault>
+pub(crate) fn unrolled_of(alloc: Global, asked: &Checked, frames: u32) -> Result<Ordered, ToolFault>
     requires { CanUnroll asked.now frames }
     ensures ok { IfOk result (λ d. IsUnrolled asked.now frames d) }
     ensures err { IfErr result (λ fault. fault ≡ faults.OutOfMemory) }

@@ -1,7 +1,7 @@
 //! What can be done with files.
 ghost use Rattle.std.specs.Prelude.{◌≡◌, ◌<◌, ◌≤◌, length, IfOk, None, true};
-ghost use Rattle.aig_io.specs.Files.{after_close, after_create, after_open, after_read, after_write, ended, Files};
-ghost use Rattle.aig_io.specs.Files.{is_read, is_written, Left};
+ghost use Rattle.aig_io.specs.Files.{after_close, after_create, after_open, after_read};
+ghost use Rattle.aig_io.specs.Files.{after_write, ended, Files, is_read, is_written, Left};
 
 use aig_io::DeviceFault;
 
@@ -15,7 +15,7 @@ pub trait FileAccess {
         requires { (files self.old).current ≡ None }
         ensures { files self.new ≡ after_open name.now result (files self.old) };
 
-    /// Reads from the open file, and answers how many bytes; 0 is the end. The file is closed there, and at a failure.
+    /// Reads from the open file, and answers how many bytes; 0, its end, or a failure closes it.
     fn read(&mut self, into: &mut [u8]) -> Result<usize, DeviceFault>
         requires room { 0 < length into.old }
         requires open { is_read (files self.old).current ≡ true }
@@ -32,7 +32,7 @@ pub trait FileAccess {
         requires { (files self.old).current ≡ None }
         ensures { files self.new ≡ after_create name.now result (files self.old) };
 
-    /// Writes to the file that was made, at least one byte, and answers how many. The file is closed at a failure.
+    /// Writes at least a byte to the file that was made, and answers how many. A failure closes it.
     fn write(&mut self, bytes: &[u8]) -> Result<usize, DeviceFault>
         requires some { 0 < length bytes.now }
         requires open { is_written (files self.old).current ≡ true }
@@ -40,8 +40,8 @@ pub trait FileAccess {
         ensures moves { IfOk result (λ n. 0 < n) }
         ensures files { files self.new ≡ after_write bytes.now result (files self.old) };
 
-    /// Closes the file that was written, once the system keeps what it took. An error may only show now, as on a
-    /// network's file system, and then not all that was written is kept.
+    /// Closes the file that was written, once the system keeps what it took. An error may only show
+    /// now, as on a network's file system, and then not all that was written is kept.
     fn close(&mut self) -> Result<(), DeviceFault>
         requires { is_written (files self.old).current ≡ true }
         ensures { files self.new ≡ after_close result (files self.old) };

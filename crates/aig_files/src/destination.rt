@@ -9,8 +9,8 @@ use crate::stage::Stage;
 use aig_io::{DeviceFault, Sink};
 use std::marker::Model;
 
-/// The file with a name as a sink. It is made, or cut to nothing, at the first byte that is sent: where nothing is sent
-/// it is left alone. One that cannot be made fails then.
+/// The file with a name as a sink. It is made, or cut to nothing, at the first byte that is sent:
+/// where nothing is sent it is left alone. One that cannot be made fails then.
 pub struct NamedSink<'a, A: FileAccess> {
     access: &'a mut A,
     name: &'a str,
@@ -25,7 +25,8 @@ impl<'a, A: FileAccess> Model for NamedSink<'a, A> {
 
     ghost Value = { Past };
 
-    ghost view = { λ s. past_at s.access.ghost_name s.name.now s.stage (A.files s.access.now) 0 s.failures };
+    ghost view = { λ s.
+        past_at s.access.ghost_name s.name.now s.stage (A.files s.access.now) 0 s.failures };
 
     ghost invariant = { λ s. IsAt true s.name.now s.stage (A.files s.access.now)
         × HasCounted s.stage (bytes_at s.stage (A.files s.access.now)) 0 s.failures };
@@ -35,7 +36,8 @@ impl<'a, A: FileAccess> NamedSink<'a, A> {
     /// The file with this name, which is not made yet.
     pub fn new(access: &'a mut A, name: &'a str) -> Self
         requires { (A.files access.old).current ≡ None }
-        ensures { result ≡ unused (named access.entry.ghost_name name.now (A.files access.old).uses) }
+        ensures { result ≡
+            unused (named access.entry.ghost_name name.now (A.files access.old).uses) }
     {
         NamedSink {
             access,
@@ -45,8 +47,8 @@ impl<'a, A: FileAccess> NamedSink<'a, A> {
         }
     }
 
-    /// Closes the file where it is open, and hands the files back. That it cannot be closed is a failure: something
-    /// that was written may not be kept then.
+    /// Closes the file where it is open, and hands the files back. That it cannot be closed is a
+    /// failure: something that was written may not be kept then.
     pub fn finish(self) -> (Result<(), DeviceFault>, &'a mut A)
         ensures lender { result.1.ghost_name ≡ self.entry.origin.lender }
         ensures idle { (A.files result.1.now).current ≡ None }
@@ -87,7 +89,8 @@ fn write_named<A: FileAccess>(
     requires at { IsAt true name.now stage (A.files access.old) }
     ensures within { IfOk result (λ n. n ≤ length bytes.now) }
     ensures moves { IfOk result (λ n. 0 < n) }
-    ensures moved { Moved true name.now bytes.now result stage (A.files access.old) (A.files access.new) }
+    ensures moved { Moved true name.now bytes.now result stage
+        (A.files access.old) (A.files access.new) }
 {
     match stage {
         Stage::Untouched => access.create(name)?,

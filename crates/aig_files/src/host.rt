@@ -1,4 +1,4 @@
-//! The files of the system. Each method makes one call of the system, and then notes it with its answer.
+//! The files of the system. Each method makes one call of the system, and notes it with its answer.
 ghost use Rattle.std.specs.Prelude.{◌≡◌, ◌<◌, ◌≤◌, [], length, IfOk, is_some};
 ghost use Rattle.aig_files.specs.Notes.{files_of};
 
@@ -75,8 +75,8 @@ fn write<F: Write>(file: &mut Option<F>, bytes: &[u8]) -> usize
     }
 }
 
-/// Waits until the system keeps what was written. Closing a file of std loses its error, and this reports it. A pipe or
-/// a device keeps nothing, and would refuse this.
+/// Waits until the system keeps what was written. Closing a file of std loses its error, and this
+/// reports it. A pipe or a device keeps nothing, and would refuse this.
 fn sync<F: OpenFile>(file: &Option<F>) -> io::Result<()> {
     match file {
         Some(file) if file.metadata()?.is_file() => file.sync_data(),
@@ -84,8 +84,8 @@ fn sync<F: OpenFile>(file: &Option<F>) -> io::Result<()> {
     }
 }
 
-/// Where the program is started with its standard input closed, the first file that it opens gets that one's number.
-/// Were it kept open at its end, what reads the standard input then would read from that file.
+/// Started with its standard input closed, a program gets that one's number for the first file that
+/// it opens. Were it kept open at its end, what reads the standard input would read that file.
 impl<T: Files> FileAccess for HostFiles<'_, T> {
     ghost files = { λ h. files_of h.log.notes };
 

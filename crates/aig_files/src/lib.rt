@@ -1,7 +1,7 @@
 //! The files that a command line names, as sources and sinks, with what was done with them.
 //!
-//! Others call `NamedSource` and `NamedSink`, over any `FileAccess`; `HostFiles` is that of the runtime. A file is
-//! opened, made or closed by its name; nothing else is done with names.
+//! Others call `NamedSource` and `NamedSink`, over any `FileAccess`; `HostFiles` is that of the
+//! runtime. A file is opened, made or closed by its name; nothing else is done with names.
 //!
 //! The definition that matters most is `IsShown`: what the files show of a device that was let go.
 #![tactic(auto)]

@@ -9,8 +9,8 @@ use crate::stage::Stage;
 use aig_io::{DeviceFault, Record, Source};
 use std::marker::Model;
 
-/// The file with a name as a source. It is opened at the first fetch; one that cannot be opened fails then. After 2^62
-/// bytes it fails.
+/// The file with a name as a source. It is opened at the first fetch; one that cannot be opened
+/// fails then. After 2^62 bytes it fails.
 pub struct NamedSource<'a, A: FileAccess> {
     access: &'a mut A,
     name: &'a str,
@@ -29,10 +29,12 @@ impl<'a, A: FileAccess> Model for NamedSource<'a, A> {
     ghost Value = { Past };
 
     ghost view = { λ s.
-        past_at s.access.ghost_name s.name.now s.stage (A.files s.access.now) (sum_of s.ends.notes) s.failures };
+        past_at s.access.ghost_name s.name.now s.stage (A.files s.access.now)
+        (sum_of s.ends.notes) s.failures };
 
     ghost invariant = { λ s. IsAt false s.name.now s.stage (A.files s.access.now)
-        × HasCounted s.stage (bytes_at s.stage (A.files s.access.now)) (sum_of s.ends.notes) s.failures
+        × HasCounted s.stage (bytes_at s.stage (A.files s.access.now))
+        (sum_of s.ends.notes) s.failures
         × (s.left + length (bytes_at s.stage (A.files s.access.now)) ≡ 2 ^ 62) };
 }
 
@@ -40,7 +42,8 @@ impl<'a, A: FileAccess> NamedSource<'a, A> {
     /// The file with this name, which is not opened yet.
     pub fn new(access: &'a mut A, name: &'a str) -> Self
         requires { (A.files access.old).current ≡ None }
-        ensures { result ≡ unused (named access.entry.ghost_name name.now (A.files access.old).uses) }
+        ensures { result ≡
+            unused (named access.entry.ghost_name name.now (A.files access.old).uses) }
     {
         NamedSource {
             access,
@@ -94,7 +97,8 @@ fn read_named<A: FileAccess>(
     requires at { IsAt false name.now stage (A.files access.old) }
     ensures within { IfOk result (λ n. n ≤ length into.new) }
     ensures limited { IfOk result (λ n. n ≤ left) }
-    ensures moved { Moved false name.now into.new result stage (A.files access.old) (A.files access.new) }
+    ensures moved { Moved false name.now into.new result stage
+        (A.files access.old) (A.files access.new) }
 {
     match stage {
         Stage::Untouched => access.open(name)?,

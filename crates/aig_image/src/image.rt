@@ -1,5 +1,6 @@
 //! The binary image of a circuit.
-ghost use Rattle.std.specs.Prelude.{◌≡◌, ◌<◌, ◌↔◌, None, length, map, IfOk, IsTrue, OnOk};
+ghost use Rattle.std.specs.Prelude.{◌≡◌, ◌+◌, ◌*◌, ◌<◌, ◌≤◌, ◌↔◌, None, length, map};
+ghost use Rattle.std.specs.Prelude.{IfOk, IsTrue, OnOk};
 ghost use Rattle.std.specs.List.{AllByRecursion};
 ghost use Rattle.std.specs.Option.{unwrap_or};
 ghost use Rattle.aig_checked.specs.BinaryOrder.{IsNumberedInOrder};
@@ -15,7 +16,7 @@ use crate::labelling::relabel;
 use crate::numbers::Numbers;
 use aig_checked::{Checked, Ordered, is_numbered_in_order};
 use aig_circuit::{Circuit, Gate, Listing, Lit, OutOfMemory};
-use aig_topo::{Order, gate_order};
+use aig_topo::{Order, Steps, gate_order};
 use std::alloc::Global;
 
 /// What makes the binary image of a circuit.
@@ -93,9 +94,10 @@ impl Renumbering {
     }
 
     /// If the gates stand in order already, as in most files, no order is made.
-    fn of_circuit(alloc: Global, circuit: &Circuit) -> Result<Self, OutOfMemory>
+    fn of_circuit(alloc: Global, circuit: &Circuit, steps: &mut Steps) -> Result<Self, OutOfMemory>
         requires { IsWellFormed circuit.now }
-        ensures { IfOk result (λ r. IsRenumberingOf circuit.now r) }
+        ensures renumbering { IfOk result (λ r. IsRenumberingOf circuit.now r) }
+        ensures few { steps.new.count ≤ steps.old.count + 3 * length circuit.now.gates }
     {
         if let Some(numbers) = Numbers::of_ordered(alloc, circuit)? {
             return Ok(Renumbering {
@@ -103,19 +105,20 @@ impl Renumbering {
                 taken: None,
             });
         }
-        let order = gate_order(alloc, circuit)?;
+        let order = gate_order(alloc, circuit, steps)?;
         Renumbering::by_order(alloc, circuit, &order)
     }
 
     /// Of a circuit that was checked: the order that the check made serves again.
-    pub fn new(alloc: Global, checked: &Checked) -> Result<Self, OutOfMemory>
+    pub fn new(alloc: Global, checked: &Checked, steps: &mut Steps) -> Result<Self, OutOfMemory>
         ensures renumbering { IfOk result (λ r. IsRenumberingOf checked.now r) }
         ensures well_formed { OnOk result (IsWellFormed checked.now) }
+        ensures few { steps.new.count ≤ steps.old.count + 3 * length checked.now.gates }
     {
         let circuit = checked.circuit();
         match checked.order() {
             Some(order) => Renumbering::by_order(alloc, circuit, order),
-            None => Renumbering::of_circuit(alloc, circuit),
+            None => Renumbering::of_circuit(alloc, circuit, steps),
         }
     }
 
@@ -155,43 +158,59 @@ fn sorted_image(circuit: Circuit) -> Ordered
     })
 }
 
-fn renumbered_image(alloc: Global, checked: Checked) -> Result<Ordered, OutOfMemory>
-    ensures { IfOk result (λ o. IsBinaryImage checked o) }
+fn renumbered_image(
+    alloc: Global,
+    checked: Checked,
+    steps: &mut Steps,
+) -> Result<Ordered, OutOfMemory>
+    ensures image { IfOk result (λ o. IsBinaryImage checked o) }
+    ensures few { steps.new.count ≤ steps.old.count + 3 * length checked.gates }
 {
-    let renumbering = Renumbering::new(alloc, &checked)?;
+    let renumbering = Renumbering::new(alloc, &checked, steps)?;
     Ok(renumbering.image(checked.into_circuit()))
 }
 
 /// Where only operands are in the other order, there is nothing to number.
-fn into_image(alloc: Global, checked: Checked) -> Result<Ordered, OutOfMemory>
-    ensures { IfOk result (λ o. IsBinaryImage checked o) }
+fn into_image(alloc: Global, checked: Checked, steps: &mut Steps) -> Result<Ordered, OutOfMemory>
+    ensures image { IfOk result (λ o. IsBinaryImage checked o) }
+    ensures few { steps.new.count ≤ steps.old.count + 3 * length checked.gates }
 {
     if is_numbered_in_order(&checked) {
         return Ok(sorted_image(checked.into_circuit()));
     }
     match InTurn::new(alloc, &checked)? {
         Some(made) => Ok(made.image(alloc, checked.into_circuit())),
-        None => renumbered_image(alloc, checked),
+        None => renumbered_image(alloc, checked, steps),
     }
 }
 
 /// The binary image of a circuit: the same circuit with its variables renumbered, inputs first,
 /// then latches, then gates in the least ready order; the larger operand of each gate comes first.
 /// It fails only if an allocation fails.
-pub fn binary_image(alloc: Global, checked: &Checked) -> Result<Ordered, OutOfMemory>
-    ensures { IfOk result (λ o. IsBinaryImage checked.now o) }
+pub fn binary_image(
+    alloc: Global,
+    checked: &Checked,
+    steps: &mut Steps,
+) -> Result<Ordered, OutOfMemory>
+    ensures image { IfOk result (λ o. IsBinaryImage checked.now o) }
+    ensures few { steps.new.count ≤ steps.old.count + 3 * length checked.now.gates }
 {
-    let renumbering = Renumbering::new(alloc, checked)?;
+    let renumbering = Renumbering::new(alloc, checked, steps)?;
     Ok(renumbering.image(checked.copy(alloc)?.into_circuit()))
 }
 
 /// The binary image of a circuit that is no longer needed: the circuit itself, if it is in binary
 /// order already. It fails only if an allocation fails.
-pub fn into_binary(alloc: Global, checked: Checked) -> Result<Ordered, OutOfMemory>
-    ensures { IfOk result (λ o. IsBinaryImage checked o) }
+pub fn into_binary(
+    alloc: Global,
+    checked: Checked,
+    steps: &mut Steps,
+) -> Result<Ordered, OutOfMemory>
+    ensures image { IfOk result (λ o. IsBinaryImage checked o) }
+    ensures few { steps.new.count ≤ steps.old.count + 3 * length checked.gates }
 {
     match Ordered::try_from_checked(checked) {
         Ok(ordered) => Ok(ordered),
-        Err(checked) => into_image(alloc, checked),
+        Err(checked) => into_image(alloc, checked, steps),
     }
 }

@@ -17,3 +17,4 @@ mod numbers;
 pub use crate::image::{Renumbering, binary_image, into_binary, sort_operands};
 pub use crate::labelling::{Labels, NamesVariables, relabel};
 pub use crate::numbers::{Defines, Numbers};
+pub use aig_topo::Steps;

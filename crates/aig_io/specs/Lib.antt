@@ -9,3 +9,4 @@ pub mod Memory
 pub mod Streams
 pub mod Laws
 pub mod Lent
+pub mod Messages

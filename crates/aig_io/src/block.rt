@@ -1,5 +1,6 @@
 //! Bytes on their way to a sink.
-ghost use Rattle.std.specs.Prelude.{◌≡◌, ◌+◌, ◌-◌, ◌*◌, ◌≤◌, [], ◌++◌, ◌↔◌, length, take, min, decimal, IsOk, OnErr};
+ghost use Rattle.std.specs.Prelude.{◌≡◌, ◌+◌, ◌-◌, ◌*◌, ◌≤◌, [], ◌++◌, ◌↔◌};
+ghost use Rattle.std.specs.Prelude.{length, take, min, decimal, IsOk, OnErr};
 ghost use Rattle.std.specs.Prelude.{IsTrue};
 ghost use Rattle.aig_io.specs.Output.{row_text};
 ghost use Rattle.aig_io.specs.declared.block.TheConstants.{ROOM};

@@ -1,5 +1,6 @@
 //! Numbers in decimal, written straight to where they are wanted.
-ghost use Rattle.std.specs.Prelude.{◌≡◌, ◌+◌, ◌*◌, ◌/◌, ◌%◌, ◌^◌, ◌<◌, ◌≤◌, ℕ, [], ◌∷◌, ◌++◌, length, decimal, codes};
+ghost use Rattle.std.specs.Prelude.{◌≡◌, ◌+◌, ◌*◌, ◌/◌, ◌%◌, ◌^◌, ◌<◌, ◌≤◌};
+ghost use Rattle.std.specs.Prelude.{ℕ, [], ◌∷◌, ◌++◌, length, decimal, codes};
 ghost use Rattle.std.specs.Prelude.{map, take};
 ghost use Rattle.std.specs.Simd.Lanes.{number_l};
 ghost use Rattle.aig_io.specs.Digits.{last_digits};
@@ -100,7 +101,8 @@ fn eight_digits(number: u32) -> u64
 /// How many zeros stand before a number in its eight digits.
 #[inline(always)]
 fn zeros_before(digits: u64) -> u32
-    ensures { (n : ℕ) → n < 10 ^ 8 → digits ≡ number_l 256 (last_digits 8 n) → result + length (decimal n) ≡ 8 }
+    ensures { (n : ℕ) → n < 10 ^ 8 → digits ≡ number_l 256 (last_digits 8 n)
+        → result + length (decimal n) ≡ 8 }
 {
     // the last digit is marked, since it is written where it is 0 too
     (digits | 1 << 60).trailing_zeros() / 8
@@ -128,7 +130,8 @@ fn write_eight_digits(bytes: &mut [u8], at: usize, number: u32)
     requires low { number < 10 ^ 8 }
     requires room { at + 8 ≤ length bytes.old }
     ensures len { length bytes.new ≡ length bytes.old }
-    ensures text { take (at + 8) bytes.new ≡ take at bytes.old ++ map (λ d. 48 + d) (last_digits 8 number) }
+    ensures text { take (at + 8) bytes.new
+        ≡ take at bytes.old ++ map (λ d. 48 + d) (last_digits 8 number) }
 {
     let text = eight_digits(number) + 0x3030_3030_3030_3030;
     bytes[at..at + 8].copy_from_slice(&text.to_le_bytes());

@@ -1,4 +1,4 @@
-//! Devices over memory of the program's own: a sink that grows, and a source over bytes that are lent to it.
+//! Devices over the program's own memory: a sink that grows, and a source over bytes lent to it.
 ghost use Rattle.std.specs.Prelude.{◌≡◌, IfOk};
 ghost use Rattle.aig_io.specs.Devices.{no_file, unused};
 ghost use Rattle.aig_io.specs.Lent.{HasGiven, lent};
@@ -20,7 +20,8 @@ impl Model for VecSink {
 
     ghost Value = { Past };
 
-    ghost view = { λ s. record { origin = no_file; bytes = s.bytes.items; ends = 0; failures = s.failures } };
+    ghost view = { λ s.
+        record { origin = no_file; bytes = s.bytes.items; ends = 0; failures = s.failures } };
 }
 
 impl VecSink {

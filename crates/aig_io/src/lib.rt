@@ -1,9 +1,9 @@
 //! The devices that bytes come from and go to, and output in blocks.
 //!
-//! Others call `read_all` and `read_to_end`, which read a source to its end; `Window`, which holds a part of its
-//! bytes; `Output`, which sends a text to a sink in blocks; and the devices: `SliceSource` and `VecSink` over
-//! bytes in memory, `ReadSource` and `WriteSink` over std's readers and writers, and for tests `MemorySource` and
-//! `MemorySink`, of which a call can be chosen to fail. All of them are a `Source` or a `Sink`.
+//! Others call `read_all` and `read_to_end`, which read a source to its end; `Window`, which holds
+//! a part of its bytes; `Output`, which sends a text to a sink in blocks; and each `Source` or
+//! `Sink`: `SliceSource` and `VecSink` over memory, `ReadSource` and `WriteSink` over std's readers
+//! and writers, and for tests `MemorySource` and `MemorySink`, of which a chosen call can fail.
 //!
 //! The definitions that matter most are `Past`, `TookBeginning` and `Put`.
 #![tactic(auto)]

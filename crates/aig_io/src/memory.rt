@@ -1,7 +1,9 @@
 //! Devices in memory.
-ghost use Rattle.std.specs.Prelude.{◌≡◌, ◌^◌, ◌<◌, ◌≤◌, ◌↔◌, IsTrue, IfOk, is_ok, false, length, take, vec_len};
+ghost use Rattle.std.specs.Prelude.{◌≡◌, ◌^◌, ◌<◌, ◌≤◌, ◌↔◌, false, length, take};
+ghost use Rattle.std.specs.Prelude.{IsTrue, IfOk, is_ok, vec_len};
 ghost use Rattle.aig_io.specs.Devices.{block_size, CanFail};
-ghost use Rattle.aig_io.specs.Memory.{accepted, given, is_due, new_sink, new_source, one_call_later, sink_after};
+ghost use Rattle.aig_io.specs.Memory.{accepted, given, is_due, new_sink, new_source};
+ghost use Rattle.aig_io.specs.Memory.{one_call_later, sink_after};
 ghost use Rattle.aig_io.specs.Memory.{source_after};
 
 use crate::device::{DeviceFault, Sink, Source};
@@ -9,7 +11,7 @@ use crate::record::Record;
 use std::alloc::{AllocError, Global};
 use std::marker::Model;
 
-/// A source that gives the bytes of a vector, at most `piece` in each call. One call may be chosen to fail.
+/// A source that gives the bytes of a vector, at most `piece` in a call. A chosen call may fail.
 #[derive(Drop)]
 pub struct MemorySource {
     bytes: Vec<u8>,
@@ -40,11 +42,12 @@ impl Model for MemorySource {
       fails_in = s.calls_before;
     } };
 
-    ghost invariant = { λ s. (vec_len s.bytes ≤ 2 ^ 62) × (s.at ≤ vec_len s.bytes) × (0 < s.piece) };
+    ghost invariant = { λ s.
+        (vec_len s.bytes ≤ 2 ^ 62) × (s.at ≤ vec_len s.bytes) × (0 < s.piece) };
 }
 
 impl MemorySource {
-    /// A source of these bytes. The call numbered `fails_at` fails, counted from 1; with 0 no call fails.
+    /// A source of these bytes. The call numbered `fails_at` fails, from 1 on; with 0 none fails.
     pub fn new(bytes: Vec<u8>, piece: usize, fails_at: u64) -> Self
         requires limited { vec_len bytes ≤ 2 ^ 62 }
         requires moves { 0 < piece }
@@ -108,8 +111,8 @@ impl Source for MemorySource {
     }
 }
 
-/// A sink that keeps what it took. It has room for so many bytes, and takes at most `piece` in each call. One call
-/// may be chosen to fail, and where no room is left each call fails.
+/// A sink that keeps what it took. It has room for so many bytes, and takes at most `piece` in each
+/// call. One call may be chosen to fail, and where no room is left each call fails.
 #[derive(Drop)]
 pub struct MemorySink {
     taken: Vec<u8>,
@@ -139,8 +142,8 @@ impl Model for MemorySink {
 }
 
 impl MemorySink {
-    /// A sink that allocates its room here, unless that fails, and never grows. The call numbered `fails_at`
-    /// fails, counted from 1; with 0 no call is chosen.
+    /// A sink that allocates its room here, unless that fails, and never grows. The call numbered
+    /// `fails_at` fails, counted from 1; with 0 no call is chosen.
     pub fn new(alloc: Global, room: usize, piece: usize, fails_at: u64) -> Result<Self, AllocError>
         requires { 0 < piece }
         ensures { IfOk result (λ s. s ≡ new_sink room piece fails_at) }
@@ -178,7 +181,8 @@ impl Sink for MemorySink {
         requires short { length bytes.now ≤ block_size }
         requires countable { CanFail self.old.past }
         ensures moves { IfOk result (λ n. 0 < n) }
-        ensures chosen { IsTrue (is_ok result) ↔ ((is_due self.old.fails_in ≡ false) × (0 < self.old.room)) }
+        ensures chosen { IsTrue (is_ok result) ↔
+            ((is_due self.old.fails_in ≡ false) × (0 < self.old.room)) }
         ensures count { IfOk result (λ n. n ≡ accepted self.old bytes.now) }
         ensures state { self.new ≡ sink_after bytes.now result self.old }
     {

@@ -1,5 +1,6 @@
 //! Output in blocks.
-ghost use Rattle.std.specs.Prelude.{◌≡◌, ◌+◌, ◌-◌, ◌*◌, ◌%◌, ◌<◌, ◌≤◌, [], ◌++◌, length, take, false, decimal};
+ghost use Rattle.std.specs.Prelude.{◌≡◌, ◌+◌, ◌-◌, ◌*◌, ◌%◌, ◌<◌, ◌≤◌, [], ◌++◌};
+ghost use Rattle.std.specs.Prelude.{length, take, false, decimal};
 ghost use Rattle.std.specs.Prelude.{is_err};
 ghost use Rattle.aig_io.specs.Devices.{CanFail};
 ghost use Rattle.aig_io.specs.Output.{output_to, Put, row_text};
@@ -13,8 +14,8 @@ use crate::line::Line;
 use crate::transfer::send_all;
 use std::marker::Model;
 
-/// A sink, and the bytes that are on their way to it. An output remembers that its sink failed: what it holds then, and
-/// what is put later, is dropped, and `flush` reports the failure at the end.
+/// A sink, and the bytes on their way to it. An output remembers that its sink failed: what it
+/// holds then, and what is put later, is dropped, and `flush` reports the failure at the end.
 #[derive(Drop)]
 pub struct Output<'a, W: Sink> {
     block: Block,
@@ -67,8 +68,8 @@ impl<'a, W: Sink> Output<'a, W> {
         self.failed
     }
 
-    /// Sends what is held. Ok means that the sink took all that was put. After a failure it sends nothing, and reports
-    /// the failure again.
+    /// Sends what is held. Ok means that the sink took all that was put. After a failure it sends
+    /// nothing, and reports the failure again.
     pub fn flush(&mut self) -> Result<(), DeviceFault>
         ensures put { Put self.old self.new [] }
         ensures empty { self.new.held ≡ [] }
@@ -130,7 +131,7 @@ impl<'a, W: Sink> Output<'a, W> {
         }
     }
 
-    /// Sends whole blocks of the bytes from where they stand, and holds the last bytes, which fit into one.
+    /// Sends whole blocks of the bytes where they stand, and holds the last bytes, at most a block.
     fn send_blocks(&mut self, bytes: &[u8]) -> usize
         requires empty { self.old.held ≡ [] }
         ensures within { result ≤ length bytes.now }
@@ -151,7 +152,8 @@ impl<'a, W: Sink> Output<'a, W> {
     /// Puts bytes, of which whole blocks are sent from where they stand, where nothing is held.
     fn put_long(&mut self, bytes: &[u8])
         requires empty { self.old.held ≡ [] }
-        ensures left { 0 < length bytes.now → length self.new.held ≡ (length bytes.now - 1) % ROOM + 1 }
+        ensures left { 0 < length bytes.now
+            → length self.new.held ≡ (length bytes.now - 1) % ROOM + 1 }
         ensures put { Put self.old self.new bytes.now }
     {
         let at = self.send_blocks(bytes);
@@ -163,18 +165,20 @@ impl<'a, W: Sink> Output<'a, W> {
     fn put_past(&mut self, bytes: &[u8])
         requires { ROOM < length self.old.held + length bytes.now }
         ensures put { Put self.old self.new bytes.now }
-        ensures left { length self.new.held ≡ (length self.old.held + length bytes.now - 1) % ROOM + 1 }
+        ensures left { length self.new.held
+            ≡ (length self.old.held + length bytes.now - 1) % ROOM + 1 }
     {
         let count = self.block.fill(bytes);
         self.send_held();
         self.put_long(bytes.split_at(count).1);
     }
 
-    /// Adds bytes. What is held is sent each time that the block is full and another byte comes, and no sooner.
+    /// Adds bytes. What is held is sent only when the block is full and another byte comes.
     #[inline]
     pub fn put(&mut self, bytes: &[u8])
         ensures put { Put self.old self.new bytes.now }
-        ensures kept { length self.old.held + length bytes.now ≤ ROOM → self.new.sink ≡ self.old.sink }
+        ensures kept { length self.old.held + length bytes.now ≤ ROOM
+            → self.new.sink ≡ self.old.sink }
         ensures left { 0 < length bytes.now
             → length self.new.held ≡ (length self.old.held + length bytes.now - 1) % ROOM + 1 }
     {
@@ -185,7 +189,7 @@ impl<'a, W: Sink> Output<'a, W> {
         }
     }
 
-    /// Adds a number in decimal. What is held is sent first where a number of the most digits would not fit.
+    /// Adds a number in decimal. What is held is sent first where the longest one would not fit.
     pub fn put_number(&mut self, number: u64)
         ensures put { Put self.old self.new (decimal number) }
         ensures kept { length self.old.held + MOST_DIGITS ≤ ROOM → self.new.sink ≡ self.old.sink }
@@ -195,7 +199,7 @@ impl<'a, W: Sink> Output<'a, W> {
         self.block.fill_number(number);
     }
 
-    /// Adds a line of few numbers. What is held is sent first where as many numbers of the most digits would not fit.
+    /// Adds a line of few numbers. What is held is sent first where the longest would not all fit.
     #[inline(always)]
     pub fn put_row(&mut self, first: u64, others: &[u64])
         requires { (length others.now + 1) * (MOST_DIGITS + 1) ≤ ROOM }
@@ -222,8 +226,8 @@ impl<'a, W: Sink> Output<'a, W> {
         self.put(text);
     }
 
-    /// Adds a line, written where it stands in the block, so that no part of it looks for room. Here is a place that
-    /// has room for it, which serves where a block has not.
+    /// Adds a line, written where it stands in the block, so that no part of it looks for room.
+    /// Here is a place that has room for it, which serves where a block has not.
     #[inline(always)]
     pub fn put_line<L: Line>(&mut self, room: &mut [u8], line: &L, state: &mut L::State)
         requires whole { L.is_whole line.now state.old }

@@ -1,23 +1,39 @@
 //! All bytes of a source, and all bytes to a sink.
-ghost use Rattle.std.specs.Prelude.{◌≡◌, ◌+◌, ◌≤◌, false, length, vec_len, IfErr, IfOk, OnErr, OnOk};
-ghost use Rattle.aig_io.specs.Devices.{block_size, CanFail, gave_all, GaveSome, took, TookBeginning};
+ghost use Rattle.std.specs.Prelude.{◌≡◌, ◌+◌, ◌≤◌, false, length, vec_len, Some};
+ghost use Rattle.std.specs.Prelude.{IfErr, IfOk, OnErr, OnOk};
+ghost use Rattle.aig_io.specs.Devices.{block_size, CanFail, gave_all, GaveSome};
+ghost use Rattle.aig_io.specs.Devices.{took, TookBeginning};
+ghost use Rattle.aig_io.specs.Messages.{read_error_text};
 ghost use Rattle.aig_io.specs.Windows.{Filled};
-ghost use Rattle.aig_io.specs.declared.transfer.ReadError.TheVariants.{Source as SourceFault, OutOfMemory};
+ghost use Rattle.aig_io.specs.declared.transfer.ReadError.TheVariants.{OutOfMemory};
+ghost use Rattle.aig_io.specs.declared.transfer.ReadError.TheVariants.{Source as SourceFault};
 
 use crate::device::{DeviceFault, Sink, Source};
 use std::alloc::{AllocError, Global};
-use thiserror::Error;
+use std::error::Error;
+use std::fmt;
 
 /// Why not all bytes came.
-#[derive(Debug, Drop, Error)]
+#[derive(Debug, Drop)]
 pub enum ReadError {
     /// The source failed.
-    #[error("cannot read")]
     Source,
     /// An allocation failed.
-    #[error("out of memory")]
     OutOfMemory,
 }
+
+impl fmt::Display for ReadError {
+    ghost output = { λ error. Some (read_error_text error) };
+
+    fn fmt<W: fmt::Write>(&self, f: &mut fmt::Formatter<W>) -> fmt::Result {
+        match self {
+            ReadError::Source => write!(f, "cannot read"),
+            ReadError::OutOfMemory => write!(f, "out of memory"),
+        }
+    }
+}
+
+impl Error for ReadError {}
 
 impl From<DeviceFault> for ReadError {
     ghost from_gives = { λ _ e. e ≡ SourceFault };
@@ -35,10 +51,11 @@ impl From<AllocError> for ReadError {
     }
 }
 
-/// Adds all bytes that the source still gives, unless it or an allocation fails. After an error some may be lost.
+/// Adds all that the source still gives, unless it or an allocation fails: then some may be lost.
 pub fn read_to_end<R: Source>(source: &mut R, bytes: &mut Vec<u8>) -> Result<(), ReadError>
     requires { CanFail (R.past source.old) }
-    ensures ok { OnOk result (Filled bytes.old.items bytes.new.items false (R.past source.old) (R.past source.new)) }
+    ensures ok { OnOk result (Filled bytes.old.items bytes.new.items false
+        (R.past source.old) (R.past source.new)) }
     ensures bound { OnOk result (vec_len bytes.new ≤ R.bound source.old + vec_len bytes.old) }
     ensures err { IfErr result (λ error. GaveSome error (R.past source.old) (R.past source.new)) }
 {
@@ -52,7 +69,7 @@ pub fn read_to_end<R: Source>(source: &mut R, bytes: &mut Vec<u8>) -> Result<(),
     }
 }
 
-/// Reads all bytes that the source still gives, unless it or an allocation fails. After an error some may be lost.
+/// Reads all that the source still gives, unless it or an allocation fails: then some may be lost.
 pub fn read_all<R: Source>(alloc: Global, source: &mut R) -> Result<Vec<u8>, ReadError>
     requires { CanFail (R.past source.old) }
     ensures ok { IfOk result (λ all. R.past source.new ≡ gave_all all.items (R.past source.old)) }

@@ -1,5 +1,6 @@
 //! A window over the bytes of a source.
-ghost use Rattle.std.specs.Prelude.{◌≡◌, ◌+◌, ◌^◌, ◌<◌, ◌≤◌, ◌++◌, [], drop, length, take, IfErr, IfOk, IsTrue, OnOk};
+ghost use Rattle.std.specs.Prelude.{◌≡◌, ◌+◌, ◌^◌, ◌<◌, ◌≤◌, ◌++◌, []};
+ghost use Rattle.std.specs.Prelude.{drop, length, take, IfErr, IfOk, IsTrue, OnOk};
 ghost use Rattle.std.specs.Prelude.{vec_len};
 ghost use Rattle.aig_io.specs.Devices.{CanFail, GaveSome};
 ghost use Rattle.aig_io.specs.Windows.{Filled};
@@ -12,8 +13,8 @@ use std::marker::Model;
 /// How many bytes there is room for at first, and how much room is added where there is little.
 const PIECE: usize = 65536;
 
-/// Bytes that a source gave and that are not let go yet. The room behind them is cleared, so it is added piece by piece:
-/// a piece is still in the cache when bytes come, and what a file does not fill is not cleared in vain.
+/// Bytes that a source gave, not let go yet. Room behind them is cleared, so it grows by pieces:
+/// one is still in the cache when bytes come, and what a file does not fill is not cleared.
 #[derive(Drop)]
 pub struct Window {
     bytes: Vec<u8>,
@@ -85,11 +86,15 @@ impl Window {
     /// Fetches more bytes, and answers whether any came. None come at the end of the source.
     pub fn fill<R: Source>(&mut self, source: &mut R) -> Result<bool, ReadError>
         requires { CanFail (R.past source.old) }
-        ensures ok { IfOk result (λ more. Filled self.old self.new more (R.past source.old) (R.past source.new)) }
-        ensures bound { OnOk result (R.bound source.new + length self.new ≡ R.bound source.old + length self.old) }
-        ensures fewer { IfOk result (λ more. IsTrue more → R.bound source.new < R.bound source.old) }
+        ensures ok { IfOk result (λ more.
+            Filled self.old self.new more (R.past source.old) (R.past source.new)) }
+        ensures bound { OnOk result
+            (R.bound source.new + length self.new ≡ R.bound source.old + length self.old) }
+        ensures fewer { IfOk result (λ more.
+            IsTrue more → R.bound source.new < R.bound source.old) }
         ensures limited { OnOk result (R.bound source.old ≤ 2 ^ 62) }
-        ensures err { IfErr result (λ error. GaveSome error (R.past source.old) (R.past source.new)) }
+        ensures err { IfErr result (λ error.
+            GaveSome error (R.past source.old) (R.past source.new)) }
     {
         make_room(&mut self.bytes, self.len)?;
         let count = source.fetch(&mut self.bytes[self.len..])?;

@@ -1,4 +1,5 @@
 pub mod Dumps
 pub mod Lents
 pub mod Messages
+pub mod Provings
 pub mod Witnesses

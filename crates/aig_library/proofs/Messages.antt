@@ -7,6 +7,7 @@ use Rattle.aig_rows.specs.declared.fault.ReadKind.{ReadKind}
 use Rattle.aig_rows.specs.declared.fault.ReadKind.TheVariants as kinds
 use Rattle.aig_map.specs.declared.fault.MapFault.TheVariants as map_faults
 use Rattle.aig_step.specs.declared.fault.SimFault.TheVariants as sim_faults
+use Rattle.aig_invariant.specs.declared.fault.InvariantFault.TheVariants as invariant_faults
 use Rattle.aig_refute.specs.declared.fault.RefutationFault.TheVariants as refutation_faults
 use Rattle.aig_search.specs.declared.fault.AnswerFault.TheVariants as answer_faults
 use Rattle.aig_unroll.specs.declared.fault.ClauseFault.TheVariants as clause_faults
@@ -83,6 +84,15 @@ messages_tell_faults (faults.Refutation (refutation_faults.DoesNotFollow line)) 
     in_line line (codes "line ") (codes "does not follow")
 messages_tell_faults (faults.Refutation refutation_faults.OutOfMemory) = refl
 messages_tell_faults (faults.Refutation refutation_faults.ReadFailed) = refl
+messages_tell_faults (faults.Invariant (invariant_faults.BadLine line)) =
+    in_line line (codes "line ") (codes "bad line")
+messages_tell_faults (faults.Invariant (invariant_faults.OtherLength line)) =
+    in_line line (codes "line ") (codes "not a character for each latch")
+messages_tell_faults (faults.Invariant (invariant_faults.MetAtStart line)) =
+    in_line line (codes "line ") (codes "met by a first state")
+messages_tell_faults (faults.Invariant invariant_faults.TooLarge) = refl
+messages_tell_faults (faults.Invariant invariant_faults.OutOfMemory) = refl
+messages_tell_faults (faults.Invariant invariant_faults.ReadFailed) = refl
 messages_tell_faults faults.Source = refl
 messages_tell_faults faults.Sink = refl
 messages_tell_faults faults.OutOfMemory = refl

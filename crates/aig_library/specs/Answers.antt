@@ -1,7 +1,8 @@
 -- What a call answers (this project's interface for C).
-use Rattle.std.specs.Prelude.{◌≡◌, ◌≤◌, ◌⊎◌, ℕ, List}
+use Rattle.std.specs.Prelude.{◌≡◌, ◌≤◌, ◌⊎◌, ℕ, List, true}
 use Rattle.aig_circuit.specs.declared.circuit.Circuit.{Circuit}
 use Rattle.aig_command.specs.Aiger.{largest_index}
+use Rattle.aig_command.specs.declared.request.Invariant.{Invariant}
 use Rattle.aig_command.specs.declared.request.Reach.{Reach}
 use Rattle.aig_command.specs.declared.request.Sim.{Sim}
 use Rattle.aig_command.specs.declared.request.SolverFile.TheVariants.{Refutation}
@@ -12,12 +13,14 @@ use Rattle.aig_dump.specs.InMemory.{IsBadStimulus, IsBadWitness}
 use Rattle.aig_engines.specs.declared.fault.ToolFault.{ToolFault}
 use Rattle.aig_engines.specs.declared.fault.ToolFault.TheVariants as faults
 use Rattle.aig_engines.specs.File.{IsFileOf}
+use Rattle.aig_engines.specs.Proving.{IsInvariantText, IsModelProved, IsModelUnproved, IsNeverText, IsStrengthened}
+use Rattle.aig_engines.specs.Proving.{NotStrengthened, never_text}
 use Rattle.aig_engines.specs.Reaching.{IsModelAsked, IsModelRefused, IsReachRefused, IsReachText}
 use Rattle.aig_engines.specs.Reading.{IsUnreadable}
 use Rattle.aig_engines.specs.Refuting.{IsNoneText, NotRefuted, none_text}
 use Rattle.aig_engines.specs.WitnessDump.{IsWitnessDumpText}
 use Rattle.aig_engines.specs.WitnessOutcome.{IsWitnessAnswer}
-use Rattle.aig_library.specs.Asked.{CanReach, reaching, simulation}
+use Rattle.aig_library.specs.Asked.{CanReach, proving, reaching, simulation}
 use Rattle.aig_library.specs.Numbers as numbers
 use Rattle.aig_library.specs.Outcome.{IsPlaced, IsPlacedAs, ending, fault_outcome, out_of_memory}
 use Rattle.aig_library.specs.declared.outcome.Outcome.{Outcome}
@@ -91,6 +94,43 @@ RefutationAnswers bad frames max_var model outcome =
     ⊎ (CanReach frames max_var
     × ((IsNoneWithinModel request model × (outcome ≡ ending numbers.done 0 0))
     ⊎ NotMade (IsRefutationRefused request model) outcome))
+
+-- The clauses that are written for a model and an invariant: those in which it is to be shown.
+pub record IsProvingText (request : Invariant) (model invariant text : List ℕ) : Type 0 where
+  pub asked : Circuit
+  pub is_model : IsModelProved request model asked
+  pub is_text : IsInvariantText asked invariant text
+
+-- There are no such clauses for this reason: the model has none, or the invariant is not one of it.
+abbrev pub IsProvingRefused : Invariant → (model invariant : List ℕ) → ToolFault → Type 0
+IsProvingRefused request model invariant fault =
+    IsModelUnproved request fault model
+    ⊎ ((asked : Circuit) × IsModelProved request model asked × NotStrengthened asked fault invariant)
+
+-- The circuit in which an invariant of a model is to be shown.
+pub record IsProvingOf (request : Invariant) (model invariant : List ℕ) (strengthened : Circuit) : Type 0 where
+  pub asked : Circuit
+  pub is_model : IsModelProved request model asked
+  pub is_strengthened : IsStrengthened asked invariant strengthened
+
+-- No claim of the model, of the bad state that is asked for, is ever confirmed.
+pub record IsNeverOfModel (request : Invariant) (model invariant : List ℕ) : Type 0 where
+  pub strengthened : Circuit
+  pub is_proving : IsProvingOf request model invariant strengthened
+  pub is_never : IsNeverText request strengthened never_text
+
+-- That is not known for this reason: there are no clauses, or the refutation does not show it.
+abbrev pub IsNeverRefused : Invariant → (model invariant : List ℕ) → ToolFault → Type 0
+IsNeverRefused request model invariant fault = IsProvingRefused request model invariant fault ⊎ NotRefuted fault
+
+-- What is answered where an invariant is shown by a refutation.
+abbrev pub NeverAnswers : (bad max_var : ℕ) (model invariant : List ℕ) → Outcome → Type 0
+NeverAnswers bad max_var model invariant outcome =
+    let request = proving true bad max_var in
+    ((¬ (max_var ≤ largest_index)) × (outcome ≡ ending numbers.bad_options 0 0))
+    ⊎ ((max_var ≤ largest_index)
+    × ((IsNeverOfModel request model invariant × (outcome ≡ ending numbers.done 0 0))
+    ⊎ NotMade (IsNeverRefused request model invariant) outcome))
 
 -- the outcome of a verdict, with a text of so many bytes
 abbrev pub verdict_outcome : Verdict → (length : ℕ) → Outcome

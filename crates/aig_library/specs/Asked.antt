@@ -3,6 +3,7 @@ use Rattle.std.specs.Prelude.{◌≡◌, ◌≤◌, ◌==◌, ◌+◌, ℕ, Bool
 use Rattle.std.specs.Prelude.{if◌then◌else◌}
 use Rattle.aig_command.specs.Aiger.{largest_index, most_frames}
 use Rattle.aig_command.specs.Answer.{HasFrames, IsDumpAlone, IsKeptAlone, IsWithoutMap}
+use Rattle.aig_command.specs.declared.request.Invariant.{Invariant}
 use Rattle.aig_command.specs.declared.request.Reach.{Reach}
 use Rattle.aig_command.specs.declared.request.SolverFile.{SolverFile}
 use Rattle.aig_command.specs.declared.request.Sim.{Sim}
@@ -61,6 +62,18 @@ reaching wrote bad frames max_var = record {
   model = None;
   wrote = wrote;
   file = None;
+  destination = None;
+}
+
+-- an invariant: its clauses, or that a refutation of them is right
+abbrev pub proving : (refuted : Bool) (bad max_var : ℕ) → Invariant
+proving refuted bad max_var = record {
+  bad = bad_asked bad;
+  max_var = max_var;
+  model = None;
+  file = None;
+  refuted = refuted;
+  refutation = None;
   destination = None;
 }
 

@@ -54,7 +54,11 @@ kind_words kind subject =
     if kind == 31 then codes "no bad state is reached" else
     if kind == 32 then codes "no refutation" else
     if kind == 33 then codes "bad line" else
-    if kind == 34 then codes "does not follow" else []
+    if kind == 34 then codes "does not follow" else
+    if kind == 35 then codes "bad line" else
+    if kind == 36 then codes "not a character for each latch" else
+    if kind == 37 then codes "met by a first state" else
+    if kind == 38 then codes "too large" else []
 
 -- the words for an outcome: none where nothing is wrong with the input and memory was not refused
 abbrev pub outcome_text : Outcome → List ℕ

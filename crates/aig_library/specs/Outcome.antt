@@ -11,6 +11,8 @@ use Rattle.aig_step.specs.declared.fault.SimFault.{SimFault}
 use Rattle.aig_step.specs.declared.fault.SimFault.TheVariants as sim_faults
 use Rattle.aig_search.specs.declared.fault.AnswerFault.{AnswerFault}
 use Rattle.aig_search.specs.declared.fault.AnswerFault.TheVariants as answer_faults
+use Rattle.aig_invariant.specs.declared.fault.InvariantFault.{InvariantFault}
+use Rattle.aig_invariant.specs.declared.fault.InvariantFault.TheVariants as invariant_faults
 use Rattle.aig_refute.specs.declared.fault.RefutationFault.{RefutationFault}
 use Rattle.aig_refute.specs.declared.fault.RefutationFault.TheVariants as refutation_faults
 use Rattle.aig_unroll.specs.declared.fault.ClauseFault.{ClauseFault}
@@ -113,6 +115,14 @@ refutation_outcome (refutation_faults.DoesNotFollow line) = refusal 34 numbers.l
 refutation_outcome refutation_faults.OutOfMemory = out_of_memory
 refutation_outcome refutation_faults.ReadFailed = out_of_memory
 
+abbrev pub invariant_outcome : InvariantFault → Outcome
+invariant_outcome (invariant_faults.BadLine line) = refusal 35 numbers.line line 0
+invariant_outcome (invariant_faults.OtherLength line) = refusal 36 numbers.line line 0
+invariant_outcome (invariant_faults.MetAtStart line) = refusal 37 numbers.line line 0
+invariant_outcome invariant_faults.TooLarge = refusal 38 numbers.whole 0 0
+invariant_outcome invariant_faults.OutOfMemory = out_of_memory
+invariant_outcome invariant_faults.ReadFailed = out_of_memory
+
 abbrev pub sim_outcome : SimFault → Outcome
 sim_outcome (sim_faults.BadStimulus line) = refusal 23 numbers.line line 0
 sim_outcome (sim_faults.BadWitness line) = refusal 24 numbers.line line 0
@@ -130,6 +140,7 @@ fault_outcome (faults.Unroll fault) = unroll_outcome fault
 fault_outcome (faults.Clauses fault) = clause_outcome fault
 fault_outcome (faults.Answer fault) = answer_outcome fault
 fault_outcome (faults.Refutation fault) = refutation_outcome fault
+fault_outcome (faults.Invariant fault) = invariant_outcome fault
 fault_outcome faults.Source = out_of_memory
 fault_outcome faults.Sink = out_of_memory
 fault_outcome faults.OutOfMemory = out_of_memory

@@ -1,9 +1,9 @@
 //! What is asked for, by numbers: each option is a bit.
 ghost use Rattle.std.specs.Prelude.{◌≡◌, ◌↔◌, IsTrue};
-ghost use Rattle.aig_library.specs.Asked.{bad_asked, clauses, conversion, has, OnlyHas, reaching};
-ghost use Rattle.aig_library.specs.Asked.{unrolling};
+ghost use Rattle.aig_library.specs.Asked.{bad_asked, clauses, conversion, has, OnlyHas, proving};
+ghost use Rattle.aig_library.specs.Asked.{reaching, unrolling};
 
-use aig_command::{Reach, SolverFile, ToAig, Unroll, UnrolledForm};
+use aig_command::{Invariant, Reach, SolverFile, ToAig, Unroll, UnrolledForm};
 
 /// ASCII is written, and not binary.
 pub const ASCII: u32 = 1;
@@ -110,6 +110,22 @@ pub(crate) fn reaching(wrote: SolverFile, bad: u32, frames: u32, max_var: u32) -
         model: None,
         wrote,
         file: None,
+        destination: None,
+    }
+}
+
+/// The request for the clauses in which an invariant is to be shown, or for a check of their
+/// refutation.
+pub(crate) fn proving(refuted: bool, bad: u32, max_var: u32) -> Invariant
+    ensures { result ≡ proving refuted bad max_var }
+{
+    Invariant {
+        bad: bad_asked(bad),
+        max_var,
+        model: None,
+        file: None,
+        refuted,
+        refutation: None,
         destination: None,
     }
 }

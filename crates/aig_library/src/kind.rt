@@ -68,3 +68,11 @@ pub const NO_REFUTATION: u32 = 32;
 pub const BAD_REFUTATION: u32 = 33;
 
 pub const DOES_NOT_FOLLOW: u32 = 34;
+
+pub const BAD_INVARIANT: u32 = 35;
+
+pub const NOT_EACH_LATCH: u32 = 36;
+
+pub const MET_AT_START: u32 = 37;
+
+pub const TOO_LARGE_INVARIANT: u32 = 38;

@@ -1,12 +1,14 @@
 //! What came of a call, in numbers.
 ghost use Rattle.std.specs.Prelude.{◌≡◌, IfErr, IfOk};
 ghost use Rattle.aig_library.specs.Outcome.{answer_outcome, clause_outcome, ending, fault_outcome};
-ghost use Rattle.aig_library.specs.Outcome.{map_outcome, place_number, refutation_outcome};
+ghost use Rattle.aig_library.specs.Outcome.{invariant_outcome, map_outcome, place_number};
+ghost use Rattle.aig_library.specs.Outcome.{refutation_outcome};
 ghost use Rattle.aig_library.specs.Outcome.{place_kind, read_outcome, IsPlaced, kind_number};
 ghost use Rattle.aig_library.specs.Outcome.{refusal, sim_outcome, subject_of, unroll_outcome};
 
 use crate::kind;
 use aig_engines::ToolFault;
+use aig_invariant::InvariantFault;
 use aig_order::MapFault;
 use aig_refute::RefutationFault;
 use aig_search::AnswerFault;
@@ -206,6 +208,18 @@ fn refutation_outcome(fault: &RefutationFault) -> Outcome
     }
 }
 
+fn invariant_outcome(fault: &InvariantFault) -> Outcome
+    ensures { result ≡ invariant_outcome fault.now }
+{
+    match fault {
+        InvariantFault::BadLine(line) => refusal(kind::BAD_INVARIANT, LINE, *line, 0),
+        InvariantFault::OtherLength(line) => refusal(kind::NOT_EACH_LATCH, LINE, *line, 0),
+        InvariantFault::MetAtStart(line) => refusal(kind::MET_AT_START, LINE, *line, 0),
+        InvariantFault::TooLarge => refusal(kind::TOO_LARGE_INVARIANT, WHOLE, 0, 0),
+        InvariantFault::OutOfMemory | InvariantFault::ReadFailed => ending(OUT_OF_MEMORY, 0, 0),
+    }
+}
+
 fn sim_outcome(fault: &SimFault) -> Outcome
     ensures { result ≡ sim_outcome fault.now }
 {
@@ -232,6 +246,7 @@ pub(crate) fn fault_outcome(fault: &ToolFault) -> Outcome
         ToolFault::Clauses(fault) => clause_outcome(fault),
         ToolFault::Answer(fault) => answer_outcome(fault),
         ToolFault::Refutation(fault) => refutation_outcome(fault),
+        ToolFault::Invariant(fault) => invariant_outcome(fault),
         ToolFault::Sim(fault) => sim_outcome(fault),
         ToolFault::Source | ToolFault::Sink | ToolFault::OutOfMemory => {
             ending(OUT_OF_MEMORY, 0, 0)

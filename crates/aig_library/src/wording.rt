@@ -56,7 +56,9 @@ fn put_kind(words: &mut Block, kind: u32, subject: u64)
         kind::NOT_AIGER => put(words, "not an AIGER file"),
         kind::BAD_HEADER => put(words, "bad header"),
         kind::TOO_LARGE => put(words, "number above the limit"),
-        kind::BAD_LINE | kind::BAD_MAP_LINE | kind::BAD_REFUTATION => put(words, "bad line"),
+        kind::BAD_LINE | kind::BAD_MAP_LINE | kind::BAD_REFUTATION | kind::BAD_INVARIANT => {
+            put(words, "bad line")
+        }
         kind::NOT_VARIABLE => put(words, "not a variable"),
         kind::LITERAL_RANGE => put(words, "literal out of range"),
         kind::BAD_RESET => put(words, "bad reset"),
@@ -85,6 +87,9 @@ fn put_kind(words: &mut Block, kind: u32, subject: u64)
         kind::NOT_REACHED => put(words, "no bad state is reached"),
         kind::NO_REFUTATION => put(words, "no refutation"),
         kind::DOES_NOT_FOLLOW => put(words, "does not follow"),
+        kind::NOT_EACH_LATCH => put(words, "not a character for each latch"),
+        kind::MET_AT_START => put(words, "met by a first state"),
+        kind::TOO_LARGE_INVARIANT => put(words, "too large"),
         _ => {}
     }
 }

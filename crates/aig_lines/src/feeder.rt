@@ -1,5 +1,6 @@
 //! Bytes that come in pieces, handed on line by line.
-ghost use Rattle.std.specs.Prelude.{◌≡◌, ◌+◌, ◌-◌, ◌^◌, ◌<◌, ◌≤◌, ◌++◌, [], IfOk, length, not, if◌then◌else◌};
+ghost use Rattle.std.specs.Prelude.{◌≡◌, ◌+◌, ◌-◌, ◌^◌, ◌<◌, ◌≤◌, ◌++◌, []};
+ghost use Rattle.std.specs.Prelude.{IfOk, length, not, if◌then◌else◌};
 ghost use Rattle.aig_lines.specs.Fed.{IsFed, IsUnfed};
 ghost use Rattle.aig_lines.specs.Feeding.{Feeding, TookTurn, ended, fed, heard, line_ended};
 ghost use Rattle.aig_lines.specs.Texts.{without_return};
@@ -36,14 +37,14 @@ pub trait LineTaker {
         ensures counted { counted self.new ≤ counted self.old + (if result then 1 else 0) };
 }
 
-/// Takes bytes in pieces of any length, and hands their lines on. After a line that is refused it takes nothing more.
+/// Takes bytes in pieces of any length, and hands their lines on, none after one that is refused.
 #[derive(Drop)]
 pub struct LineFeeder {
     /// The beginning of the line that has not ended yet.
     kept: PartialLine,
-    /// How long a line may be. Two bytes more, of which one may be a carriage return, show that it is too long.
+    /// How long a line may be. Two bytes more, one maybe a carriage return, show it to be too long.
     limit: usize,
-    /// The number of that line, counted from 1; after a refusal the number of the line that was refused.
+    /// The number of that line, counted from 1; after a refusal that of the line that was refused.
     number: u64,
     refused: bool,
 }
@@ -61,8 +62,8 @@ impl Model for LineFeeder {
     } };
 }
 
-/// Where the first line feed is. One behind a single character is seen without a search, which costs most where lines
-/// are short.
+/// Where the first line feed is. One behind a single character is seen without a search, which
+/// costs most where lines are short.
 #[inline(always)]
 fn first_line_feed(bytes: &[u8]) -> Option<usize>
     ensures { IsFirstByte (is_byte 10) bytes.now result }
@@ -99,7 +100,7 @@ impl LineFeeder {
         })
     }
 
-    /// The number of the line that has not ended yet, counted from 1; after a refusal of the line that was refused.
+    /// The number of the line that has not ended yet, from 1 on; after a refusal the refused one's.
     pub fn number(&self) -> u64
         ensures { result ≡ self.now.number }
     {
@@ -124,30 +125,14 @@ impl LineFeeder {
         good
     }
 
-    /// Takes a line that lies whole before its line feed.
-    #[inline(always)]
-    #[tactic(auto, using(crate::proofs::Feeds::not_begun))]
-    fn take_whole<T: LineTaker>(&mut self, taker: &mut T, piece: &[u8]) -> bool
-        requires number { self.old.number < 2 ^ 64 - 1 }
-        requires counted { T.counted taker.old ≤ self.old.number }
-        requires empty { self.old.kept.bytes ≡ [] }
-        ensures fed { (at : Feeding T.State) → IsFed T.IsAt self.old taker.old at
-            → IsFed T.IsAt self.new taker.new (line_ended T.step at (without_return (at.begun ++ piece.now))) }
-        ensures number { self.new.number ≤ self.old.number + 1 }
-        ensures counted { T.counted taker.new ≤ self.new.number }
-        ensures result { result ≡ not self.new.refused }
-    {
-        let good = hand_on(taker, self.limit, without_return(piece));
-        self.turn(good)
-    }
-
     /// Takes the rest of a line, of which the beginning was kept.
     #[tactic(auto, using(crate::proofs::Feeds::heard_joined))]
     fn take_kept<T: LineTaker>(&mut self, taker: &mut T, piece: &[u8]) -> bool
         requires number { self.old.number < 2 ^ 64 - 1 }
         requires counted { T.counted taker.old ≤ self.old.number }
         ensures fed { (at : Feeding T.State) → IsFed T.IsAt self.old taker.old at
-            → IsFed T.IsAt self.new taker.new (line_ended T.step at (without_return (at.begun ++ piece.now))) }
+            → IsFed T.IsAt self.new taker.new
+            (line_ended T.step at (without_return (at.begun ++ piece.now))) }
         ensures number { self.new.number ≤ self.old.number + 1 }
         ensures counted { T.counted taker.new ≤ self.new.number }
         ensures result { result ≡ not self.new.refused }
@@ -159,19 +144,22 @@ impl LineFeeder {
 
     /// Takes the rest of a line up to its line feed, and answers whether the line was taken.
     #[inline(always)]
+    #[tactic(auto, using(crate::proofs::Feeds::not_begun))]
     fn take_ended<T: LineTaker>(&mut self, taker: &mut T, piece: &[u8]) -> bool
         requires number { self.old.number < 2 ^ 64 - 1 }
         requires counted { T.counted taker.old ≤ self.old.number }
         ensures fed { (at : Feeding T.State) → IsFed T.IsAt self.old taker.old at
-            → IsFed T.IsAt self.new taker.new (line_ended T.step at (without_return (at.begun ++ piece.now))) }
+            → IsFed T.IsAt self.new taker.new
+            (line_ended T.step at (without_return (at.begun ++ piece.now))) }
         ensures number { self.new.number ≤ self.old.number + 1 }
         ensures counted { T.counted taker.new ≤ self.new.number }
         ensures result { result ≡ not self.new.refused }
     {
-        if self.kept.is_empty() {
-            return self.take_whole(taker, piece);
+        if !self.kept.is_empty() {
+            return self.take_kept(taker, piece);
         }
-        self.take_kept(taker, piece)
+        let good = hand_on(taker, self.limit, without_return(piece));
+        self.turn(good)
     }
 
     /// Takes the bytes that came next, and answers whether no line was refused.
@@ -200,8 +188,8 @@ impl LineFeeder {
         true
     }
 
-    /// Takes the end of the bytes: a last line without its line feed, where there is one. Answers whether no line was
-    /// refused.
+    /// Takes the end of the bytes: a last line without its line feed, where there is one. Answers
+    /// whether no line was refused.
     pub fn end<T: LineTaker>(&mut self, taker: &mut T) -> bool
         requires number { self.old.number < 2 ^ 64 - 1 }
         requires counted { T.counted taker.old ≤ self.old.number }

@@ -6,18 +6,19 @@ ghost use Rattle.aig_lines.specs.Laws.{LinesAreThePieces};
 
 use crate::feeder::LineTaker;
 
-/// The lines of a text, joined, are the text; no line holds a line feed, and only the last may lack its own.
+/// The lines of a text, joined, are the text; each but maybe the last has its line feed at its end.
 pub fn lines_are_the_pieces()
     ensures { LinesAreThePieces }
 {}
 
 /// It makes no difference where bytes are cut.
 pub fn fed_in_pieces<T: LineTaker>()
-    ensures { (f : Feeding T.State) (a b : List ℕ) → fed T.step f (a ++ b) ≡ fed T.step (fed T.step f a) b }
+    ensures { (f : Feeding T.State) (a b : List ℕ) →
+        fed T.step f (a ++ b) ≡ fed T.step (fed T.step f a) b }
 {}
 
-/// To feed bytes is to tell their lines, up to the first that is refused: all where the bytes are over, and else the
-/// whole ones.
+/// To feed bytes is to tell their lines, up to the first that is refused: all where the bytes are
+/// over, and else the whole ones.
 pub fn fed_is_told<T: LineTaker>()
     ensures { (limit : ℕ) (s : T.State) (bytes : List ℕ) (over : Bool)
         → outcome (ended_if T.step over (fed T.step (feeding limit s) bytes))

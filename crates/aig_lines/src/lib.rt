@@ -1,8 +1,8 @@
 //! Lines: those of a text, and of bytes that come in pieces.
 //!
-//! Others call `split_line` and `ended_lines`, which cut a text, and `Cursor`, a place in it; `LineFeeder`, which hands
-//! the lines of bytes that come on to a `LineTaker`; `feed_source`, which feeds it the bytes of a source; and
-//! `without_return`.
+//! Others call `split_line` and `ended_lines`, which cut a text, and `Cursor`, a place in it;
+//! `LineFeeder`, which hands the lines of bytes that come on to a `LineTaker`; `feed_source`, which
+//! feeds it the bytes of a source; and `without_return`.
 //!
 //! The definitions that matter most are `lines_of`, `told` and `fed`.
 #![tactic(auto)]

@@ -57,7 +57,8 @@ impl<'a> Cursor<'a> {
 pub fn split_line(bytes: &[u8]) -> Option<(Line, &[u8])>
     ensures lines { MatchOption result (lines_of bytes.now ≡ [])
         (λ x. lines_of bytes.now ≡ line x.0.text.now x.0.ended ∷ lines_of x.1.now) }
-    ensures shorter { MatchOption result (length bytes.now ≡ 0) (λ x. length x.1.now < length bytes.now) }
+    ensures shorter { MatchOption result (length bytes.now ≡ 0)
+        (λ x. length x.1.now < length bytes.now) }
 {
     if bytes.is_empty() {
         return None;

@@ -5,7 +5,7 @@ ghost use Rattle.aig_lines.specs.Keeping.{keeping_more};
 use std::alloc::{AllocError, Global};
 use std::marker::Model;
 
-/// The first bytes of a line whose end has not come yet: all of them, or as many as there is room for.
+/// The first bytes of a line whose end has not come yet: all, or as many as there is room for.
 #[derive(Drop)]
 pub struct PartialLine {
     bytes: Vec<u8>,

@@ -6,8 +6,8 @@ ghost use Rattle.aig_lines.specs.Fed.{FedSource, IsUnfed};
 use crate::feeder::{LineFeeder, LineTaker};
 use aig_io::{DeviceFault, ROOM, Source};
 
-/// Hands on the lines of all that the source gives, and answers whether none was refused. After one that was nothing
-/// more is fetched.
+/// Hands on the lines of all that the source gives, and answers whether none was refused. After one
+/// that was nothing more is fetched.
 pub fn feed_source<T: LineTaker, R: Source>(
     feeder: &mut LineFeeder,
     taker: &mut T,

@@ -68,7 +68,7 @@ module _ (c : Circuit) (formed : IsWellFormed c) where
       search (rules, literals_agree, same_row, known_outputs, known_next, known_bad, known_constraints)
 
   -- where more is known of the state and the inputs, all that was known of the row stays
-  row_stays : (r s : Row) → AllZip Stays r.state s.state → AllZip Stays r.inputs s.inputs → IsRow c r → IsRow c s
+  pub row_stays : (r s : Row) → AllZip Stays r.state s.state → AllZip Stays r.inputs s.inputs → IsRow c r → IsRow c s
       → RowStays r s
   row_stays r s of_state of_inputs is_r is_s =
       search (rules, of_literals, staying_is_kept, known_outputs, known_next, known_bad, known_constraints)

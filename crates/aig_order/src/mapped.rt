@@ -1,5 +1,5 @@
 //! The mapped image of a circuit: the binary image with a map block, by which it can be undone.
-ghost use Rattle.std.specs.Prelude.{◌≡◌, ◌+◌, ◌≤◌, None, Some, IfOk, length, min};
+ghost use Rattle.std.specs.Prelude.{◌≡◌, ◌+◌, ◌*◌, ◌≤◌, None, Some, IfOk, length, min};
 ghost use Rattle.aig_circuit.specs.declared.circuit.TheConstants.{LARGEST};
 ghost use Rattle.aig_circuit.specs.Wellformed.{IsWellFormed};
 ghost use Rattle.aig_checked.specs.BinaryOrder.{IsNumberedInOrder};
@@ -10,7 +10,7 @@ ghost use Rattle.aig_map.specs.MapBlock.{IsMappedImage};
 ghost use Rattle.aig_map.specs.Parts.Kept.{AreVariablesOf};
 
 use aig_core::{
-    Checked, Circuit, LARGEST, Listing, Ordered, OutOfMemory, Var, is_numbered_in_order,
+    Checked, Circuit, LARGEST, Listing, Ordered, OutOfMemory, Steps, Var, is_numbered_in_order,
 };
 use aig_image::{Labels, Renumbering, relabel, sort_operands};
 use aig_map::{KeptVariables, keep_variables, map_comment, new_map_comment};
@@ -153,13 +153,18 @@ fn renumbered_with_map(
     }
 }
 
-fn into_mapped_image(alloc: Global, checked: Checked) -> Result<Ordered, OutOfMemory>
-    ensures { IfOk result (λ o. IsMappedImage checked o) }
+fn into_mapped_image(
+    alloc: Global,
+    checked: Checked,
+    steps: &mut Steps,
+) -> Result<Ordered, OutOfMemory>
+    ensures image { IfOk result (λ o. IsMappedImage checked o) }
+    ensures few { steps.new.count ≤ steps.old.count + 3 * length checked.gates }
 {
     if is_numbered_in_order(&checked) {
         return with_map_alone(alloc, checked.into_circuit());
     }
-    let Ok(renumbering) = Renumbering::new(alloc, &checked) else {
+    let Ok(renumbering) = Renumbering::new(alloc, &checked, steps) else {
         drop(checked); // for the proof
         return Err(OutOfMemory);
     };
@@ -168,16 +173,26 @@ fn into_mapped_image(alloc: Global, checked: Checked) -> Result<Ordered, OutOfMe
 
 /// The mapped image of a circuit: its binary image, with a map block at the front of the comment,
 /// by which `undo` restores the circuit. It fails only if an allocation fails.
-pub fn to_binary_with_map(alloc: Global, checked: &Checked) -> Result<Ordered, OutOfMemory>
-    ensures { IfOk result (λ o. IsMappedImage checked.now o) }
+pub fn to_binary_with_map(
+    alloc: Global,
+    checked: &Checked,
+    steps: &mut Steps,
+) -> Result<Ordered, OutOfMemory>
+    ensures image { IfOk result (λ o. IsMappedImage checked.now o) }
+    ensures few { steps.new.count ≤ steps.old.count + 3 * length checked.now.gates }
 {
-    into_mapped_image(alloc, checked.copy(alloc)?)
+    into_mapped_image(alloc, checked.copy(alloc)?, steps)
 }
 
 /// The mapped image of a circuit that is no longer needed, in the circuit's own memory. It fails
 /// only if an allocation fails.
-pub fn into_binary_with_map(alloc: Global, checked: Checked) -> Result<Ordered, OutOfMemory>
-    ensures { IfOk result (λ o. IsMappedImage checked o) }
+pub fn into_binary_with_map(
+    alloc: Global,
+    checked: Checked,
+    steps: &mut Steps,
+) -> Result<Ordered, OutOfMemory>
+    ensures image { IfOk result (λ o. IsMappedImage checked o) }
+    ensures few { steps.new.count ≤ steps.old.count + 3 * length checked.gates }
 {
-    into_mapped_image(alloc, checked)
+    into_mapped_image(alloc, checked, steps)
 }

@@ -9,21 +9,12 @@ use Rattle.aig_circuit.specs.declared.circuit.Circuit.{Circuit}
 use Rattle.aig_circuit.specs.declared.circuit.Reset.{Reset}
 use Rattle.aig_circuit.specs.declared.circuit.Reset.TheVariants as resets
 use Rattle.aig_circuit.specs.declared.value.Val.{Val}
+use Rattle.aig_checked.proofs.Numbered.{ranges_joined}
 use Rattle.aig_meaning.specs.Trace.{MayStartAt}
 use Rattle.aig_cnf.specs.Clauses.{truth, truths}
 use Rattle.aig_unroll.specs.Unrolled.{all_inputs, resets_of, uninitialised}
 use Rattle.aig_unroll.specs.SideBySide.{inputs_side_by_side, uninitialised_values}
 use Rattle.aig_reach.specs.Cut.{cut_claim, cut_first, cut_steps}
-
--- numbers, and the next ones behind them
-ranges_joined : (a m n : ℕ) → range_with_len a m ++ range_with_len (a + m) n ≡ range_with_len a (m + n)
-ranges_joined a zero n = ap₂ range_with_len (omega arith) (omega arith)
-ranges_joined a (suc m) n =
-    let next : a + suc m ≡ a + 1 + m = omega arith in
-    let all : suc (m + n) ≡ suc m + n = omega arith in
-    ap (λ (k : ℕ). a ∷ (range_with_len (a + 1) m ++ range_with_len k n)) next
-    ∙ ap (λ (ns : List ℕ). a ∷ ns) (ranges_joined (a + 1) m n)
-    ∙ ap (range_with_len a) all
 
 module _ (a : ℕ → Bool) where
   pub first_starts : (v : ℕ) (rs : List Reset) → AllZip MayStartAt rs (cut_first a v rs)

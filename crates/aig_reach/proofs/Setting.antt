@@ -1,7 +1,7 @@
 -- A run that reaches a bad state sets one of the unrolled circuit: with 0 for each x, and zeros for the steps behind.
 use Rattle.std.proofs.Common.{◌≡◌, ◌+◌, ◌*◌, ◌<◌, ◌++◌, ◌||◌, ◌∙◌, ℕ, zero, suc, List, [], ◌∷◌, Bool, true, false}
 use Rattle.std.proofs.Common.{length, map}
-use Rattle.std.proofs.Common.{ap, arith, get_or, refl, replicate, rules, subst, suc-mul, sym}
+use Rattle.std.proofs.Common.{ap, arith, get_or, refl, replicate, subst, suc-mul, sym}
 use Rattle.std.specs.List.{All, AllByRecursion, AllZip, flat_map, list_any}
 use Rattle.std.proofs.lemmas.List.{get_or-append-add, length-map, length-replicate}
 use Rattle.std.proofs.lemmas.List.Elements.{All-head, All-tail}
@@ -14,11 +14,10 @@ use Rattle.aig_circuit.specs.Values.{value_and}
 use Rattle.aig_circuit.specs.Wellformed.{IsWellFormed}
 use Rattle.aig_circuit.proofs.Checking.{joined}
 use Rattle.aig_meaning.specs.Completion.{RowStays, Stays}
-use Rattle.aig_meaning.specs.Meaning.{IsRow, IsStepAssignment, Row, literal_value}
+use Rattle.aig_meaning.specs.Meaning.{IsStepAssignment, Row, literal_value}
 use Rattle.aig_meaning.specs.Trace.{Follow, MayStartAt}
-use Rattle.aig_meaning.proofs.Related.{AreDefined, known_bad, known_constraints, known_next, known_outputs, of_literals}
-use Rattle.aig_meaning.proofs.Related.{staying_is_kept}
-use Rattle.aig_meaning.proofs.Traces.{bad_length}
+use Rattle.aig_meaning.proofs.Related.{AreDefined}
+use Rattle.aig_meaning.proofs.Traces.{bad_length, row_stays}
 use Rattle.aig_cnf.specs.Clauses.{is_true, truth}
 use Rattle.aig_cnf.proofs.Existing.{IsSure, rounded, same_known, same_truth}
 use Rattle.aig_cnf.proofs.Truths.{truth_literal}
@@ -127,12 +126,6 @@ one_here : (xs ys : List Val) (i : ℕ) → get_or xs i Zero ≡ One → get_or 
 one_here [] ys i is = cc
 one_here (x ∷ xs) ys zero is = is
 one_here (x ∷ xs) ys (suc i) is = one_here xs ys i is
-
--- where more is known of the state and the inputs, all that was known of the row stays
-row_stays : (c : Circuit) (formed : IsWellFormed c) (r s : Row) → AllZip Stays r.state s.state
-    → AllZip Stays r.inputs s.inputs → IsRow c r → IsRow c s → RowStays r s
-row_stays c formed r s of_state of_inputs is_r is_s =
-    search (rules, of_literals, staying_is_kept, known_outputs, known_next, known_bad, known_constraints)
 
 module _ (c : Circuit) (formed : IsWellFormed c) (property : ℕ) where
   -- a row that is followed with 0 for each x

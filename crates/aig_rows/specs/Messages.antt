@@ -1,5 +1,7 @@
 -- The words in which a fault is reported (this project's profile).
 use Rattle.std.specs.Prelude.{◌++◌, ℕ, List, [], Option, None, Some, codes, decimal}
+use Rattle.aig_circuit.specs.Messages.{cyclic_text, redefined_text, undefined_text}
+pub use Rattle.aig_io.specs.Messages.{cannot_read_text, cannot_write_text, out_of_memory_text}
 use Rattle.aig_rows.specs.declared.message.Message.{Message}
 use Rattle.aig_rows.specs.declared.fault.Place.{Place}
 use Rattle.aig_rows.specs.declared.fault.Place.TheVariants.{Line, Gate, Whole}
@@ -14,16 +16,6 @@ number_text (Some n) = decimal n
 
 abbrev pub message_text : Message → List ℕ
 message_text m = m.before.now ++ (number_text m.number ++ m.after.now)
-
--- what is said where memory is refused, and where a source or a sink fails
-abbrev pub out_of_memory_text : List ℕ
-out_of_memory_text = codes "out of memory"
-
-abbrev pub cannot_read_text : List ℕ
-cannot_read_text = codes "cannot read"
-
-abbrev pub cannot_write_text : List ℕ
-cannot_write_text = codes "cannot write"
 
 -- where a text is wrong
 abbrev pub place_text : Place → List ℕ
@@ -45,9 +37,9 @@ kind_text kinds.BadDelta = codes "bad delta"
 kind_text kinds.BadSymbol = codes "bad symbol line"
 kind_text kinds.SymbolRange = codes "symbol position out of range"
 kind_text kinds.SymbolTwice = codes "symbol given twice"
-kind_text (kinds.Redefined variable) = codes "variable " ++ (decimal variable ++ codes " defined twice")
-kind_text (kinds.Undefined literal) = codes "literal " ++ (decimal literal ++ codes " not defined")
-kind_text (kinds.Cyclic literal) = codes "gate " ++ (decimal literal ++ codes " depends on a cycle")
+kind_text (kinds.Redefined variable) = redefined_text variable
+kind_text (kinds.Undefined literal) = undefined_text literal
+kind_text (kinds.Cyclic literal) = cyclic_text literal
 kind_text kinds.OutOfMemory = out_of_memory_text
 
 abbrev pub fault_text : ReadFault → List ℕ

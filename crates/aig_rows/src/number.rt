@@ -1,10 +1,12 @@
 //! Numbers of any length, and lines of numbers.
-ghost use Rattle.std.specs.Prelude.{◌≡◌, ◌==◌, ◌&&◌, ◌+◌, ◌-◌, ◌*◌, ◌^◌, ◌<◌, ◌≤◌, ◌∷◌, false, length, take};
+ghost use Rattle.std.specs.Prelude.{◌≡◌, ◌==◌, ◌&&◌, ◌+◌, ◌-◌, ◌*◌, ◌^◌, ◌<◌, ◌≤◌};
+ghost use Rattle.std.specs.Prelude.{◌∷◌, false, length, take};
 ghost use Rattle.std.specs.Prelude.{IfSome, slice_index};
 ghost use Rattle.std.specs.List.{prefix_len};
 ghost use Rattle.aig_rows.specs.Spelling.{is_digit, is_space, value_of};
 ghost use Rattle.aig_rows.specs.CanonicalNumber.{canonical_before, is_padded, number_before};
-ghost use Rattle.aig_rows.specs.Scanning.{number_at, after_gap, is_line_end, more_numbers_at, numbers_at};
+ghost use Rattle.aig_rows.specs.Scanning.{number_at, after_gap, is_line_end};
+ghost use Rattle.aig_rows.specs.Scanning.{more_numbers_at, numbers_at};
 ghost use Rattle.aig_rows.specs.Parts.Plain.{BeginsWithNumber, EndsPlainly};
 ghost use Rattle.aig_rows.specs.Kept.{kept, kept_numbers, kept_first};
 ghost use Rattle.aig_rows.specs.Outcomes.{Gives};
@@ -13,8 +15,8 @@ use crate::word::{digits_of_word, first_word};
 use aig_lines::Line;
 use core::dec2flt::read_digits;
 
-/// Numbers from here on are all above each limit and above each literal that is carried from row to row, and only
-/// whether they are odd is kept of them.
+/// Numbers from here on are all above each limit and above each literal that is carried from row to
+/// row, and only whether they are odd is kept of them.
 const LARGE: u64 = 1 << 36;
 
 /// Canonical numbers from here on are all taken as this one.
@@ -102,8 +104,8 @@ fn may_end(bytes: &[u8], ended: bool, due: usize) -> bool
     due == 0 && ends_line(bytes, ended)
 }
 
-/// What is kept of the numbers that stand there, each after one or more spaces, where the line ends after them. There
-/// are at least `least` of them; those that are left out are 0.
+/// What is kept of the numbers that stand there, each after one or more spaces, where the line ends
+/// after them. There are at least `least` of them; those that are left out are 0.
 #[tactic(auto, unfolding(crate::specs::Scanning::more_numbers_at))]
 pub fn more_numbers<const N: usize>(text: &[u8], ended: bool, least: usize) -> Option<[u64; N]>
     ensures { Gives (λ x. x) result (kept_numbers (more_numbers_at ended least N text.now)) }
@@ -126,11 +128,12 @@ pub fn more_numbers<const N: usize>(text: &[u8], ended: bool, least: usize) -> O
     }
 }
 
-/// What is kept of a number and of others, where the line ends after them. There are at least `least` others; those
-/// that are left out are 0.
+/// What is kept of a number and of others, where the line ends after them. There are at least
+/// `least` others; those that are left out are 0.
 #[tactic(auto, unfolding(crate::specs::Scanning::numbers_at))]
 pub(crate) fn numbers<const N: usize>(line: Line, least: usize) -> Option<(u64, [u64; N])>
-    ensures { Gives (λ x. x.0 ∷ x.1) result (kept_numbers (numbers_at line.entry.ended least N line.entry.text.now)) }
+    ensures { Gives (λ x. x.0 ∷ x.1) result
+        (kept_numbers (numbers_at line.entry.ended least N line.entry.text.now)) }
 {
     let (first, rest) = leading_number(line.text)?;
     let others = more_numbers::<N>(rest, line.ended, least)?;
@@ -184,8 +187,8 @@ fn short_at(bytes: &[u8], end: u32) -> Option<(u64, u8, &[u8])>
     Some((value, behind, rest))
 }
 
-/// A number of one to eight digits at the front, the byte behind it, and what follows that, where nine bytes stand
-/// there.
+/// A number of one to eight digits at the front, the byte behind it, and what follows that, where
+/// nine bytes stand there.
 #[inline(always)]
 fn short_number(bytes: &[u8]) -> Option<(u64, u8, &[u8])>
     ensures { IfSome result (λ x. BeginsWithNumber bytes.now x.0 (x.1 ∷ x.2.now)) }
@@ -194,8 +197,8 @@ fn short_number(bytes: &[u8]) -> Option<(u64, u8, &[u8])>
     short_at(bytes, end)
 }
 
-/// A number of one to eight digits at the front with this byte behind it, and what follows that, where nine bytes stand
-/// there.
+/// A number of one to eight digits at the front with this byte behind it, and what follows that,
+/// where nine bytes stand there.
 #[inline(always)]
 pub(crate) fn short_number_before(bytes: &[u8], stop: u8) -> Option<(u64, &[u8])>
     ensures { IfSome result (λ x. BeginsWithNumber bytes.now x.0 (stop ∷ x.1.now)) }
@@ -209,8 +212,8 @@ pub(crate) fn short_number_before(bytes: &[u8], stop: u8) -> Option<(u64, &[u8])
     Some((value, rest))
 }
 
-/// The number at the front, the byte behind it, and what follows that, where it is short or else where it has not too
-/// many digits.
+/// The number at the front, the byte behind it, and what follows that, where it is short or else
+/// where it has not too many digits.
 #[inline(always)]
 pub(crate) fn front_number(bytes: &[u8], short: bool) -> Option<(u64, u8, &[u8])>
     ensures { IfSome result (λ x. BeginsWithNumber bytes.now x.0 (x.1 ∷ x.2.now)) }
@@ -222,8 +225,8 @@ pub(crate) fn front_number(bytes: &[u8], short: bool) -> Option<(u64, u8, &[u8])
     }
 }
 
-/// Numbers at the front, each after one space, the line feed behind them, and what follows it. The first byte is given
-/// apart. There are at least `least` numbers; those that are left out are 0.
+/// Numbers at the front, each after one space, the line feed behind them, and what follows it. The
+/// first byte is given apart. There are at least `least` numbers; those that are left out are 0.
 #[inline(always)]
 pub(crate) fn plain_numbers<const N: usize>(
     byte: u8,
@@ -272,7 +275,7 @@ fn plain_number_before(bytes: &[u8], stop: u8) -> Option<(u64, &[u8])>
     Some((value, rest))
 }
 
-/// The number at the front, however it is spelled, where this byte stands behind it; and what follows the byte.
+/// The number at the front, however spelled, where this byte is behind it; and what follows that.
 #[cold]
 #[inline(never)]
 #[tactic(auto, unfolding(crate::specs::CanonicalNumber::number_before))]
@@ -297,8 +300,8 @@ fn is_padded(bytes: &[u8]) -> bool
     }
 }
 
-/// The canonical number at the front, where this byte stands behind it; and what follows the byte. Numbers from 2^33 on
-/// are above each limit, and are all taken as 2^33.
+/// The canonical number at the front, where this byte stands behind it; and what follows the byte.
+/// Numbers from 2^33 on are above each limit, and are all taken as 2^33.
 #[inline(always)]
 #[tactic(auto, unfolding(crate::specs::CanonicalNumber::canonical_before))]
 pub fn canonical_number(bytes: &[u8], stop: u8) -> Option<(u64, &[u8])>

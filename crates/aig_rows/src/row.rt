@@ -1,12 +1,15 @@
 //! Rows: lines of numbers, and what they mean.
-ghost use Rattle.std.specs.Prelude.{◌≡◌, ◌+◌, ◌*◌, ◌^◌, ◌<◌, ◌≤◌, ℕ, List, [], ◌∷◌, Ok, IfOk, IfSome, OnErr, length};
+ghost use Rattle.std.specs.Prelude.{◌≡◌, ◌+◌, ◌*◌, ◌^◌, ◌<◌, ◌≤◌, ℕ, List, [], ◌∷◌};
+ghost use Rattle.std.specs.Prelude.{Ok, IfOk, IfSome, OnErr, length};
 ghost use Rattle.std.specs.Prelude.{slice_index, IsTrue, None};
 ghost use Rattle.aig_circuit.specs.Wellformed.{largest_index};
 ghost use Rattle.aig_lines.specs.Lines.{ahead, line as line_of, lines_of};
-ghost use Rattle.aig_rows.specs.Rows.{Form, input_form, latch_form, literal_form, size_form, gate_form, next_form};
-ghost use Rattle.aig_rows.specs.Rows.{input_of, latch_of, literal_in, size_of, gate_of, next_of, reset_of};
+ghost use Rattle.aig_rows.specs.Rows.{Form, input_form, latch_form, literal_form, size_form};
+ghost use Rattle.aig_rows.specs.Rows.{gate_form, next_form, input_of, latch_of, literal_in};
+ghost use Rattle.aig_rows.specs.Rows.{size_of, gate_of, next_of, reset_of};
 ghost use Rattle.aig_rows.specs.Outcomes.{AreBounded, GivesOrFails, row_meant};
-ghost use Rattle.aig_rows.specs.Reading.{misdefines, exceeds, misresets, oversizes, own_literal, carried_on};
+ghost use Rattle.aig_rows.specs.Reading.{misdefines, exceeds, misresets, oversizes};
+ghost use Rattle.aig_rows.specs.Reading.{own_literal, carried_on};
 ghost use Rattle.aig_rows.specs.Reading.{any_number, fault_in_row, row_of, row_at};
 ghost use Rattle.aig_rows.specs.Parts.Right.{is_right};
 
@@ -29,8 +32,8 @@ pub enum Role {
     Size,
 }
 
-/// What a line of numbers has to hold: one of the first role, and then `least` or more of the others. A number that is
-/// left out is 0.
+/// What a line of numbers has to hold: one of the first role, and then `least` or more of the
+/// others. A number that is left out is 0.
 #[derive(Clone, Copy)]
 pub struct RowForm<const N: usize> {
     /// What the first number is.
@@ -48,9 +51,11 @@ impl<const N: usize> Model for RowForm<N> {
 
     ghost use Rattle.std.specs.Prelude.{◌≡◌, ◌≤◌, length};
 
-    ghost view = { λ form. record { first = form.first; others = form.others; least = form.least } };
+    ghost view = { λ form.
+        record { first = form.first; others = form.others; least = form.least } };
 
-    ghost inverse = { λ form. record { first = form.first; others = form.others; least = form.least } };
+    ghost inverse = { λ form.
+        record { first = form.first; others = form.others; least = form.least } };
 
     ghost invariant = { λ form. (form.least ≤ N) × (length form.others ≡ N) };
 }
@@ -106,9 +111,9 @@ pub struct NextState {
     pub reset: Reset,
 }
 
-/// What one line of numbers means: an entry of a section. Lines are judged beside the largest index, or what sizes may
-/// add up to (`bound`), and beside what the lines before it leave (`carried`): of sizes their sum, and elsewhere the
-/// literal of the line's variable in a binary file.
+/// What one line of numbers means: an entry of a section. It is judged beside the largest index, or
+/// what sizes may add up to (`bound`), and beside what the lines before it leave (`carried`): of
+/// sizes their sum, and elsewhere the literal of the line's variable in a binary file.
 pub trait FromRow: Copy {
     /// What the line has to hold.
     ghost form: { Form };
@@ -116,8 +121,8 @@ pub trait FromRow: Copy {
     /// The entry that the line's numbers mean.
     ghost meant_by: { List ℕ → Self };
 
-    /// Reads the next line, if it is right and has short numbers in plain spelling, as most rows do; also what follows
-    /// it.
+    /// Reads the next line, if it is right and has short numbers in plain spelling, as most rows
+    /// do; also what follows it.
     fn read_short(bytes: &[u8], bound: u32, carried: u64) -> Option<(Self, &[u8])>
         requires { bound ≤ largest_index }
         ensures row { (number : ℕ) → IfSome result (λ x.
@@ -129,12 +134,14 @@ pub trait FromRow: Copy {
     fn read_row(at: &mut Cursor, bound: u32, carried: u64) -> Result<Self, ReadFault>
         requires bound { bound ≤ largest_index }
         requires carried { carried ≤ 2 ^ 35 }
-        ensures { GivesOrFails (λ row. (row, at.new)) result (row_meant meant_by (row_at form bound carried at.old)) };
+        ensures { GivesOrFails (λ row. (row, at.new)) result
+            (row_meant meant_by (row_at form bound carried at.old)) };
 
     /// What is carried to the next line.
     fn carry(self, carried: u64) -> u64
         requires { carried ≤ 2 ^ 35 }
-        ensures { (ns : List ℕ) → meant_by ns ≡ self → result ≡ carried_on form.first carried (slice_index ns 0) };
+        ensures { (ns : List ℕ) → meant_by ns ≡ self
+            → result ≡ carried_on form.first carried (slice_index ns 0) };
 }
 
 /// Whether a number cannot be the definition that it stands for.
@@ -242,8 +249,8 @@ fn row_fault(
     first: u64,
     more: &[u64],
 ) -> Option<ReadKind>
-    ensures { result ≡ fault_in_row (record { first = role; others = others.now; least = 0 }) bound carried
-        (first ∷ more.now) }
+    ensures { result ≡ fault_in_row (record { first = role; others = others.now; least = 0 })
+        bound carried (first ∷ more.now) }
 {
     if misdefines(role, first) || any_misdefines(others, more) {
         return Some(ReadKind::NotVariable);
@@ -308,7 +315,8 @@ fn lenient_row<const N: usize>(
 ) -> Result<(u64, [u64; N]), ReadFault>
     requires bound { bound ≤ largest_index }
     requires carried { carried ≤ 2 ^ 35 }
-    ensures row { GivesOrFails (λ x. (x.0 ∷ x.1, at.new)) result (row_at form.entry bound carried at.old) }
+    ensures row { GivesOrFails (λ x. (x.0 ∷ x.1, at.new)) result
+        (row_at form.entry bound carried at.old) }
     ensures bounded { IfOk result (λ x. AreBounded form.entry bound x.0 x.1) }
     ensures err { OnErr result (at.new ≡ at.old) }
 {
@@ -329,7 +337,7 @@ fn lenient_row<const N: usize>(
     }
 }
 
-/// Whether a number is right in its role, where the row is for the variable of this literal, and this is carried.
+/// Whether a number is right in its role, in the row of this literal's variable, with this carried.
 #[inline(always)]
 fn is_right(bound: u32, own: u64, carried: u64, role: Role, number: u64) -> bool
     ensures { result ≡ is_right bound own carried role number }
@@ -340,7 +348,7 @@ fn is_right(bound: u32, own: u64, carried: u64, role: Role, number: u64) -> bool
         && !oversizes(bound, carried, role, number)
 }
 
-/// Whether the numbers of a row are right, all in one pass; `row_fault` finds what is wrong with those that are not.
+/// Whether a row's numbers are right, all in one pass; `row_fault` finds what is wrong with others.
 #[inline(always)]
 fn is_right_row<const N: usize>(
     form: RowForm<N>,
@@ -363,7 +371,7 @@ fn is_right_row<const N: usize>(
     true
 }
 
-/// The numbers of a good row in plain spelling at the front, and what follows it; or only where all numbers are short.
+/// The numbers of a good row, plainly spelled, and what follows it; or only where all are short.
 #[inline(always)]
 fn plain_row<const N: usize>(
     form: RowForm<N>,
@@ -401,7 +409,8 @@ pub(crate) fn next_row<const N: usize>(
 ) -> Result<(u64, [u64; N]), ReadFault>
     requires bound { bound ≤ largest_index }
     requires carried { carried ≤ 2 ^ 35 }
-    ensures row { GivesOrFails (λ x. (x.0 ∷ x.1, at.new)) result (row_at form.entry bound carried at.old) }
+    ensures row { GivesOrFails (λ x. (x.0 ∷ x.1, at.new)) result
+        (row_at form.entry bound carried at.old) }
     ensures bounded { IfOk result (λ x. AreBounded form.entry bound x.0 x.1) }
     ensures err { OnErr result (at.new ≡ at.old) }
 {
@@ -445,7 +454,8 @@ impl FromRow for Var {
 #[inline(always)]
 fn right_latch(bound: u32, carried: u64, first: u64, next: u64, reset: u64) -> Option<Latch>
     requires { bound ≤ largest_index }
-    ensures right { IfSome result (λ _. fault_in_row latch_form bound carried (first ∷ next ∷ reset ∷ []) ≡ None) }
+    ensures right { IfSome result (λ _.
+        fault_in_row latch_form bound carried (first ∷ next ∷ reset ∷ []) ≡ None) }
     ensures latch { IfSome result (λ latch. latch ≡ latch_of (first ∷ next ∷ reset ∷ [])) }
 {
     if !is_right_row::<2>(LATCH, bound, carried, first, &[next, reset]) {

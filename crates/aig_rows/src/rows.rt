@@ -1,33 +1,18 @@
 //! Rows one after another.
-ghost use Rattle.std.specs.Prelude.{◌≡◌, ◌+◌, ◌*◌, ◌^◌, ◌<◌, ◌≤◌, ◌⊎◌, ◌∷◌, [], List, IfErr, IfOk, OnErr};
+ghost use Rattle.std.specs.Prelude.{◌≡◌, ◌+◌, ◌*◌, ◌^◌, ◌<◌, ◌≤◌, ◌⊎◌, []};
+ghost use Rattle.std.specs.Prelude.{List, IfErr, IfOk, OnErr};
 ghost use Rattle.aig_circuit.specs.Wellformed.{largest_index};
 ghost use Rattle.aig_rows.specs.Rows.{next_form, next_of};
-ghost use Rattle.aig_rows.specs.Outcomes.{AreBounded, GivesOrFails, GivesOrMemory, rows_meant};
+ghost use Rattle.aig_rows.specs.Outcomes.{GivesOrMemory, rows_meant};
 ghost use Rattle.aig_lines.specs.Lines.{Line, with_lines};
 ghost use Rattle.aig_rows.specs.Begun.{HaveRead};
-ghost use Rattle.aig_rows.specs.Reading.{row_at, rows_at, want_of_memory};
+ghost use Rattle.aig_rows.specs.Reading.{rows_at, want_of_memory};
 
 use crate::fault::{Place, ReadFault, ReadKind};
-use crate::row::{FromRow, NextState, RowForm, next_row};
+use crate::row::{FromRow, NextState};
 use aig_circuit::Listing;
 use aig_lines::Cursor;
 use std::alloc::Global;
-
-/// The numbers of the row of this form that the next line holds. Goes behind that line, unless it is not right.
-pub fn numbers<const N: usize>(
-    form: RowForm<N>,
-    at: &mut Cursor,
-    bound: u32,
-    carried: u64,
-) -> Result<(u64, [u64; N]), ReadFault>
-    requires bound { bound ≤ largest_index }
-    requires carried { carried ≤ 2 ^ 35 }
-    ensures row { GivesOrFails (λ x. (x.0 ∷ x.1, at.new)) result (row_at form.entry bound carried at.old) }
-    ensures bounded { IfOk result (λ x. AreBounded form.entry bound x.0 x.1) }
-    ensures err { OnErr result (at.new ≡ at.old) }
-{
-    next_row::<N>(form, at, bound, carried)
-}
 
 /// The rows that are still due.
 #[derive(Clone, Copy)]
@@ -47,8 +32,8 @@ impl Due {
     }
 }
 
-/// Adds the entries of the lines ahead, as far as rows are due, which are judged beside `bound` and what is carried,
-/// and moves behind these lines. Answers which rows are due then: none, or else no line is left.
+/// Adds the entries of the lines ahead while rows are due, judged beside `bound` and what is
+/// carried, and moves behind these. Answers which rows are due then: none, or else no line is left.
 #[inline(never)]
 pub fn read_first_rows<T: FromRow>(
     found: &mut Listing<T>,
@@ -58,13 +43,14 @@ pub fn read_first_rows<T: FromRow>(
 ) -> Result<Due, ReadFault>
     requires bound { bound ≤ largest_index }
     requires small { due.carried + 2 * due.count ≤ 2 ^ 34 }
-    ensures rows { IfOk result (λ left. HaveRead T.meant_by T.form bound due left found.old found.new at.old at.new) }
+    ensures rows { IfOk result (λ left.
+        HaveRead T.meant_by T.form bound due left found.old found.new at.old at.new) }
     ensures small { IfOk result (λ left. left.carried + 2 * left.count ≤ 2 ^ 34) }
     ensures all { IfOk result (λ left. 0 < left.count → at.new.lines ≡ []) }
     ensures err { IfErr result (λ e. (e ≡ want_of_memory) ⊎ ((more : List Line)
         → rows_at T.form bound due.carried due.count (with_lines at.old more) ≡ Err e)) }
 {
-    // Out of the cursor, so that both can stay in registers; only where a row is read slowly, one is lent.
+    // Out of the cursor, so that both stay in registers; where a row is read slowly, one is lent.
     let mut rest = at.rest;
     let mut number = at.number;
     let mut carried = due.carried;
@@ -92,8 +78,8 @@ pub fn read_first_rows<T: FromRow>(
     Ok(Due { count, carried })
 }
 
-/// Adds the entries of the next `count` lines, which are judged beside `bound` and what is carried to the first, and
-/// moves behind them.
+/// Adds the entries of the next `count` lines, which are judged beside `bound` and what is carried
+/// to the first, and moves behind them.
 pub fn read_rows<T: FromRow>(
     found: &mut Listing<T>,
     count: u32,
@@ -129,8 +115,8 @@ pub fn read_rows<T: FromRow>(
     Ok(())
 }
 
-/// What so many latches become and start at, as a binary file lists them, one on each line; the first latch has this
-/// literal. Goes behind these lines, unless one is not right.
+/// What so many latches become and start at, as a binary file lists them, one on each line; the
+/// first latch has this literal. Goes behind these lines, unless one is not right.
 pub fn next_states(
     alloc: Global,
     count: u32,

@@ -1,5 +1,6 @@
 //! Digits, eight bytes at a time.
-ghost use Rattle.std.specs.Prelude.{◌≡◌, ◌*◌, ◌-◌, ◌%◌, ◌^◌, ◌<◌, ◌≤◌, ℕ, List, length, take, nat_le, IfSome};
+ghost use Rattle.std.specs.Prelude.{◌≡◌, ◌*◌, ◌-◌, ◌%◌, ◌^◌, ◌<◌, ◌≤◌, ℕ, List};
+ghost use Rattle.std.specs.Prelude.{length, take, nat_le, IfSome};
 ghost use Rattle.std.specs.Float.Numeral.{digits_len};
 ghost use Rattle.std.specs.Int.Digits.{number_from_digits};
 ghost use Rattle.std.specs.Simd.Lanes.{number_l};
@@ -21,7 +22,8 @@ pub(crate) fn first_word(bytes: &[u8]) -> u64
 /// The number that eight digits spell, the first in the lowest byte.
 #[inline(always)]
 fn value_of_eight(word: u64) -> u64
-    ensures { (ds : List ℕ) → IsEightDigits ds → word ≡ number_l 256 ds → result ≡ number_from_digits 10 ds }
+    ensures { (ds : List ℕ) → IsEightDigits ds → word ≡ number_l 256 ds
+        → result ≡ number_from_digits 10 ds }
 {
     let pairs = word.wrapping_mul(10).wrapping_add(word >> 8);
     let first = (pairs & 0x0000_00ff_0000_00ff).wrapping_mul(100 + (1_000_000 << 32));
@@ -54,7 +56,8 @@ pub(crate) fn digits_of_word(word: u64, count: u32) -> Option<u64>
     requires some { 0 < count }
     requires fits { count ≤ 8 }
     ensures { (bytes : List ℕ) → IsEightBytes bytes → word ≡ number_l 256 bytes
-        → IfSome result (λ value. (count ≤ digits_len bytes) × (value ≡ digits_value 10 (take count bytes))) }
+        → IfSome result (λ value.
+        (count ≤ digits_len bytes) × (value ≡ digits_value 10 (take count bytes))) }
 {
     // the value of a byte that is a digit, and 10 or more of any other
     let digits = word ^ 0x3030_3030_3030_3030;

@@ -8,12 +8,12 @@ ghost use Rattle.aig_meaning.specs.Meaning.{MeansTheSame, Row as RowRecord, lite
 ghost use Rattle.aig_meaning.specs.Trace.{Follow};
 ghost use Rattle.aig_step.specs.Parts.Lines.{vector_in};
 ghost use Rattle.aig_step.specs.Parts.Tables.{IsLiteralBelow, read_from};
-ghost use Rattle.aig_witness.specs.Parts.Witnessing.{are_ones, is_one};
 ghost use Rattle.aig_search.specs.Finding.{SaysSteps, first_one, hit_from, shown_by};
 ghost use Rattle.aig_search.specs.Parts.{Took};
 
-use aig_core::{Lit, Val};
+use aig_core::Lit;
 use aig_step::{Stepper, Table};
+use aig_witness::{are_ones, is_one};
 
 /// A bad state, by its place, and the step at which it is reached.
 #[derive(Clone, Copy)]
@@ -31,24 +31,6 @@ pub(crate) enum Sight {
     Bad(usize),
     /// All constraints are 1, and no bad state is.
     Good,
-}
-
-fn is_one(value: Val) -> bool
-    ensures { result ≡ is_one value }
-{
-    matches!(value, Val::One)
-}
-
-fn are_ones(literals: &[Lit], values: &Table) -> bool
-    requires { All (IsLiteralBelow (length values.now)) literals.now }
-    ensures { result ≡ are_ones (map (literal_value (read_from values.now)) literals.now) }
-{
-    for literal in literals {
-        if !is_one(values.value(*literal)) {
-            return false;
-        }
-    }
-    true
 }
 
 fn first_one(literals: &[Lit], values: &Table) -> Option<usize>

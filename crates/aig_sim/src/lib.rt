@@ -1,12 +1,12 @@
 //! The simulator: steps of a circuit, the trace text of a stimulus, and witness files.
 //!
-//! Others call `simulate`, which takes a stimulus as it comes; `simulate_batched`, which reads it to its end and steps
-//! runs side by side; `confirm`, which judges a witness file; and, without texts, `Simulator` for single steps and
-//! `simulate_batch` for many runs.
+//! Others call `simulate`, which takes a stimulus as it comes; `simulate_batched`, which reads it
+//! to its end and steps runs side by side; `confirm`, which judges a witness file; and, without
+//! texts, `Simulator` for single steps and `simulate_batch` for many runs.
 //!
-//! Here is all of it by name. The code stands in `aig_step`, `aig_trace`, `aig_lanes`, `aig_batch`, `aig_runs` and
-//! `aig_witness`. The definitions that matter most are `stimulus`, `IsTraceText`, `TraceSays`, `Stepped`, `IsTraceOf`
-//! and `IsVerdict`.
+//! Here is all of it by name. The code stands in `aig_step`, `aig_trace`, `aig_lanes`, `aig_batch`,
+//! `aig_runs` and `aig_witness`. The definitions that matter most are `stimulus`, `IsTraceText`,
+//! `TraceSays`, `Stepped`, `IsTraceOf` and `IsVerdict`.
 #![tactic(auto)]
 
 pub mod laws;

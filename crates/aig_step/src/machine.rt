@@ -8,7 +8,7 @@ ghost use Rattle.aig_step.specs.Parts.Machines.{CanRun, ShowsBelow, circuit_of, 
 use crate::evaluate::{Pair, pairs_of};
 use aig_checked::{Checked, is_in_binary_order};
 use aig_circuit::{Circuit, Justice, Listing, OutOfMemory, Symbols};
-use aig_image::binary_image;
+use aig_image::{Steps, binary_image};
 use std::alloc::Global;
 use std::marker::Model;
 
@@ -78,7 +78,7 @@ impl Machine {
         if is_in_binary_order(checked) {
             return Machine::of_ordered(alloc, circuit);
         }
-        let image = binary_image(alloc, checked)?;
+        let image = binary_image(alloc, checked, &mut Steps::new())?;
         let made = Machine::of_ordered(alloc, image.as_checked().circuit());
         drop(image); // for the proof
         made

@@ -15,13 +15,11 @@ use aig_checked::Checked;
 use aig_circuit::{Circuit, OutOfMemory, Val};
 use std::alloc::Global;
 use std::marker::Model;
-use thiserror::Error;
 
 /// Why a step was not taken.
-#[derive(Clone, Copy, Debug, PartialEq, Eq, Error)]
+#[derive(Clone, Copy, Debug, PartialEq, Eq)]
 pub enum StepError {
     /// There is not one value for each input of the circuit.
-    #[error("{given} values for {inputs} inputs")]
     WrongInputCount {
         /// How many values were given.
         given: usize,

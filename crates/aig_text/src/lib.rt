@@ -28,6 +28,6 @@ pub use crate::writer::{
     put_numbers, put_tail, reset_number, write_ascii,
 };
 pub use aig_rows::{
-    CANNOT_READ, CANNOT_WRITE, Message, NextState, OUT_OF_MEMORY, Place, ReadFault, ReadKind, Role,
-    RowForm, canonical_number, next_states, numbers,
+    CANNOT_READ, CANNOT_WRITE, Message, NextState, OUT_OF_MEMORY, Place, ReadFault, ReadKind,
+    canonical_number, next_states,
 };

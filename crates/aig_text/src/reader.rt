@@ -15,7 +15,9 @@ use crate::header_line::ASCII_WORD;
 use crate::limits::Limits;
 use crate::parts::{header, tail};
 use crate::pieces::Progress;
-use aig_core::{CheckFault, Checked, Circuit, Justice, Keep, Listing, Symbols, check_keeping};
+use aig_core::{
+    CheckFault, Checked, Circuit, Justice, Keep, Listing, Steps, Symbols, check_keeping,
+};
 use aig_lines::Cursor;
 use aig_rows::{Place, ReadFault, ReadKind};
 use std::alloc::Global;
@@ -72,7 +74,7 @@ pub fn check_read(alloc: Global, circuit: Circuit, keep: Keep) -> Result<Checked
     ensures { GivesOrMemory (λ c. c) result
         (unless_faulty circuit (first_structural_fault circuit)) }
 {
-    match check_keeping(alloc, circuit, keep) {
+    match check_keeping(alloc, circuit, keep, &mut Steps::new()) {
         Ok(checked) => Ok(checked),
         Err((circuit, fault)) => {
             drop(circuit); // for the proof

@@ -1,6 +1,6 @@
 //! The canonical ASCII text of a circuit, written to a sink in blocks.
 ghost use Rattle.std.specs.List.{flat_map};
-ghost use Rattle.std.specs.Prelude.{◌≡◌, ◌-◌, ◌<◌, ◌∷◌, ℕ, List, OnErr, OnOk};
+ghost use Rattle.std.specs.Prelude.{◌≡◌, ◌-◌, ◌<◌, ◌∷◌, ℕ, List, OnErr, OnOk, Some};
 ghost use Rattle.aig_io.specs.Output.{Put};
 ghost use Rattle.aig_io.specs.Devices.{CanFail, took, TookBeginning};
 ghost use Rattle.aig_text.specs.AsciiText.{ascii_text, comment_text, header_text};
@@ -8,6 +8,7 @@ ghost use Rattle.aig_text.specs.AsciiText.{line_text, more_numbers_text};
 ghost use Rattle.aig_text.specs.AsciiText.{numbers_text, row_text, shortened};
 ghost use Rattle.aig_text.specs.AsciiText.{spaced_number, symbol_text, tail_text};
 ghost use Rattle.aig_text.specs.Sections.{header_row, rows_of, literal_rows_of};
+ghost use Rattle.aig_rows.specs.Messages.{cannot_write_text};
 ghost use Rattle.aig_rows.specs.Rows.{gate_row, input_row, latch_row};
 ghost use Rattle.aig_rows.specs.Rows.{literal_row, reset_number, size_row};
 ghost use Rattle.aig_text.specs.declared.writer.TheConstants.{FEW};
@@ -17,15 +18,26 @@ use crate::header_line::{ASCII_WORD, HEADER_LEAST, HEADER_NUMBERS};
 use aig_core::{
     Checked, Circuit, DeviceFault, Gate, Latch, Listing, Lit, Output, Reset, Sink, Symbols, Var,
 };
-use thiserror::Error;
+use aig_rows::CANNOT_WRITE;
+use std::error::Error;
+use std::fmt;
 
 /// Why a text was not written whole.
-#[derive(Debug, Drop, Error)]
+#[derive(Debug, Drop)]
 pub enum WriteFault {
     /// The sink failed.
-    #[error("cannot write")]
     Device,
 }
+
+impl fmt::Display for WriteFault {
+    ghost output = { λ _. Some cannot_write_text };
+
+    fn fmt<W: fmt::Write>(&self, f: &mut fmt::Formatter<W>) -> fmt::Result {
+        write!(f, "{CANNOT_WRITE}")
+    }
+}
+
+impl Error for WriteFault {}
 
 impl From<DeviceFault> for WriteFault {
     ghost from_gives = { λ _ e. e ≡ Device };

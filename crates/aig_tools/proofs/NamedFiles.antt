@@ -240,6 +240,7 @@ module _ (IsText : List ℕ → List ℕ → Type 0) (IsRefused : ToolFault → 
   says_unsent (faults.Clauses f) bytes ending none = (none, refl)
   says_unsent (faults.Answer f) bytes ending none = (none, refl)
   says_unsent (faults.Refutation f) bytes ending none = (none, refl)
+  says_unsent (faults.Invariant f) bytes ending none = (none, refl)
   says_unsent faults.Source bytes ending none = (none, refl)
   says_unsent faults.Sink bytes ending none = absurd none
   says_unsent faults.OutOfMemory bytes ending none = (none, refl)

@@ -1,11 +1,13 @@
 -- How a call of the program ends: its status, and what it did with files and streams (this project's profile).
-use Rattle.std.specs.Prelude.{◌≡◌, ◌⊎◌, ℕ, List, Option, None, Some, Result, Ok, Err, codes, string_bytes}
+use Rattle.std.specs.Prelude.{◌≡◌, ◌⊎◌, ℕ, List, Bool, true, false, Option, None, Some, Result, Ok, Err, codes}
+use Rattle.std.specs.Prelude.{string_bytes}
 use Rattle.aig_io.specs.Devices.{Past, TookBeginning, took}
 use Rattle.aig_io.specs.Runs.{AtEnd, Ending, Taking}
 use Rattle.aig_circuit.specs.declared.circuit.Circuit.{Circuit}
 use Rattle.aig_command.specs.Answer.{IsCommand, IsUsage, name_of}
 use Rattle.aig_command.specs.declared.request.Command.{Command}
 use Rattle.aig_command.specs.declared.request.Command.TheVariants as commands
+use Rattle.aig_command.specs.declared.request.Invariant.{Invariant}
 use Rattle.aig_command.specs.declared.request.Reach.{Reach}
 use Rattle.aig_command.specs.declared.request.SolverFile.{SolverFile}
 use Rattle.aig_command.specs.declared.request.SolverFile.TheVariants as wrote
@@ -20,6 +22,8 @@ use Rattle.aig_engines.specs.Conversion.{IsConversionRefused, IsConversionText}
 use Rattle.aig_engines.specs.Unrolling.{IsUnrollingRefused, IsUnrollingText}
 use Rattle.aig_engines.specs.Messages.{error_line, line_naming, line_of, IsReported, shown, simulation_error_line}
 use Rattle.aig_engines.specs.Messages.{usage_text}
+use Rattle.aig_engines.specs.Proving.{IsInvariantText, IsModelProved, IsModelUnproved, IsNeverText, IsStrengthened}
+use Rattle.aig_engines.specs.Proving.{NotStrengthened}
 use Rattle.aig_engines.specs.Reaching.{IsModelAsked, IsModelRefused, IsReachRefused, IsReachText}
 use Rattle.aig_engines.specs.Reading.{NotRead}
 use Rattle.aig_engines.specs.Refuting.{IsNoneText, NotRefuted}
@@ -64,16 +68,49 @@ SolverSays wrote.Answer request asked = Says (IsReachText request asked) (IsReac
 SolverSays wrote.Refutation request asked =
     Says (λ bytes text. IsNoneText request asked text) (λ fault bytes. NotRefuted fault)
 
--- What a solver wrote was to be looked at: the model was not read or has no clauses, which is reported, and nothing else
--- was called; or this circuit was asked of it, and what was written on its clauses was read.
+-- A source was to be read, and then more to be done with what is made of it: it was not read or is refused, which is
+-- reported, and nothing else was called; or this was made of it, and so the rest ended.
+abbrev pub EndsBehind : {A : Type 0} → (A → List ℕ → Type 0) → (ToolFault → List ℕ → Type 0) → Option (List ℕ)
+    → (A → World → Type 0) → (before after : World) (errors errors_now : Past) → ℕ → Type 0
+EndsBehind {A} Holds IsRefused source Rest before after errors errors_now status =
+    ((fault : ToolFault) × ReadIn (NotRead IsRefused fault) source before after
+    × (status ≡ 1) × IsReported errors errors_now (line_naming (shown source) fault))
+    ⊎ ((made : A) × (read : World)
+    × ReadIn (λ bytes ending. (ending ≡ AtEnd) × Holds made bytes) source before read × Rest made read)
+
+-- What a solver wrote was to be looked at: behind the model, it was read on the clauses of the circuit that is asked for.
 abbrev pub ReachEnds : Reach → (before after : World) (errors errors_now : Past) → ℕ → Type 0
 ReachEnds request before after errors errors_now status =
-    ((fault : ToolFault) × ReadIn (NotRead (IsModelRefused request) fault) (name_of request.model) before after
-    × (status ≡ 1) × IsReported errors errors_now (line_naming (shown (name_of request.model)) fault))
-    ⊎ ((asked : Circuit) × (read : World)
-    × ReadIn (λ bytes ending. (ending ≡ AtEnd) × IsModelAsked request bytes asked) (name_of request.model) before read
-    × EndsBetween (SolverSays request.wrote request asked) (name_of request.file) (name_of request.destination) read
-    after errors errors_now status)
+    EndsBehind (λ asked bytes. IsModelAsked request bytes asked) (IsModelRefused request) (name_of request.model)
+    (λ asked read. EndsBetween (SolverSays request.wrote request asked) (name_of request.file)
+    (name_of request.destination) read after errors errors_now status)
+    before after errors errors_now status
+
+-- A refutation of the clauses of an invariant was to be looked at: behind the invariant of this circuit, it was read on
+-- those of the circuit in which that is to be shown.
+abbrev pub NeverEnds : Invariant → Circuit → (before after : World) (errors errors_now : Past) → ℕ → Type 0
+NeverEnds request asked before after errors errors_now status =
+    EndsBehind (λ strengthened bytes. IsStrengthened asked bytes strengthened) (NotStrengthened asked)
+    (name_of request.file)
+    (λ strengthened read. EndsBetween (Says (λ bytes text. IsNeverText request strengthened text)
+    (λ fault bytes. NotRefuted fault)) (name_of request.refutation) (name_of request.destination) read after errors
+    errors_now status)
+    before after errors errors_now status
+
+-- an invariant of this circuit was asked for: a refutation of its clauses, or the clauses
+abbrev pub AskedEnds : Bool → Invariant → Circuit → (before after : World) (errors errors_now : Past) → ℕ → Type 0
+AskedEnds true request asked before after errors errors_now status =
+    NeverEnds request asked before after errors errors_now status
+AskedEnds false request asked before after errors errors_now status =
+    EndsBetween (Says (IsInvariantText asked) (NotStrengthened asked)) (name_of request.file)
+    (name_of request.destination) before after errors errors_now status
+
+-- An invariant was to be looked at: behind the model, it was read of the circuit that is asked for.
+abbrev pub InvariantEnds : Invariant → (before after : World) (errors errors_now : Past) → ℕ → Type 0
+InvariantEnds request before after errors errors_now status =
+    EndsBehind (λ asked bytes. IsModelProved request bytes asked) (IsModelUnproved request) (name_of request.model)
+    (λ asked read. AskedEnds request.refuted request asked read after errors errors_now status)
+    before after errors errors_now status
 
 -- a simulation was asked for, or a verdict on a witness file
 abbrev pub SimulationEnds : Sim → (before after : World) (errors errors_now : Past) → ℕ → Type 0
@@ -110,6 +147,8 @@ EndsAs (Ok (commands.Unroll request)) before after errors errors_now status =
     (name_of request.destination) before after errors errors_now status
 EndsAs (Ok (commands.Reach request)) before after errors errors_now status =
     ReachEnds request before after errors errors_now status
+EndsAs (Ok (commands.Invariant request)) before after errors errors_now status =
+    InvariantEnds request before after errors errors_now status
 EndsAs (Ok (commands.Sim request)) before after errors errors_now status =
     SimulationEnds request before after errors errors_now status
 EndsAs (Ok (commands.Help text)) before after errors errors_now status =

@@ -4,17 +4,22 @@ ghost use Rattle.aig_io.specs.Devices.{CanFail, Past};
 ghost use Rattle.aig_command.specs.Answer.{CanReach, name_of};
 ghost use Rattle.aig_engines.specs.File.{IsFileOf};
 ghost use Rattle.aig_engines.specs.Outcome.{Says};
+ghost use Rattle.aig_engines.specs.Proving.{IsModelProved, IsModelUnproved, IsStrengthened};
+ghost use Rattle.aig_engines.specs.Proving.{NotStrengthened};
 ghost use Rattle.aig_engines.specs.Reaching.{IsModelAsked, IsModelRefused};
 ghost use Rattle.aig_engines.specs.Reading.{IsUnreadable, ReadSays};
+ghost use Rattle.aig_engines.specs.Refuting.{CanUnroll};
 ghost use Rattle.aig_tools.specs.Named.{RanBetween, ReadIn, SentIn, TakesAs, world};
 ghost use Rattle.aig_tools.specs.SimulationOutcome.{RanForIn, TaskSays, task_of};
 ghost use Rattle.aig_unroll.specs.Unrolled.{IsTooLarge, IsUnsupported};
 
 use crate::simulation::perform;
 use crate::task::task_of;
-use aig_command::{Reach, Sim};
+use aig_command::{Invariant, Reach, Sim};
 use aig_core::{Checked, Keep, Sink, Source};
-use aig_engines::{Engine, ToolFault, read_asked, read_circuit};
+use aig_engines::{
+    Engine, ToolFault, read_asked, read_circuit, read_proving_model, read_strengthened,
+};
 use aig_files::{FileAccess, NamedSink, NamedSource};
 use aig_text::WriteFault;
 use aig_witness::Verdict;
@@ -107,6 +112,68 @@ pub(crate) fn read_model_asked<A: FileAccess, R: Source>(
             asked
         }
         None => read_asked(alloc, request, input),
+    }
+}
+
+/// Reads the model that a request names of which an invariant is to be shown, and takes the bad
+/// state alone that it asks for.
+pub(crate) fn read_model_proved<A: FileAccess, R: Source>(
+    alloc: Global,
+    access: &mut A,
+    request: &Invariant,
+    input: &mut R,
+) -> Result<Checked, ToolFault>
+    requires input { CanFail (R.past input.old) }
+    requires idle { (A.files access.old).current ≡ None }
+    ensures idle { (A.files access.new).current ≡ None }
+    ensures read { (output : Past) → ReadIn
+        (ReadSays (λ asked bytes. IsModelProved request.now bytes asked)
+        (IsModelUnproved request.now) result)
+        (name_of request.now.model) (world (A.files access.old) (R.past input.old) output)
+        (world (A.files access.new) (R.past input.new) output) }
+    ensures unfailed { IfOk result (λ _.
+        (R.past input.new).failures ≡ (R.past input.old).failures) }
+{
+    match &request.model {
+        Some(name) => {
+            let mut file = NamedSource::new(access, name.as_str());
+            let asked = read_proving_model(alloc, request, &mut file);
+            file.finish();
+            asked
+        }
+        None => read_proving_model(alloc, request, input),
+    }
+}
+
+/// Reads the invariant with this name, of the circuit that is asked for, and makes the circuit in
+/// which it is to be shown.
+pub(crate) fn read_invariant<A: FileAccess, R: Source>(
+    alloc: Global,
+    access: &mut A,
+    name: &Option<String>,
+    asked: Checked,
+    input: &mut R,
+) -> Result<Checked, ToolFault>
+    requires input { CanFail (R.past input.old) }
+    requires idle { (A.files access.old).current ≡ None }
+    ensures idle { (A.files access.new).current ≡ None }
+    ensures read { (output : Past) → ReadIn
+        (ReadSays (λ strengthened bytes. IsStrengthened asked bytes strengthened)
+        (NotStrengthened asked) result)
+        (name_of name.now) (world (A.files access.old) (R.past input.old) output)
+        (world (A.files access.new) (R.past input.new) output) }
+    ensures can_unroll { IfOk result (λ strengthened. CanUnroll strengthened 1) }
+    ensures unfailed { IfOk result (λ _.
+        (R.past input.new).failures ≡ (R.past input.old).failures) }
+{
+    match name {
+        Some(name) => {
+            let mut file = NamedSource::new(access, name.as_str());
+            let strengthened = read_strengthened(alloc, asked, &mut file);
+            file.finish();
+            strengthened
+        }
+        None => read_strengthened(alloc, asked, input),
     }
 }
 

@@ -5,22 +5,22 @@ ghost use Rattle.aig_command.specs.Aiger.{most_frames};
 ghost use Rattle.aig_command.specs.Answer.{CanReach, name_of, texts};
 ghost use Rattle.aig_engines.specs.Outcome.{Says};
 ghost use Rattle.aig_engines.specs.Messages.{memory_line, IsReported, usage_text, words_line};
-ghost use Rattle.aig_tools.specs.Ending.{done_status, Ends, EndsBetween, IsPrinted};
-ghost use Rattle.aig_tools.specs.Ending.{ReachEnds, SimulationEnds, SolverSays, status_of};
+ghost use Rattle.aig_tools.specs.Ending.{AskedEnds, done_status, Ends, EndsBetween};
+ghost use Rattle.aig_tools.specs.Ending.{InvariantEnds, IsPrinted, NeverEnds, ReachEnds};
+ghost use Rattle.aig_tools.specs.Ending.{SimulationEnds, SolverSays, status_of};
 ghost use Rattle.aig_tools.specs.Named.{world};
 ghost use Rattle.aig_unroll.specs.Unrolled.{IsTooLarge, IsUnsupported};
 
-use crate::named::{read_model_asked, run_between, run_model};
-use aig_command::{Command, Reach, Sim, SolverFile, Usage, command};
+use crate::named::{read_invariant, read_model_asked, read_model_proved, run_between, run_model};
+use aig_command::{Command, Invariant, Reach, Sim, SolverFile, Usage, command};
 use aig_core::{Checked, Output, Sink, Source};
 use aig_engines::{
-    AnswerFor, Engine, RefutationFor, report_error, report_memory, report_simulation_error,
-    report_source_error, report_unwritten, report_usage, report_words,
+    AnswerFor, Engine, InvariantFor, NeverFor, RefutationFor, report_error, report_memory,
+    report_simulation_error, report_source_error, report_unwritten, report_usage, report_words,
 };
-use aig_files::{FileAccess, HostFiles};
+use aig_files::FileAccess;
 use aig_witness::Verdict;
 use std::alloc::Global;
-use std::rt::Files;
 
 /// Done as asked.
 const DONE: u8 = 0;
@@ -138,6 +138,106 @@ fn run_reach<A: FileAccess, R: Source, W: Sink, E: Sink>(
     }
 }
 
+/// Reads an invariant of this circuit and a solver's refutation of its clauses, writes that no bad
+/// state is ever reached, reports a fault, and answers the status.
+fn run_never<A: FileAccess, R: Source, W: Sink, E: Sink>(
+    alloc: Global,
+    access: &mut A,
+    request: Invariant,
+    asked: Checked,
+    input: &mut R,
+    output: &mut W,
+    errors: &mut E,
+) -> u8
+    requires input { CanFail (R.past input.old) }
+    requires output { CanFail (W.past output.old) }
+    requires errors { CanFail (E.past errors.old) }
+    requires idle { (A.files access.old).current ≡ None }
+    ensures idle { (A.files access.new).current ≡ None }
+    ensures ends { NeverEnds request asked
+        (world (A.files access.old) (R.past input.old) (W.past output.old))
+        (world (A.files access.new) (R.past input.new) (W.past output.new))
+        (E.past errors.old) (E.past errors.new) result }
+{
+    match read_invariant(alloc, access, &request.file, asked, input) {
+        Ok(strengthened) => {
+            let never = NeverFor {
+                request,
+                strengthened,
+            };
+            let status = run_reporting(alloc, access, &never, input, output, errors);
+            drop(never); // for the proof
+            status
+        }
+        Err(fault) => {
+            report_source_error(errors, &request.file, &fault);
+            drop(request); // for the proof
+            FAILED
+        }
+    }
+}
+
+/// Reads an invariant of this circuit and does with it what is asked for, reports a fault, and
+/// answers the status.
+fn run_invariant_of<A: FileAccess, R: Source, W: Sink, E: Sink>(
+    alloc: Global,
+    access: &mut A,
+    request: Invariant,
+    asked: Checked,
+    input: &mut R,
+    output: &mut W,
+    errors: &mut E,
+) -> u8
+    requires input { CanFail (R.past input.old) }
+    requires output { CanFail (W.past output.old) }
+    requires errors { CanFail (E.past errors.old) }
+    requires idle { (A.files access.old).current ≡ None }
+    ensures idle { (A.files access.new).current ≡ None }
+    ensures ends { AskedEnds request.refuted request asked
+        (world (A.files access.old) (R.past input.old) (W.past output.old))
+        (world (A.files access.new) (R.past input.new) (W.past output.new))
+        (E.past errors.old) (E.past errors.new) result }
+{
+    if request.refuted {
+        return run_never(alloc, access, request, asked, input, output, errors);
+    }
+    let invariant = InvariantFor { request, asked };
+    let status = run_reporting(alloc, access, &invariant, input, output, errors);
+    drop(invariant); // for the proof
+    status
+}
+
+/// Reads a model and an invariant of it, writes the clauses in which that is to be shown, or what a
+/// refutation of them shows, reports a fault, and answers the status.
+#[inline(never)]
+fn run_invariant<A: FileAccess, R: Source, W: Sink, E: Sink>(
+    alloc: Global,
+    access: &mut A,
+    request: Invariant,
+    input: &mut R,
+    output: &mut W,
+    errors: &mut E,
+) -> u8
+    requires input { CanFail (R.past input.old) }
+    requires output { CanFail (W.past output.old) }
+    requires errors { CanFail (E.past errors.old) }
+    requires idle { (A.files access.old).current ≡ None }
+    ensures idle { (A.files access.new).current ≡ None }
+    ensures ends { InvariantEnds request
+        (world (A.files access.old) (R.past input.old) (W.past output.old))
+        (world (A.files access.new) (R.past input.new) (W.past output.new))
+        (E.past errors.old) (E.past errors.new) result }
+{
+    match read_model_proved(alloc, access, &request, input) {
+        Ok(asked) => run_invariant_of(alloc, access, request, asked, input, output, errors),
+        Err(fault) => {
+            report_source_error(errors, &request.model, &fault);
+            drop(request); // for the proof
+            FAILED
+        }
+    }
+}
+
 /// The status where what was asked for is done. That a witness is not confirmed is an answer, but
 /// no success.
 fn done_status(verdict: Option<Verdict>) -> u8
@@ -241,6 +341,9 @@ pub fn serve<A: FileAccess, R: Source, W: Sink, E: Sink>(
             run_reporting(alloc, access, &request, input, output, errors)
         }
         Ok(Command::Reach(request)) => run_reach(alloc, access, request, input, output, errors),
+        Ok(Command::Invariant(request)) => {
+            run_invariant(alloc, access, request, input, output, errors)
+        }
         Ok(Command::Sim(request)) => {
             run_simulation(alloc, access, &request, input, output, errors)
         }
@@ -248,29 +351,6 @@ pub fn serve<A: FileAccess, R: Source, W: Sink, E: Sink>(
         Ok(Command::Version(text)) => print_text(text.as_str(), output, errors),
         Err(usage) => refuse(errors, &usage),
     }
-}
-
-/// As `serve`, over the files of the runtime.
-pub fn start<'a, T: Files, R: Source, W: Sink, E: Sink>(
-    files: &mut HostFiles<'a, T>,
-    alloc: Global,
-    words: &[String],
-    input: &mut R,
-    output: &mut W,
-    errors: &mut E,
-) -> u8
-    requires input { CanFail (R.past input.old) }
-    requires output { CanFail (W.past output.old) }
-    requires errors { CanFail (E.past errors.old) }
-    requires idle { (⟦<HostFiles<'a, T> as FileAccess>⟧.files files.old).current ≡ None }
-    ensures idle { (⟦<HostFiles<'a, T> as FileAccess>⟧.files files.new).current ≡ None }
-    ensures ends { Ends (texts words.now)
-        (world (⟦<HostFiles<'a, T> as FileAccess>⟧.files files.old) (R.past input.old) (W.past output.old))
-        (world (⟦<HostFiles<'a, T> as FileAccess>⟧.files files.new) (R.past input.new) (W.past output.new))
-        (E.past errors.old) (E.past errors.new) result }
-    ensures status { result ≤ 2 }
-{
-    serve(files, alloc, words, input, output, errors)
 }
 
 /// Reports that an argument is no text, and answers the status.

@@ -1,12 +1,11 @@
 -- The search for a gate that depends on a cycle, depth first.
 use Rattle.std.specs.Prelude.{ℕ, zero, suc, ◌≡◌, ◌≢◌, ◌==◌, ◌+◌, ◌-◌, ◌<◌, ◌≤◌, List, [], ◌++◌, Bool, true, false}
 use Rattle.std.specs.Prelude.{Option, Some, None, map, length, slice_index, slice_index_or, nat_lt, cond}
-use Rattle.std.specs.List.{count_by, list_all, sum}
+use Rattle.std.specs.List.{count_by, list_all}
 use Rattle.std.specs.Option.{option_to_list, unwrap_or}
 use Rattle.aig_circuit.specs.declared.circuit.Gate.{Gate}
 use Rattle.aig_topo.specs.declared.cycle.Pair.{Pair}
 use Rattle.aig_topo.specs.declared.cycle.Search.{Search}
-use Rattle.aig_topo.specs.declared.cycle.CycleSearch.{CycleSearch}
 use Rattle.aig_circuit.specs.Literal.{variable_of}
 use Rattle.aig_circuit.specs.Wellformed.{IsAmong}
 use Rattle.aig_topo.specs.Order.{gate_of}
@@ -73,8 +72,3 @@ pub record IsAtEnd (way : List ℕ) (gate : ℕ) : Type 0 where
 -- nothing that is known of a gate is forgotten
 abbrev pub IsRisen : List ℕ → List ℕ → Type 0
 IsRisen old new = (g : ℕ) → slice_index old g ≤ slice_index new g
-
--- how many steps were made: one for each gate that was met, and one more for each that is done. The state of no gate is
--- none of them.
-abbrev pub steps_made : CycleSearch → ℕ
-steps_made search = sum search.states.items - 2

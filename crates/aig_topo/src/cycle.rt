@@ -1,17 +1,18 @@
 //! The first gate that depends on a cycle, found depth first: no order of the gates is made.
 ghost use Rattle.std.specs.Prelude.{◌≡◌, ◌≢◌, ◌+◌, ◌-◌, ◌*◌, ◌<◌, ◌≤◌, ℕ, [], ◌∷◌};
 ghost use Rattle.std.specs.Prelude.{◌++◌, length, map, take, true, false};
-ghost use Rattle.std.specs.Prelude.{slice_index, slice_set, slice_get, IfOk, OnOk, IfNone};
+ghost use Rattle.std.specs.Prelude.{slice_index, slice_set, slice_get, IfOk, OnOk, OnErr, IfNone};
 ghost use Rattle.std.specs.Option.{IfSome, unwrap_or};
 ghost use Rattle.std.specs.List.{position, sum};
 ghost use Rattle.std.specs.FinMap.{get};
 ghost use Rattle.aig_circuit.specs.Literal.{variable_of};
 ghost use Rattle.aig_circuit.specs.Wellformed.{IsAmong};
 ghost use Rattle.aig_topo.specs.Order.{depends_on_cycle};
-ghost use Rattle.aig_topo.specs.Cycle.{pair_of, needs_in, comes_to_end, steps_made};
+ghost use Rattle.aig_topo.specs.Cycle.{pair_of, needs_in, comes_to_end};
 ghost use Rattle.aig_topo.specs.Cycle.{IsAtEnd, IsSearch, IsRisen};
 
 use crate::operands::gate_index;
+use crate::steps::Steps;
 use aig_circuit::{Circuit, LARGEST, Lit};
 use aig_tables::VarMap;
 use std::alloc::{AllocError, Global};
@@ -71,6 +72,7 @@ impl Search {
         ensures operands { IfOk result (λ search.
             search.operands.items ≡ map (pair_of circuit.now.gates) circuit.now.gates) }
         ensures way { IfOk result (λ search. search.way.items ≡ []) }
+        ensures states { IfOk result (λ search. sum search.states.items ≡ 2) }
         ensures search { IfOk result (λ search. IsSearch search) }
     {
         let operands = all_pairs(alloc, circuit)?;
@@ -114,9 +116,9 @@ impl Search {
         None
     }
 
-    /// Goes on to a gate that was not looked at yet.
+    /// Goes on to a gate that was not looked at yet, as one step.
     #[inline(always)]
-    fn enter(&mut self, gate: u32) -> Result<(), AllocError>
+    fn enter(&mut self, gate: u32, steps: &mut Steps) -> Result<(), AllocError>
         requires there { gate < length self.old.operands.items }
         requires search { IsSearch self.old }
         requires unseen { slice_index self.old.states.items gate ≡ UNSEEN }
@@ -129,15 +131,18 @@ impl Search {
         ensures rises { OnOk result (IsRisen self.old.states.items self.new.states.items) }
         ensures by_one { OnOk result (sum self.new.states.items ≡ sum self.old.states.items + 1) }
         ensures operands { OnOk result (self.new.operands.items ≡ self.old.operands.items) }
+        ensures step { OnOk result (steps.new.count ≡ steps.old.count + 1) }
+        ensures no_step { OnErr result (steps.new.count ≡ steps.old.count) }
     {
         self.states[gate as usize] = MET;
         self.way.push(gate)?;
+        steps.add(1);
         Ok(())
     }
 
-    /// Goes back from a gate, which is done.
+    /// Goes back from a gate, which is done, as one step.
     #[inline(always)]
-    fn leave(&mut self, gate: u32)
+    fn leave(&mut self, gate: u32, steps: &mut Steps)
         requires search { IsSearch self.old }
         requires at_end { IsAtEnd self.old.way.items gate }
         requires served { (h : ℕ) → IsAmong h (needs_in self.old.operands.items gate)
@@ -147,13 +152,15 @@ impl Search {
         ensures rises { IsRisen self.old.states.items self.new.states.items }
         ensures by_one { sum self.new.states.items ≡ sum self.old.states.items + 1 }
         ensures operands { self.new.operands.items ≡ self.old.operands.items }
+        ensures step { steps.new.count ≡ steps.old.count + 1 }
     {
         self.states[gate as usize] = DONE;
         self.way.pop();
+        steps.add(1);
     }
 
     /// Looks at all that a gate depends on, and answers whether it depends on a cycle.
-    fn leads_to_cycle(&mut self, root: u32) -> Result<bool, AllocError>
+    fn leads_to_cycle(&mut self, root: u32, steps: &mut Steps) -> Result<bool, AllocError>
         requires there { root < length self.old.operands.items }
         requires search { IsSearch self.old }
         requires way { self.old.way.items ≡ [] }
@@ -165,66 +172,49 @@ impl Search {
         ensures way { IfOk result (λ found. found ≡ false → self.new.way.items ≡ []) }
         ensures rises { OnOk result (IsRisen self.old.states.items self.new.states.items) }
         ensures operands { OnOk result (self.new.operands.items ≡ self.old.operands.items) }
+        ensures steps { OnOk result (steps.new.count + sum self.old.states.items
+            ≡ steps.old.count + sum self.new.states.items) }
+        ensures few { OnErr result (steps.new.count + sum self.old.states.items
+            ≤ steps.old.count + 2 * length self.old.operands.items + 2) }
     {
         if self.states[root as usize] == DONE {
             return Ok(false);
         }
-        self.enter(root)?;
+        self.enter(root, steps)?;
         while let Some(gate) = self.looked_at() {
             let Some(next) = self.open_operand(gate) else {
-                self.leave(gate);
+                self.leave(gate, steps);
                 continue;
             };
             if self.states[next as usize] == MET {
                 return Ok(true);
             }
-            self.enter(next)?;
+            self.enter(next, steps)?;
         }
         Ok(false)
     }
 }
 
-/// A search for a gate that depends on a cycle, once it is over. Each gate that it came to is one
-/// step, and so is each that it left.
-#[derive(Drop)]
-pub struct CycleSearch {
-    /// The position of the first gate that depends on a cycle.
-    pub first: Option<usize>,
-    /// What is known of each gate at last, which tells the steps.
-    states: Vec<u8>,
-}
-
-/// Searches for the first gate that depends on a cycle, and comes to no gate twice: where there is
-/// none, each gate is two steps.
-pub fn search_for_cycle(alloc: Global, circuit: &Circuit) -> Result<CycleSearch, AllocError>
+/// The position of the first gate that depends on a cycle. Each gate that the search comes to is
+/// one step, and so is each that it leaves: it comes to none twice, and where there is no cycle
+/// each gate is two steps.
+pub fn search_for_cycle(
+    alloc: Global,
+    circuit: &Circuit,
+    steps: &mut Steps,
+) -> Result<Option<usize>, AllocError>
     requires { length circuit.now.gates ≤ LARGEST }
-    ensures first { IfOk result (λ search. search.first
+    ensures first { IfOk result (λ first. first
         ≡ position (depends_on_cycle circuit.now.gates) circuit.now.gates) }
-    ensures few { IfOk result (λ search. steps_made search ≤ 2 * length circuit.now.gates) }
-    ensures each { IfOk result (λ search. search.first ≡ None
-        → steps_made search ≡ 2 * length circuit.now.gates) }
+    ensures few { steps.new.count ≤ steps.old.count + 2 * length circuit.now.gates }
+    ensures each { IfOk result (λ first. first ≡ None
+        → steps.new.count ≡ steps.old.count + 2 * length circuit.now.gates) }
 {
     let mut search = Search::new(alloc, circuit)?;
     for gate in 0..circuit.gates.len() {
-        if search.leads_to_cycle(gate as u32)? {
-            return Ok(CycleSearch {
-                first: Some(gate),
-                states: search.states,
-            });
+        if search.leads_to_cycle(gate as u32, steps)? {
+            return Ok(Some(gate));
         }
     }
-    Ok(CycleSearch {
-        first: None,
-        states: search.states,
-    })
-}
-
-/// The position of the first gate that depends on a cycle.
-pub fn first_cyclic_gate(alloc: Global, circuit: &Circuit) -> Result<Option<usize>, AllocError>
-    requires { length circuit.now.gates ≤ LARGEST }
-    ensures { IfOk result (λ found. found
-        ≡ position (depends_on_cycle circuit.now.gates) circuit.now.gates) }
-{
-    let search = search_for_cycle(alloc, circuit)?;
-    Ok(search.first)
+    Ok(None)
 }

@@ -7,6 +7,7 @@ use crate::least_ready::ready::Ready;
 use crate::least_ready::taking::Search;
 use crate::lists::GateNeeds;
 use crate::order::Order;
+use crate::steps::Steps;
 use aig_circuit::{Circuit, LARGEST, OutOfMemory};
 use std::alloc::Global;
 
@@ -20,6 +21,7 @@ pub fn order_by_needs(
     alloc: Global,
     circuit: &Circuit,
     needs: GateNeeds,
+    steps: &mut Steps,
 ) -> Result<Order, OutOfMemory>
     requires few { length circuit.now.gates ≤ LARGEST }
     requires needs { AreNeedsOf circuit.now.gates needs }
@@ -30,10 +32,11 @@ pub fn order_by_needs(
         ≡ left_over order.list (gate_operands circuit.now.gates gate)) }
     ensures steps { IfOk result (λ order. order.steps
         ≡ length order.list + operands_over circuit.now order.list) }
-    ensures few { IfOk result (λ order. order.steps ≤ 3 * length circuit.now.gates) }
+    ensures counted { IfOk result (λ order. steps.old.count + order.steps ≤ steps.new.count) }
+    ensures few { steps.new.count ≤ steps.old.count + 3 * length circuit.now.gates }
 {
     let lists = needs.lists;
-    let order = Order::waiting_for(alloc, needs.counts)?;
+    let order = Order::waiting_for(alloc, needs.counts, steps)?;
     let ready = Ready::new(alloc, circuit.gates.len() as u32)?;
     let mut search = Search {
         order,
@@ -47,7 +50,7 @@ pub fn order_by_needs(
 
 /// The least ready order of a circuit's gates. Each listed gate is one step, and so is each operand
 /// over its variable; every gate still waits for its operands over gates that are not listed.
-pub fn gate_order(alloc: Global, circuit: &Circuit) -> Result<Order, OutOfMemory>
+pub fn gate_order(alloc: Global, circuit: &Circuit, steps: &mut Steps) -> Result<Order, OutOfMemory>
     requires { length circuit.now.gates ≤ LARGEST }
     ensures least { IfOk result (λ order. IsLeastReadyOrder circuit.now order.list) }
     ensures as_many { IfOk result (λ order. length order.waiting ≡ length circuit.now.gates) }
@@ -56,8 +59,9 @@ pub fn gate_order(alloc: Global, circuit: &Circuit) -> Result<Order, OutOfMemory
         ≡ left_over order.list (gate_operands circuit.now.gates gate)) }
     ensures steps { IfOk result (λ order. order.steps
         ≡ length order.list + operands_over circuit.now order.list) }
-    ensures few { IfOk result (λ order. order.steps ≤ 3 * length circuit.now.gates) }
+    ensures counted { IfOk result (λ order. steps.old.count + order.steps ≤ steps.new.count) }
+    ensures few { steps.new.count ≤ steps.old.count + 3 * length circuit.now.gates }
 {
     let needs = GateNeeds::new(alloc, circuit)?;
-    order_by_needs(alloc, circuit, needs)
+    order_by_needs(alloc, circuit, needs, steps)
 }

@@ -1,9 +1,8 @@
 //! The order of a circuit's gates, and cycles among them.
 //!
-//! Others call `gate_order`, which makes the least ready order of the gates and counts its steps;
-//! `Order`, which it is; `GateNeeds`, by which a caller sees first what gates need, with
-//! `order_by_needs`; and `first_cyclic_gate`, which finds a cycle without an order, by
-//! `search_for_cycle`, which counts its steps too.
+//! Others call `gate_order`, which makes the least ready order of the gates; `Order`, which it is;
+//! `GateNeeds`, by which a caller sees first what gates need, with `order_by_needs`; and
+//! `search_for_cycle`, which finds a cycle without an order. `Steps` counts the steps of them all.
 //!
 //! The definition that matters most is `IsLeastReadyOrder`.
 #![tactic(auto)]
@@ -13,9 +12,11 @@ mod least_ready;
 mod lists;
 mod operands;
 mod order;
+mod steps;
 
-pub use crate::cycle::{CycleSearch, first_cyclic_gate, search_for_cycle};
+pub use crate::cycle::search_for_cycle;
 pub use crate::least_ready::{gate_order, order_by_needs};
 pub use crate::lists::GateNeeds;
 pub use crate::operands::Needs;
 pub use crate::order::Order;
+pub use crate::steps::Steps;

@@ -2,7 +2,7 @@
 //! steps change through `take` and `count_down` alone.
 ghost use Rattle.std.specs.Prelude.{◌≡◌, ◌==◌, ◌+◌, ◌-◌, ◌*◌, ◌/◌, ◌<◌};
 ghost use Rattle.std.specs.Prelude.{◌≤◌, ℕ, [], ◌∷◌, ◌++◌, length, map};
-ghost use Rattle.std.specs.Prelude.{slice_index, slice_set, true, if◌then◌else◌, IfOk};
+ghost use Rattle.std.specs.Prelude.{slice_index, slice_set, true, if◌then◌else◌, IfOk, OnOk};
 ghost use Rattle.std.specs.List.{AllByRecursion};
 ghost use Rattle.std.specs.Option.{IfSome, IfNone};
 ghost use Rattle.aig_circuit.specs.Wellformed.{IsAmong};
@@ -11,6 +11,7 @@ ghost use Rattle.aig_topo.specs.Order.{gates_under};
 ghost use Rattle.aig_topo.specs.Progress.{has_gate};
 
 use crate::lists::Lists;
+use crate::steps::Steps;
 use aig_circuit::{Circuit, LARGEST, OutOfMemory};
 use std::alloc::{AllocError, Global};
 use std::marker::Model;
@@ -56,13 +57,20 @@ fn has_mark(marks: &[u64], number: usize) -> bool
 }
 
 impl Order {
+    /// The steps of an order are counted before they are made, as many as it can take.
     #[tactic(auto, using(crate::proofs::Ordering::Counted::begins))]
-    pub(crate) fn waiting_for(alloc: Global, waiting: Vec<u8>) -> Result<Self, AllocError>
+    pub(crate) fn waiting_for(
+        alloc: Global,
+        waiting: Vec<u8>,
+        steps: &mut Steps,
+    ) -> Result<Self, AllocError>
         requires few { length waiting.items ≤ LARGEST }
         requires at_most_two { AllByRecursion (λ w. w ≤ 2) waiting.items }
-        ensures { IfOk result (λ order. order
+        ensures begun { IfOk result (λ order. order
             ≡ record { list = []; waiting = waiting.items; steps = 0 }) }
+        ensures counted { steps.new.count ≡ steps.old.count + 3 * length waiting.items }
     {
+        steps.add(3 * waiting.len() as u64);
         Ok(Order {
             positions: vec![in alloc; 0; waiting.len()]?,
             taken: 0,
@@ -73,16 +81,19 @@ impl Order {
     }
 
     /// No gate taken: each waits for its operands over gates, left and right counted apart.
-    pub fn new(alloc: Global, circuit: &Circuit) -> Result<Self, OutOfMemory>
+    pub fn new(alloc: Global, circuit: &Circuit, steps: &mut Steps) -> Result<Self, OutOfMemory>
         requires { length circuit.now.gates ≤ LARGEST }
-        ensures { IfOk result (λ order. order ≡ record {
+        ensures begun { IfOk result (λ order. order ≡ record {
           list = [];
           waiting = map (λ g. length (gates_under circuit.now.gates g)) circuit.now.gates;
           steps = 0;
         }) }
+        ensures counted { OnOk result
+            (steps.new.count ≡ steps.old.count + 3 * length circuit.now.gates) }
+        ensures few { steps.new.count ≤ steps.old.count + 3 * length circuit.now.gates }
     {
         let (_lists, counts) = Lists::new(alloc, circuit)?;
-        Ok(Order::waiting_for(alloc, counts)?)
+        Ok(Order::waiting_for(alloc, counts, steps)?)
     }
 
     /// The positions of the gates, in the order in which they were taken.

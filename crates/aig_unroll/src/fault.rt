@@ -2,7 +2,9 @@
 ghost use Rattle.std.specs.Prelude.{◌≡◌, Some};
 ghost use Rattle.aig_rows.specs.Messages.{message_text};
 ghost use Rattle.aig_unroll.specs.Messages.{clause_fault_text, unroll_fault_text};
-ghost use Rattle.aig_unroll.specs.declared.fault.UnrollFault.TheVariants.{OutOfMemory as IsOutOfMemory};
+ghost use Rattle.aig_unroll.specs.declared.fault.UnrollFault.TheVariants.{
+  OutOfMemory as IsOutOfMemory,
+};
 
 use aig_core::OutOfMemory;
 use aig_text::{Message, OUT_OF_MEMORY};

@@ -20,7 +20,7 @@ use crate::writing::{
 use aig_binary::BINARY_WORD;
 use aig_cnf::{put_clause, put_clause_end, put_clauses_header};
 use aig_core::{Checked, Circuit, Gate, Lit, Ordered, OutOfMemory, Output, Sink, Var};
-use aig_image::into_binary;
+use aig_image::{Steps, into_binary};
 use aig_text::{ASCII_WORD, WriteFault, put_header};
 use std::alloc::Global;
 use std::marker::Model;
@@ -105,7 +105,7 @@ impl Unrolling {
     {
         match check_supported(checked.circuit(), frames) {
             Ok(()) => {
-                let image = into_binary(alloc, checked)?;
+                let image = into_binary(alloc, checked, &mut Steps::new())?;
                 Ok(Unrolling::of_image(alloc, image, frames)?)
             }
             Err(fault) => {

@@ -13,7 +13,7 @@ use crate::frames::{Frames, count_uninitialised};
 use aig_core::{
     Checked, Circuit, Gate, Justice, LARGEST, Listing, Lit, Ordered, OutOfMemory, Symbols, Var,
 };
-use aig_image::binary_image;
+use aig_image::{Steps, binary_image};
 use std::alloc::{AllocError, Global};
 
 /// Each bad state has a gate, so there are never too many of these alone.
@@ -196,7 +196,7 @@ pub fn unroll(alloc: Global, checked: &Checked, frames: u32) -> Result<Ordered, 
     ensures err { IfErr result (NotUnrolled checked.now frames) }
 {
     check_supported(checked.circuit(), frames)?;
-    let image = binary_image(alloc, checked)?;
+    let image = binary_image(alloc, checked, &mut Steps::new())?;
     let circuit = unroll_image(alloc, image, frames)?;
     Ok(Ordered::from_well_ordered(circuit))
 }

@@ -35,7 +35,7 @@ pub fn dumps_lose_nothing()
     ensures { DumpsLoseNothing }
 {}
 
-/// A dump without its end loses nothing either, of all the lines that came: it is the dump of one trace text at most.
+/// A dump without its end loses no line that came either: it is that of one trace text at most.
 pub fn begun_dumps_lose_nothing()
     ensures { BegunDumpsLoseNothing }
 {}

@@ -67,14 +67,14 @@ impl Model for Checker {
 }
 
 /// Whether the value is 1.
-fn is_one(value: Val) -> bool
+pub fn is_one(value: Val) -> bool
     ensures { result ≡ is_one value }
 {
     matches!(value, Val::One)
 }
 
 /// Whether each of the literals is 1.
-fn are_ones(literals: &[Lit], values: &Table) -> bool
+pub fn are_ones(literals: &[Lit], values: &Table) -> bool
     requires { All (IsLiteralBelow (length values.now)) literals.now }
     ensures { result ≡ are_ones (map (literal_value (read_from values.now)) literals.now) }
 {

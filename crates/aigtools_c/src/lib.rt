@@ -1,23 +1,27 @@
-//! The calls of `aig_library` for programs in C, and in languages that call C. `include/aigtools.h` declares and
-//! documents them.
+//! The calls of `aig_library` for programs in C, and in languages that call C. `include/aigtools.h`
+//! declares and documents them.
 #![tactic(auto)]
 
-ghost use Rattle.std.specs.Prelude.{◌≡◌, ◌≤◌};
+ghost use Rattle.std.specs.Prelude.{◌≡◌, ◌≤◌, false};
+ghost use Rattle.aig_command.specs.Aiger.{largest_index};
 ghost use Rattle.aig_command.specs.declared.builder.TheConstants.{VERSION};
 ghost use Rattle.aig_engines.specs.Conversion.{IsConversionRefused, IsConversionText};
 ghost use Rattle.aig_engines.specs.Simulation.{IsWrittenText};
 ghost use Rattle.aig_engines.specs.Unrolling.{IsUnrollingRefused, IsUnrollingText};
-ghost use Rattle.aig_library.specs.Answers.{Answers, DumpAnswers, IsAnswerRefused, IsAnswerText, IsSimulationRefused};
 ghost use Rattle.aig_command.specs.declared.request.SolverFile.TheVariants.{Answer};
-ghost use Rattle.aig_library.specs.Answers.{RefutationAnswers, WitnessAnswers};
-ghost use Rattle.aig_library.specs.Asked.{CanConvert, CanReach, CanSimulate, CanUnroll, clauses, conversion, reaching};
-ghost use Rattle.aig_library.specs.Asked.{simulation, unrolling};
+ghost use Rattle.aig_library.specs.Answers.{Answers, IsAnswerRefused, IsAnswerText};
+ghost use Rattle.aig_library.specs.Answers.{DumpAnswers, RefutationAnswers, WitnessAnswers};
+ghost use Rattle.aig_library.specs.Answers.{IsProvingRefused, IsProvingText, NeverAnswers};
+ghost use Rattle.aig_library.specs.Answers.{IsSimulationRefused};
+ghost use Rattle.aig_library.specs.Asked.{CanConvert, CanReach, CanSimulate, CanUnroll};
+ghost use Rattle.aig_library.specs.Asked.{clauses, conversion, proving};
+ghost use Rattle.aig_library.specs.Asked.{reaching, simulation, unrolling};
 ghost use Rattle.aig_library.specs.Message.{IsWritten, outcome_text};
 ghost use Rattle.aigtools_c.specs.Version.{version_text};
 
 use aig_library::{
-    Outcome, convert, dump_witness, message, reach, refute, simulate, unroll, witness,
-    write_clauses,
+    Outcome, convert, dump_witness, invariant_clauses, message, never, reach, refute, simulate,
+    unroll, witness, write_clauses,
 };
 use std::alloc::Global;
 
@@ -116,6 +120,44 @@ pub extern "C" fn aigtools_refute(
     ensures answers { RefutationAnswers bad frames max_var model.now outcome.new }
 {
     *outcome = refute(alloc, bad, frames, max_var, model, refutation);
+    outcome.status
+}
+
+/// Writes the clauses in which an invariant of the circuit of an AIGER file is to be shown.
+#[unsafe(no_mangle)]
+pub extern "C" fn aigtools_invariant_clauses(
+    alloc: Global,
+    bad: u32,
+    max_var: u32,
+    model: &[u8],
+    invariant: &[u8],
+    output: &mut [u8],
+    outcome: &mut Outcome,
+) -> u32
+    ensures status { result ≡ outcome.new.status }
+    ensures answers { let request = proving false bad max_var in
+        Answers (max_var ≤ largest_index) (IsProvingText request model.now invariant.now)
+        (IsProvingRefused request model.now invariant.now) output.old output.new outcome.new }
+{
+    *outcome = invariant_clauses(alloc, bad, max_var, model, invariant, output);
+    outcome.status
+}
+
+/// Checks a solver's refutation of these clauses.
+#[unsafe(no_mangle)]
+pub extern "C" fn aigtools_never(
+    alloc: Global,
+    bad: u32,
+    max_var: u32,
+    model: &[u8],
+    invariant: &[u8],
+    refutation: &[u8],
+    outcome: &mut Outcome,
+) -> u32
+    ensures status { result ≡ outcome.new.status }
+    ensures answers { NeverAnswers bad max_var model.now invariant.now outcome.new }
+{
+    *outcome = never(alloc, bad, max_var, model, invariant, refutation);
     outcome.status
 }
 

@@ -9,7 +9,7 @@ ghost use Rattle.aig_circuit.specs.Wellformed.{IsWellFormed};
 ghost use Rattle.example_count.specs.Depth.{IsDepth};
 
 use aig_binary::{Limits, read_file};
-use aig_core::{Circuit, Lit, OutOfMemory, ReadSource, VarMap, gate_order, read_all};
+use aig_core::{Circuit, Lit, OutOfMemory, ReadSource, Steps, VarMap, gate_order, read_all};
 use std::alloc::Global;
 use std::io;
 
@@ -26,7 +26,7 @@ fn depth(alloc: Global, circuit: &Circuit) -> Result<u32, OutOfMemory>
     requires { IsWellFormed circuit.now }
     ensures { IfOk result (IsDepth circuit.now) }
 {
-    let order = gate_order(alloc, circuit)?;
+    let order = gate_order(alloc, circuit, &mut Steps::new())?;
     let mut levels = VarMap::for_circuit(alloc, circuit)?;
     let mut depth: u32 = 0;
     for place in order.list() {

@@ -1,6 +1,6 @@
 //! Large circuits that are converted, undone and unrolled. What comes is in the contracts; that
 //! memory suffices is not.
-use aig_core::Checked;
+use aig_core::{Checked, Steps};
 use aig_order::{to_binary, to_binary_with_map, undo};
 use aig_text::{Limits, read_ascii};
 use aig_unroll::unroll;
@@ -31,7 +31,7 @@ fn gate_chain(alloc: Global) -> Result<Checked, Fail> {
 }
 
 fn comes_back(alloc: Global, checked: &Checked) -> Result<bool, Fail> {
-    let image = to_binary_with_map(alloc, checked)?;
+    let image = to_binary_with_map(alloc, checked, &mut Steps::new())?;
     let undone = undo(alloc, image.as_checked()).is_ok();
     drop(image); // for the proof
     Ok(undone)
@@ -40,7 +40,7 @@ fn comes_back(alloc: Global, checked: &Checked) -> Result<bool, Fail> {
 #[test]
 fn many_gates_are_put_in_order(rt: HostRuntime) -> Result<(), Fail> {
     let checked = gate_chain(rt.alloc())?;
-    let has_image = to_binary(rt.alloc(), &checked).is_ok();
+    let has_image = to_binary(rt.alloc(), &checked, &mut Steps::new()).is_ok();
     let comes_back = comes_back(rt.alloc(), &checked);
     drop(checked); // for the proof
     assert!(rt; comes_back? && has_image);

@@ -1,7 +1,7 @@
 //! Circuits that are copied, compared, and made by hand.
 use crate::calls::circuit_of;
 use crate::forms::symbols_of;
-use aig_core::{Checked, Circuit, Listing, MemorySink, check, same};
+use aig_core::{Checked, Circuit, Listing, MemorySink, Steps, check, same};
 use aig_text::{Limits, read_ascii, write_ascii};
 use std::alloc::Global;
 use std::test::Fail;
@@ -73,7 +73,11 @@ pub(crate) fn checked_of(alloc: Global, circuit: Circuit) -> Result<Checked, Fai
         drop(circuit); // for the proof
         return Err("it is in form")?;
     }
-    Ok(check(alloc, circuit).ok().ok_or("it is well formed")?)
+    Ok(
+        check(alloc, circuit, &mut Steps::new())
+            .ok()
+            .ok_or("it is well formed")?,
+    )
 }
 
 fn made_by_hand(alloc: Global) -> Result<Checked, Fail> {

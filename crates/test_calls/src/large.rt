@@ -1,7 +1,7 @@
 //! Calls over large circuits. What comes is in the contracts; that memory suffices is not.
 use crate::calls::circuit_of;
 use crate::copies::{checked_of, same_as_copy};
-use aig_core::{Circuit, Gate, LARGEST, Lit, Order, Var, gate_order};
+use aig_core::{Circuit, Gate, LARGEST, Lit, Order, Steps, Var, gate_order};
 use aig_text::{Limits, read_ascii};
 use std::alloc::{AllocError, AllocFailed, Global};
 use std::test::Fail;
@@ -31,10 +31,13 @@ fn gate_chain(alloc: Global) -> Result<Circuit, Fail> {
 
 /// Whether the gates have an order, with each of them.
 fn has_order(alloc: Global, circuit: &Circuit) -> bool {
-    if circuit.gates.len() > LARGEST as usize || Order::new(alloc, circuit).is_err() {
+    if circuit.gates.len() > LARGEST as usize
+        || Order::new(alloc, circuit, &mut Steps::new()).is_err()
+    {
         return false;
     }
-    gate_order(alloc, circuit).is_ok_and(|order| order.list().len() == circuit.gates.len())
+    gate_order(alloc, circuit, &mut Steps::new()).is_ok_and(|order| order.list().len()
+        == circuit.gates.len())
 }
 
 #[test]

@@ -5,7 +5,8 @@ use std::test::Fail;
 
 /// The messages below, in their order.
 const MESSAGES: &str = "\
-variable 3 defined twice; literal 9 not defined; out of memory; device failed; cannot write; gate 7: bad line; out of memory";
+variable 3 defined twice; literal 9 not defined; out of memory; device failed; cannot write; \
+gate 7: bad line; out of memory";
 
 #[test]
 fn faults_as_text(rt: HostRuntime) -> Result<(), Fail> {

@@ -1,7 +1,7 @@
 //! Orders of gates.
 use crate::calls::circuit_of;
 use crate::forms::numbers_of;
-use aig_core::{Circuit, Gate, LARGEST, Listing, Lit, Order, gate_order};
+use aig_core::{Circuit, Gate, LARGEST, Listing, Lit, Order, Steps, gate_order};
 use std::alloc::Global;
 use std::test::Fail;
 
@@ -39,7 +39,7 @@ fn begins_empty(alloc: Global, circuit: &Circuit) -> bool {
     if circuit.gates.len() > LARGEST as usize {
         return false;
     }
-    match Order::new(alloc, circuit) {
+    match Order::new(alloc, circuit, &mut Steps::new()) {
         Ok(begun) => begun.list().is_empty() && begun.steps() == 0,
         Err(_) => false,
     }
@@ -49,7 +49,7 @@ fn has_order(alloc: Global, circuit: &Circuit, list: &[u32], steps: u32) -> bool
     if circuit.gates.len() > LARGEST as usize {
         return false;
     }
-    match gate_order(alloc, circuit) {
+    match gate_order(alloc, circuit, &mut Steps::new()) {
         Ok(order) => order.list() == list && order.steps() == u64::from(steps),
         Err(_) => false,
     }

@@ -1,5 +1,7 @@
 //! Command lines and what is answered to them.
-use aig_command::{Command, Reach, Sim, SolverFile, ToAig, Unroll, UnrolledForm, Usage, command};
+use aig_command::{
+    Command, Invariant, Reach, Sim, SolverFile, ToAig, Unroll, UnrolledForm, Usage, command,
+};
 use std::alloc::{AllocError, Global};
 use std::test::Fail;
 
@@ -124,6 +126,33 @@ aigunroll --frames 2 --refutation <> => 2 any 2147483647 - refutation <> -;\
 aigunroll --frames 2 --refutation answer --bad 1 => 2 1 2147483647 - refutation answer -;\
 aigunroll --frames 2 --refutation p -- --bad --cnf => 2 any 2147483647 --bad refutation p --cnf";
 
+/// Arguments after the program's name, and what they ask for: the bad state, the limit, the model,
+/// its invariant, what comes of both and in which file, and the destination.
+const PROVINGS: &str = "\
+aigunroll --invariant i --cnf m => any 2147483647 m i clauses -;\
+aigunroll --cnf --invariant=i m d => any 2147483647 m i clauses d;\
+aigunroll --invariant - --cnf m => any 2147483647 m - clauses -;\
+aigunroll --invariant i --cnf => any 2147483647 - i clauses -;\
+aigunroll --cnf - d --invariant i => any 2147483647 - i clauses d;\
+aigunroll --invariant i.gz --cnf m.gz d.aag => any 2147483647 m.gz i.gz clauses d.aag;\
+aigunroll --invariant i --bad 0 --cnf m => 0 2147483647 m i clauses -;\
+aigunroll --max-var 7 --invariant m --cnf --bad=2147483647 m m => 2147483647 7 m m clauses m;\
+aigunroll --invariant <> --cnf => any 2147483647 - <> clauses -;\
+aigunroll --invariant i --cnf -- --frames --refutation \
+=> any 2147483647 --frames i clauses --refutation;\
+aigunroll --invariant i --refutation p m => any 2147483647 m i refutation p -;\
+aigunroll --refutation=p --invariant=i m d => any 2147483647 m i refutation p d;\
+aigunroll --invariant - --refutation p m => any 2147483647 m - refutation p -;\
+aigunroll --refutation - --invariant i m => any 2147483647 m i refutation - -;\
+aigunroll --invariant i --refutation p => any 2147483647 - i refutation p -;\
+aigunroll - d --refutation p --invariant i => any 2147483647 - i refutation p d;\
+aigunroll --invariant i.gz --refutation p.gz m.gz d.aag \
+=> any 2147483647 m.gz i.gz refutation p.gz d.aag;\
+aigunroll --bad 1 --max-var=0 --invariant m --refutation m m m => 1 0 m m refutation m m;\
+aigunroll --invariant <> --refutation <> => any 2147483647 - <> refutation <> -;\
+aigunroll --invariant frames --refutation cnf -- --cnf --ascii \
+=> any 2147483647 --cnf frames refutation cnf --ascii";
+
 /// Arguments after the program's name, and why they are refused (`words` where `clap` refuses
 /// them); or that they ask for help.
 const REFUSALS: &str = "\
@@ -188,6 +217,47 @@ aigunroll --frames 2 --refutation - => model and refutation are both standard in
 aigunroll --frames 2 --refutation - - => model and refutation are both standard input;\
 aigunroll --frames 2 --bad 1 --refutation - - x.gz => model and refutation are both standard input;\
 aigunroll --refutation p --frames 2 m x.gz => compressed output is not supported;\
+aigunroll => --frames or --invariant is needed;\
+aigunroll a.aig b.aig => --frames or --invariant is needed;\
+aigunroll - x.gz => --frames or --invariant is needed;\
+aigunroll --ascii --max-var 7 => --frames or --invariant is needed;\
+aigunroll --cnf => --frames or --invariant is needed;\
+aigunroll --cnf --ascii --answer a --refutation p => --frames or --invariant is needed;\
+aigunroll --answer a m => --frames or --invariant is needed;\
+aigunroll --refutation p m => --frames or --invariant is needed;\
+aigunroll --refutation - => --frames or --invariant is needed;\
+aigunroll --bad 1 => --frames or --invariant is needed;\
+aigunroll -- --frames 2 => --frames or --invariant is needed;\
+aigunroll --cnf -- --invariant i => --frames or --invariant is needed;\
+aigunroll --invariant i --cnf --ascii m => --cnf excludes --ascii;\
+aigunroll --invariant i --answer a --cnf m => --answer excludes --cnf and --ascii;\
+aigunroll --invariant i --frames 2 --refutation p --cnf m \
+=> --refutation excludes --cnf, --ascii and --answer;\
+aigunroll --invariant i --frames 2 => --invariant excludes --frames, --ascii and --answer;\
+aigunroll --frames 1 --cnf --invariant i m \
+=> --invariant excludes --frames, --ascii and --answer;\
+aigunroll --invariant i --refutation p m --frames 1 \
+=> --invariant excludes --frames, --ascii and --answer;\
+aigunroll --ascii --invariant i m => --invariant excludes --frames, --ascii and --answer;\
+aigunroll --answer a --invariant i m => --invariant excludes --frames, --ascii and --answer;\
+aigunroll --frames 2 --bad 1 --invariant - - x.gz \
+=> --invariant excludes --frames, --ascii and --answer;\
+aigunroll --invariant i => --invariant needs --cnf or --refutation;\
+aigunroll --invariant i m d.aag => --invariant needs --cnf or --refutation;\
+aigunroll --bad 1 --invariant - - x.gz => --invariant needs --cnf or --refutation;\
+aigunroll --invariant i -- --cnf => --invariant needs --cnf or --refutation;\
+aigunroll --invariant - --cnf => model and invariant are both standard input;\
+aigunroll --invariant - --cnf - x.gz => model and invariant are both standard input;\
+aigunroll --invariant - --refutation p => model and invariant are both standard input;\
+aigunroll --refutation - --invariant - - x.gz => model and invariant are both standard input;\
+aigunroll --invariant i --refutation - => model and refutation are both standard input;\
+aigunroll --refutation - --invariant i --bad 1 - x.gz \
+=> model and refutation are both standard input;\
+aigunroll --invariant - --refutation - m => invariant and refutation are both standard input;\
+aigunroll --refutation - --invariant - m x.gz \
+=> invariant and refutation are both standard input;\
+aigunroll --invariant i --cnf m x.gz => compressed output is not supported;\
+aigunroll --invariant i --bad 1 --refutation p - x.gz => compressed output is not supported;\
 aigunroll --frames 2 --answer a m x.gz => compressed output is not supported;\
 aigunroll --frames 2 --bad 1 --cnf - x.gz => compressed output is not supported;\
 aigtoaig --help => help;\
@@ -207,6 +277,7 @@ aigunroll -h => help;\
 aigunroll --frames 2 - b.gz --help => help;\
 aigunroll --cnf --ascii --help => help;\
 aigunroll --answer - --refutation - --help => help;\
+aigunroll --invariant - --ascii --help => help;\
 aigtoaig a b c => words;\
 aigtoaig --ascii --ascii => words;\
 aigtoaig --max-var => words;\
@@ -279,10 +350,6 @@ aigsim --vcd=yes m => words;\
 aigsim --VCD m => words;\
 aigsim --frames 2 m => words;\
 aigsim -x => words;\
-aigunroll => words;\
-aigunroll a.aig b.aig => words;\
-aigunroll --ascii --max-var 7 => words;\
-aigunroll - x.gz => words;\
 aigunroll --frames => words;\
 aigunroll --frames= => words;\
 aigunroll --frames 0 => words;\
@@ -295,7 +362,6 @@ aigunroll --frames <> => words;\
 aigunroll --frames 2x => words;\
 aigunroll --frames 1 --frames 1 => words;\
 aigunroll --frame 2 => words;\
-aigunroll -- --frames 2 => words;\
 aigunroll -k 2 => words;\
 aigunroll --frames 2 --max-var 2147483648 => words;\
 aigunroll --frames 2 --max-var => words;\
@@ -309,8 +375,6 @@ aigunroll --frames 2 --properties => words;\
 aigunroll --frames 2 --batch => words;\
 aigunroll --frames 2 --witness => words;\
 aigunroll --frames 2 --vcd => words;\
-aigunroll --cnf => words;\
-aigunroll --answer a m => words;\
 aigunroll --frames 0 --cnf => words;\
 aigunroll --frames 2 --cnf --cnf => words;\
 aigunroll --frames 2 --cnf=yes => words;\
@@ -319,13 +383,22 @@ aigunroll --frames 2 --answer => words;\
 aigunroll --frames 2 --answer a --answer b m => words;\
 aigunroll --frames 2 --answer a b c d => words;\
 aigunroll --frames 2 --answers a m => words;\
-aigunroll --refutation p m => words;\
 aigunroll --frames 0 --refutation p m => words;\
 aigunroll --frames 2 --refutation => words;\
 aigunroll --frames 2 --refutation p --refutation q m => words;\
 aigunroll --frames 2 --refutation p b c d => words;\
 aigunroll --frames 2 --refute p m => words;\
 aigunroll --frames 2 --refutation p --bad => words;\
+aigunroll --invariant => words;\
+aigunroll --cnf --invariant => words;\
+aigunroll --invariant i --invariant j --cnf m => words;\
+aigunroll --invariant i --cnf b c d => words;\
+aigunroll --invariant i --cnf --cnf m => words;\
+aigunroll --invariants i --cnf m => words;\
+aigunroll -i i --cnf m => words;\
+aigunroll --invariant i --frames 0 m => words;\
+aigunroll --invariant i --cnf --bad 2147483648 => words;\
+aigunroll --invariant i --refutation m --refutation m => words;\
 aigunroll --frames 2 --cnf --bad => words;\
 aigunroll --frames 2 --cnf --bad= => words;\
 aigunroll --frames 2 --cnf --bad <> => words;\
@@ -339,10 +412,12 @@ aigtoaig --cnf => words;\
 aigtoaig --bad 1 => words;\
 aigtoaig --answer a m => words;\
 aigtoaig --refutation p m => words;\
+aigtoaig --invariant i m => words;\
 aigsim --cnf m => words;\
 aigsim --bad 1 m => words;\
 aigsim --answer a m => words;\
 aigsim --refutation p m => words;\
+aigsim --invariant i m => words;\
 aigunroll --frames 2 a b c => words;\
 aigunroll --frames 2 - - - => words;\
 help => words;\
@@ -456,12 +531,33 @@ fn shown_reaching(alloc: Global, request: &Reach) -> Result<String, AllocError> 
     format!(in alloc; "{frames} {bad} {limit} {model} {wrote} {file} {destination}")
 }
 
+/// The refutation that is checked, or that clauses are written, as a row shows it.
+fn shown_work(alloc: Global, request: &Invariant) -> Result<String, AllocError> {
+    let file = show_file(&request.refutation);
+    if request.refuted {
+        format!(in alloc; "refutation {file}")
+    } else {
+        String::from_str(alloc, "clauses")
+    }
+}
+
+fn shown_proving(alloc: Global, request: &Invariant) -> Result<String, AllocError> {
+    let bad = shown_bad(alloc, request.bad)?;
+    let model = show_file(&request.model);
+    let file = show_file(&request.file);
+    let work = shown_work(alloc, request)?;
+    let destination = show_file(&request.destination);
+    let limit = request.max_var;
+    format!(in alloc; "{bad} {limit} {model} {file} {work} {destination}")
+}
+
 fn shown_answer(alloc: Global, answered: &Result<Command, Usage>) -> Result<String, AllocError> {
     match answered {
         Ok(Command::ToAig(request)) => shown_conversion(alloc, request),
         Ok(Command::Sim(request)) => shown_simulation(alloc, request),
         Ok(Command::Unroll(request)) => shown_unrolling(alloc, request),
         Ok(Command::Reach(request)) => shown_reaching(alloc, request),
+        Ok(Command::Invariant(request)) => shown_proving(alloc, request),
         Ok(Command::Help(_)) => String::from_str(alloc, "help"),
         Ok(Command::Version(_)) => String::from_str(alloc, "version"),
         Err(Usage::Words(_)) => String::from_str(alloc, "words"),
@@ -515,6 +611,13 @@ fn unrollings(rt: HostRuntime) -> Result<(), Fail> {
 #[test]
 fn reachings(rt: HostRuntime) -> Result<(), Fail> {
     let wrong = first_wrong(rt.alloc(), REACHINGS)?;
+    assert!(rt; wrong.is_none(), "{wrong:?}");
+    Ok(())
+}
+
+#[test]
+fn provings(rt: HostRuntime) -> Result<(), Fail> {
+    let wrong = first_wrong(rt.alloc(), PROVINGS)?;
     assert!(rt; wrong.is_none(), "{wrong:?}");
     Ok(())
 }

@@ -5,6 +5,8 @@
 #[cfg(test)]
 mod conversions;
 #[cfg(test)]
+mod invariants;
+#[cfg(test)]
 mod large;
 #[cfg(test)]
 mod unrollings;

@@ -1,7 +1,7 @@
 //! A run of the program's engine over devices in memory.
 use crate::streams::{NEVER, OnceReader, OnceWriter};
 use aig_core::{ReadSource, WriteSink};
-use aig_tools::{HostFiles, start};
+use aig_tools::{HostFiles, serve};
 use std::alloc::{AllocError, Global};
 use std::rt::Files;
 
@@ -70,7 +70,7 @@ pub(crate) fn run<T: Files>(
     let mut reader = behaviour.reader(text);
     let mut output = behaviour.writer(alloc);
     let mut errors = Behaviour::pieces_of(100).writer(alloc);
-    let status = start(
+    let status = serve(
         &mut HostFiles::new(files),
         alloc,
         words.as_slice(),

@@ -1,6 +1,6 @@
 //! What is wrong with a circuit: the first variable that is defined twice, or else the first
 //! literal that is used and not defined, or else the first gate that depends on a cycle.
-ghost use Rattle.std.specs.Prelude.{◌≡◌, ◌≤◌, ◌||◌, ◌*◌, ◌++◌, IfOk, IfErr, OnOk};
+ghost use Rattle.std.specs.Prelude.{◌≡◌, ◌≤◌, ◌||◌, ◌+◌, ◌*◌, ◌++◌, IfOk, IfErr, OnOk};
 ghost use Rattle.std.specs.Prelude.{None, Some, length, map, nat_lt, if◌then◌else◌};
 ghost use Rattle.std.specs.List.{concat, flat_map};
 ghost use Rattle.std.specs.Option.{option_map, option_to_list, IfSome};
@@ -14,13 +14,14 @@ ghost use Rattle.aig_topo.specs.Order.{first_cyclic, IsLeastReadyOrder};
 ghost use Rattle.aig_topo.specs.Lists.{AreNeedsOf};
 ghost use Rattle.aig_core.specs.declared.fault.CheckFault.TheVariants.{Cyclic as CyclicFault};
 ghost use Rattle.aig_core.specs.Parts.InOrder.{are_in_order, has_gates_in_order};
+ghost use Rattle.aig_core.specs.Steps.{steps_a_gate};
 ghost use Rattle.aig_circuit.specs.declared.circuit.TheConstants.{LARGEST as largest};
 
 use crate::checks::Keep;
 use crate::fault::CheckFault;
 use aig_circuit::{Circuit, Entry, Gate, LARGEST, Listing, Lit, OutOfMemory};
 use aig_tables::VarSet;
-use aig_topo::{GateNeeds, Needs, Order, first_cyclic_gate, order_by_needs};
+use aig_topo::{GateNeeds, Needs, Order, Steps, order_by_needs, search_for_cycle};
 use std::alloc::Global;
 
 fn define<T: Entry>(seen: &mut VarSet, entry: &T) -> Result<(), CheckFault>
@@ -257,15 +258,21 @@ fn own_literal(gate: &Gate) -> Lit
 }
 
 /// The least ready order of the gates, or the literal of the first one that depends on a cycle.
-fn order_of_all(alloc: Global, circuit: &Circuit, needs: GateNeeds) -> Result<Order, CheckFault>
+fn order_of_all(
+    alloc: Global,
+    circuit: &Circuit,
+    needs: GateNeeds,
+    steps: &mut Steps,
+) -> Result<Order, CheckFault>
     requires in_form { IsInForm circuit.now }
     requires needs { AreNeedsOf circuit.now.gates needs }
     ensures ok { OnOk result (first_cyclic circuit.now.gates ≡ None) }
     ensures least { IfOk result (λ order. IsLeastReadyOrder circuit.now order.list) }
     ensures err { IfErr result (λ e. IsFault e
         (option_map CyclicFault (first_cyclic circuit.now.gates))) }
+    ensures few { steps.new.count ≤ steps.old.count + 3 * length circuit.now.gates }
 {
-    let order = order_by_needs(alloc, circuit, needs)?;
+    let order = order_by_needs(alloc, circuit, needs, steps)?;
     match order.first_left() {
         Some(gate) => Err(CheckFault::Cyclic(own_literal(&circuit.gates.as_slice()[gate]))),
         None => Ok(order),
@@ -273,13 +280,14 @@ fn order_of_all(alloc: Global, circuit: &Circuit, needs: GateNeeds) -> Result<Or
 }
 
 /// Unlike `order_of_all`, it makes no order of the gates.
-fn find_cycle(alloc: Global, circuit: &Circuit) -> Result<(), CheckFault>
+fn find_cycle(alloc: Global, circuit: &Circuit, steps: &mut Steps) -> Result<(), CheckFault>
     requires { IsInForm circuit.now }
     ensures ok { OnOk result (first_cyclic circuit.now.gates ≡ None) }
     ensures err { IfErr result (λ e. IsFault e
         (option_map CyclicFault (first_cyclic circuit.now.gates))) }
+    ensures few { steps.new.count ≤ steps.old.count + 2 * length circuit.now.gates }
 {
-    let found = first_cyclic_gate(alloc, circuit)?;
+    let found = search_for_cycle(alloc, circuit, steps)?;
     match found {
         Some(gate) => Err(CheckFault::Cyclic(own_literal(&circuit.gates.as_slice()[gate]))),
         None => Ok(()),
@@ -324,12 +332,14 @@ pub(crate) fn find_fault(
     alloc: Global,
     circuit: &Circuit,
     keep: Keep,
+    steps: &mut Steps,
 ) -> Result<Option<Order>, CheckFault>
     requires { IsInForm circuit.now }
     ensures ok { OnOk result (first_structural_fault circuit.now ≡ None) }
     ensures least { IfOk result (λ some.
         IfSome some (λ order. IsLeastReadyOrder circuit.now order.list)) }
     ensures err { IfErr result (λ e. IsFault e (first_structural_fault circuit.now)) }
+    ensures few { steps.new.count ≤ steps.old.count + steps_a_gate keep * length circuit.now.gates }
 {
     let (variables, in_order) = find_fault_outside_gates(alloc, circuit)?;
     if in_order {
@@ -339,12 +349,12 @@ pub(crate) fn find_fault(
         Keep::Order => {
             drop(variables);
             let needs = known_needs(alloc, circuit)?;
-            Ok(Some(order_of_all(alloc, circuit, needs)?))
+            Ok(Some(order_of_all(alloc, circuit, needs, steps)?))
         }
         Keep::Circuit => {
             find_undefined_operand(&variables, circuit)?;
             drop(variables);
-            find_cycle(alloc, circuit)?;
+            find_cycle(alloc, circuit, steps)?;
             Ok(None)
         }
     }

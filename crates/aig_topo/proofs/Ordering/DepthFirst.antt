@@ -12,6 +12,7 @@ use Rattle.std.proofs.lemmas.Bool.{cases_lt}
 use Rattle.std.proofs.lemmas.Bool.Decides.{eqb_tells}
 use Rattle.std.proofs.lemmas.List.{get_or_past, get_or-map, get_or_append_left, length-map, length-replicate}
 use Rattle.std.proofs.lemmas.List.Sums.{sum_by-cons, sum_by-set, count_by-le-length, position_or_len_is}
+use Rattle.std.proofs.lemmas.List.Folds.{sum_by-replicate}
 use Rattle.std.proofs.lemmas.List.Quantifiers.{position-Some}
 use Rattle.aig_circuit.specs.Wellformed.{IsAmong}
 use Rattle.aig_topo.specs.declared.cycle.Pair.{Pair}
@@ -92,11 +93,11 @@ module _ (count : ℕ) (needs : ℕ → List ℕ) (states way : List ℕ) (befor
   pub last_met : (g : ℕ) → IsAtEnd way g → get_or states g 0 ≡ 1
   last_met g end = subst (λ y. get_or states y 0 ≡ 1) end.last (before.met (length way - 1) (omega (arith, end.some)))
 
-  -- each gate is two steps at most, and where all are done, each is two
-  pub few_steps : sum states - 2 ≤ 2 * count
+  -- each gate is two steps at most, and where all are done, each is two: the state of no gate is none of them
+  pub few_steps : sum states ≤ 2 * count + 2
   few_steps = omega (arith, few states before.small, before.as_many)
 
-  pub two_steps_each : ((g : ℕ) → g < count → get_or states g 0 ≡ 2) → sum states - 2 ≡ 2 * count
+  pub two_steps_each : ((g : ℕ) → g < count → get_or states g 0 ≡ 2) → sum states ≡ 2 * count + 2
   two_steps_each done =
       let all = all_two states (λ i l.
       ⊎_elim (λ (there : i < count). done i there)
@@ -243,6 +244,16 @@ module _ (count : ℕ) (needs : ℕ → List ℕ) where
 
   unknown : (g : ℕ) → g ≢ count → get_or at_first g 0 ≡ 0
   unknown g differs = get_or-set_other (replicate (count + 1) 0) count g 2 0 differs ∙ zeros (count + 1) g
+
+  pub no_steps : sum at_first ≡ 2
+  no_steps =
+      let length_is = length-replicate {A = ℕ} (count + 1) 0 in
+      omega (
+        arith,
+        sum_by-set (λ y. y) (replicate (count + 1) 0) count 2 0 (omega (arith, length_is)),
+        sum_by-replicate (λ y. y) (count + 1) 0,
+        zeros (count + 1) count,
+      )
 
   pub begins : IsSearching count needs at_first []
   begins = search (rules, length-set, length-replicate, at_count, unknown, eqb_tells)

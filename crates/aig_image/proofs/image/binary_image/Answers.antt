@@ -2,7 +2,7 @@ use Rattle.std.proofs.Common.{subst, ◌∙◌}
 use Rattle.aig_image.specs.Image.{IsBinaryImage}
 use Rattle.aig_image.proofs.image.binary_image.Goals as goal
 
-pub returns : goal.returns
-returns c =
+pub returns-clause-image : goal.returns-clause-image
+returns-clause-image c =
     subst (λ d. IsBinaryImage d c.image.result)
     (c.into_circuit.ensures.value ∙ c.in_ok-copy.ensures.value) c.image.ensures

@@ -22,6 +22,8 @@ returns-then-branch-clause-few c =
       arith,
       long,
       same,
+      c.loop-gate.invariant.steps,
+      c.in_ok-leads_to_cycle.ensures.steps,
       few_steps (length after.operands.items) (needs_in after.operands.items)
           after.states.items after.way.items c.in_ok-leads_to_cycle.ensures.search.searching,
     )
@@ -40,6 +42,7 @@ returns-clause-few c =
     omega (
       arith,
       long,
+      c.loop-gate.invariant.steps,
       few_steps (length now.operands.items) (needs_in now.operands.items) now.states.items
           now.way.items c.loop-gate.invariant.search.searching,
     )
@@ -51,4 +54,4 @@ returns-clause-each c = λ _.
     let all = two_steps_each (length now.operands.items) (needs_in now.operands.items) now.states.items now.way.items
     c.loop-gate.invariant.search.searching
     (λ k l. c.loop-gate.invariant.done k (omega (arith, l, long, c.loop-gate-test.false, c.len-gate-end.ensures))) in
-    omega (arith, long, all)
+    omega (arith, long, c.loop-gate.invariant.steps, all)

@@ -23,7 +23,7 @@ look_at_all-requires c =
     let lists : Lists = c.args.needs.lists in (
       c.in_ok-ready.ensures.empty,
       subst (λ (p : Progress). Stands (needs_in lists.rows.items) None (search_of p lists c.in_ok-ready.ready 0))
-          (sym c.in_ok-order.ensures)
+          (sym c.in_ok-order.ensures.begun)
           (stands_at_first c.args.circuit.now.gates c.args.needs c.in_ok-ready.ready c.requires.few c.requires.needs
           c.in_ok-ready.ensures.empty (omega (arith, c.in_ok-ready.ensures.room, c.len.ensures))),
     )
@@ -100,8 +100,25 @@ returns-clause-steps c =
     (in_all c.args.circuit.now c.args.needs.lists c.args.needs.counts.items order made.needs made.counts
     c.look_at_all.ensures.paid)
 
+pub returns-clause-counted : goal.returns-clause-counted
+returns-clause-counted c =
+    let made = c.requires.needs in
+    let gates = c.args.circuit.now.gates in
+    let lists : Lists = c.args.needs.lists in
+    omega (
+      arith,
+      few c.args.circuit.now lists c.args.needs.counts.items c.look_at_all.new.self.order made.needs made.counts
+          c.look_at_all.ensures.paid (returns-clause-least c),
+      as_many_counts gates lists.rows.items c.args.needs.counts.items made.needs made.counts,
+      c.in_ok-order.ensures.counted,
+    )
+
 pub returns-clause-few : goal.returns-clause-few
 returns-clause-few c =
     let made = c.requires.needs in
-    few c.args.circuit.now c.args.needs.lists c.args.needs.counts.items c.look_at_all.new.self.order made.needs
-    made.counts c.look_at_all.ensures.paid (returns-clause-least c)
+    let lists : Lists = c.args.needs.lists in
+    omega (
+      arith,
+      as_many_counts c.args.circuit.now.gates lists.rows.items c.args.needs.counts.items made.needs made.counts,
+      c.in_ok-order.ensures.counted,
+    )

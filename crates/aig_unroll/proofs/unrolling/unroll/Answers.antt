@@ -11,7 +11,7 @@ unroll_image-requires-clause-fits c large =
     let fits = subst (λ (k : Circuit). ¬ IsTooLarge k c.args.frames) c.circuit.ensures.value
     c.in_ok-check_supported.ensures.supported.1 in
     fits
-    (as_large source image c.args.frames (image_counts source image c.circuit.ensures.well_formed c.in_ok-image.ensures)
+    (as_large source image c.args.frames (image_counts source image c.circuit.ensures.well_formed c.in_ok-image.ensures.image)
     large)
 
 pub from_well_ordered-requires-clause-well_formed : goal.from_well_ordered-requires-clause-well_formed
@@ -20,7 +20,7 @@ from_well_ordered-requires-clause-well_formed c =
     let fits = subst (λ (k : Circuit). ¬ IsTooLarge k c.args.frames) c.circuit.ensures.value
     c.in_ok-check_supported.ensures.supported.1 in
     (unrolled_is_ordered source c.in_ok-circuit.circuit c.args.frames c.circuit.ensures.well_formed
-    (c.in_ok-image.image, c.in_ok-image.ensures, c.in_ok-circuit.ensures) fits).0
+    (c.in_ok-image.image, c.in_ok-image.ensures.image, c.in_ok-circuit.ensures) fits).0
 
 pub from_well_ordered-requires-clause-in_order : goal.from_well_ordered-requires-clause-in_order
 from_well_ordered-requires-clause-in_order c =
@@ -28,4 +28,4 @@ from_well_ordered-requires-clause-in_order c =
     let fits = subst (λ (k : Circuit). ¬ IsTooLarge k c.args.frames) c.circuit.ensures.value
     c.in_ok-check_supported.ensures.supported.1 in
     (unrolled_is_ordered source c.in_ok-circuit.circuit c.args.frames c.circuit.ensures.well_formed
-    (c.in_ok-image.image, c.in_ok-image.ensures, c.in_ok-circuit.ensures) fits).1
+    (c.in_ok-image.image, c.in_ok-image.ensures.image, c.in_ok-circuit.ensures) fits).1

@@ -11,7 +11,7 @@ use Rattle.aig_core.proofs.checks.faults.find_cycle.Goals as goal
 pub own_literal-requires : goal.own_literal-requires
 own_literal-requires c =
     let gates : List Gate = c.args.circuit.now.gates in
-    let found = cyclic_there gates c.in-Some.gate (sym c.in_ok-found.ensures ∙ c.in-Some.is) in
+    let found = cyclic_there gates c.in-Some.gate (sym c.in_ok-found.ensures.first ∙ c.in-Some.is) in
     let read : c.index-as_slice-gate.result ≡ at gates c.in-Some.gate = c.index-as_slice-gate.is
     ∙ ap (λ gs. get_or gs c.in-Some.gate c.index-as_slice-gate.result) c.as_slice.ensures
     ∙ get_or_default gates c.in-Some.gate c.index-as_slice-gate.result no_gate found.0 in
@@ -20,16 +20,17 @@ own_literal-requires c =
 pub returns-in-Some : goal.returns-in-Some
 returns-in-Some c =
     let gates : List Gate = c.args.circuit.now.gates in
-    let found = cyclic_there gates c.in-Some.gate (sym c.in_ok-found.ensures ∙ c.in-Some.is) in
+    let found = cyclic_there gates c.in-Some.gate (sym c.in_ok-found.ensures.first ∙ c.in-Some.is) in
     let read : c.index-as_slice-gate.result ≡ at gates c.in-Some.gate = c.index-as_slice-gate.is
     ∙ ap (λ gs. get_or gs c.in-Some.gate c.index-as_slice-gate.result) c.as_slice.ensures
     ∙ get_or_default gates c.in-Some.gate c.index-as_slice-gate.result no_gate found.0 in
     let first : Some c.own_literal.result ≡ first_cyclic gates =
     ap Some (c.own_literal.ensures ∙ ap (λ (g : Gate). 2 * g.var) read) ∙ sym found.1 in
-    record { ok = tt; err = inr (ap (option_map Cyclic) (sym first)) }
+    record { ok = tt; err = inr (ap (option_map Cyclic) (sym first)); few = c.in_ok-found.ensures.few }
 
 pub returns-in-None : goal.returns-in-None
 returns-in-None c = record {
-  ok = cyclic_nowhere_there c.args.circuit.now.gates (sym c.in_ok-found.ensures ∙ c.in-None.is);
+  ok = cyclic_nowhere_there c.args.circuit.now.gates (sym c.in_ok-found.ensures.first ∙ c.in-None.is);
   err = tt;
+  few = c.in_ok-found.ensures.few;
 }

@@ -33,7 +33,12 @@ returns-in-Some c =
     c.in-Some.gate there c.in-Some.ensures.left c.in-Some.ensures.first in
     let first : Some c.own_literal.result ≡ first_cyclic gates =
     ap Some (c.own_literal.ensures ∙ ap (λ (g : Gate). 2 * g.var) read) ∙ sym found in
-    record { ok = tt; least = tt; err = inr (ap (option_map Cyclic) (sym first)) }
+    record {
+      ok = tt;
+      least = tt;
+      err = inr (ap (option_map Cyclic) (sym first));
+      few = c.in_ok-order.ensures.few;
+    }
 
 pub returns-in-None : goal.returns-in-None
 returns-in-None c = record {
@@ -42,4 +47,5 @@ returns-in-None c = record {
       (λ i there. c.in-None.ensures.none i (omega (arith, there, c.in_ok-order.ensures.as_many)));
   least = c.in_ok-order.ensures.least;
   err = tt;
+  few = c.in_ok-order.ensures.few;
 }

@@ -15,5 +15,5 @@ returns c =
     (λ m means.
     same_through c.args.checked.now c.in_ok-image.image m
     (image_means_the_same c.args.checked.now c.in_ok-image.image c.circuit-circuit.ensures.well_formed
-    c.in_ok-image.ensures) means)
+    c.in_ok-image.ensures.image) means)
     (rw same at c.of_ordered-made.ensures)

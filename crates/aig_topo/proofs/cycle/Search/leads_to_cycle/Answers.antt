@@ -1,7 +1,7 @@
-use Rattle.std.proofs.Common.{◌≡◌, ◌∙◌, ◌<◌, rules, sym, subst, length, get_or, arith}
+use Rattle.std.proofs.Common.{◌≡◌, ◌∙◌, ◌<◌, ◌≤◌, ◌+◌, ◌*◌, ap, rules, sym, subst, length, get_or, arith, sum}
 use Rattle.std.proofs.lemmas.List.{get_or_default}
 use Rattle.aig_topo.specs.Cycle.{needs_in}
-use Rattle.aig_topo.proofs.Ordering.DepthFirst.{few, last_met, met_below, trapped}
+use Rattle.aig_topo.proofs.Ordering.DepthFirst.{few, few_steps, last_met, met_below, trapped}
 use Rattle.aig_topo.proofs.cycle.Search.leads_to_cycle.Goals as goal
 
 pub open_operand-requires-clause-there : goal.open_operand-requires-clause-there
@@ -32,3 +32,29 @@ returns-then-index-eq-MET-clause-cyclic c = λ _ n.
     rw c.loop-gate.invariant.operands
     at (trapped (length now.operands.items) (needs_in now.operands.items) now.states.items now.way.items before
     c.in-Some.gate next c.in-Some.ensures.some c.in-Some-open_operand.ensures.needed met n c.args.root root)
+
+pub returns-in_err-enter-clause-few : goal.returns-in_err-enter-clause-few
+returns-in_err-enter-clause-few c =
+    let now = c.args.self.now in
+    let all : c.enter.new.steps.count + sum now.states.items ≤ c.args.steps.now.count + 2 * length now.operands.items + 2 =
+    omega (
+      arith,
+      c.in_err-enter.ensures.no_step,
+      few_steps (length now.operands.items) (needs_in now.operands.items) now.states.items now.way.items
+          c.requires.search.searching,
+    ) in search rules
+
+pub returns-in_err-enter-2-clause-few : goal.returns-in_err-enter-2-clause-few
+returns-in_err-enter-2-clause-few c =
+    let first = c.args.self.now in
+    let now = c.loop-gate.self in
+    let all : c.enter-in-Some.new.steps.count + sum first.states.items
+    ≤ c.args.steps.now.count + 2 * length first.operands.items + 2 =
+    omega (
+      arith,
+      c.in_err-enter-2.ensures.no_step,
+      c.loop-gate.invariant.steps,
+      ap length c.loop-gate.invariant.operands,
+      few_steps (length now.operands.items) (needs_in now.operands.items) now.states.items now.way.items
+          c.loop-gate.invariant.search.searching,
+    ) in search rules

@@ -1,4 +1,4 @@
-use Rattle.std.proofs.Common.{◌≡◌, ◌*◌, ◌-◌, ◌<◌, length, slice_index, sum}
+use Rattle.std.proofs.Common.{◌≡◌, ◌*◌, ◌+◌, ◌-◌, ◌<◌, length, slice_index, sum}
 use Rattle.aig_topo.specs.Cycle.{IsSearch, IsRisen}
 use Rattle.aig_topo.proofs.cycle.Search.leads_to_cycle.Given as goal
 
@@ -9,6 +9,7 @@ invariant-loop-gate l = record {
   first : 0 < length l.self.way.items → slice_index l.self.way.items 0 ≡ l.root;
   root : 0 < slice_index l.self.states.items l.root;
   risen : IsRisen l.fn.self.states.items l.self.states.items;
+  steps : l.steps.count + sum l.fn.self.states.items ≡ l.fn.steps.count + sum l.self.states.items;
 }
 
 abbrev pub decreases-loop-gate : goal.decreases-loop-gate

@@ -1,7 +1,7 @@
-use Rattle.std.proofs.Common.{◌≡◌, ◌∙◌, ◌+◌, ap, ap₂, sym, subst, replicate, length, [], rules}
+use Rattle.std.proofs.Common.{◌≡◌, ◌∙◌, ◌+◌, ap, ap₂, sym, subst, replicate, length, [], rules, sum}
 use Rattle.std.proofs.Math.ListN.{set as put}
 use Rattle.aig_topo.specs.Cycle.{needs_in, IsSearching}
-use Rattle.aig_topo.proofs.Ordering.DepthFirst.{all_within, begins}
+use Rattle.aig_topo.proofs.Ordering.DepthFirst.{all_within, begins, no_steps}
 use Rattle.aig_topo.proofs.cycle.Search.new.Goals as goal
 
 pub returns-clause-search : goal.returns-clause-search
@@ -18,3 +18,8 @@ returns-clause-search c =
           (subst (λ ss. IsSearching (length pairs) (needs_in pairs) ss []) (sym states)
           (begins (length pairs) (needs_in pairs)));
     }
+
+pub returns-clause-states : goal.returns-clause-states
+returns-clause-states c =
+    let count = c.len-count.result in
+    ap (λ ss. sum (put ss count 2)) (c.in_ok-states.ensures.items_if_clones_equal (λ y e. e)) ∙ no_steps count (λ _. [])

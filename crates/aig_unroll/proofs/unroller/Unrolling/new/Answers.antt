@@ -12,5 +12,5 @@ of_image-requires-clause-fits c large =
     c.in-Ok.ensures.supported.1 in
     fits
     (as_large source image c.args.frames
-    (image_counts source image c.circuit.ensures.well_formed c.in_ok-image-in-Ok.ensures)
+    (image_counts source image c.circuit.ensures.well_formed c.in_ok-image-in-Ok.ensures.image)
     large)

@@ -1,0 +1,78 @@
+-- Which texts are written for an invariant (this project's profile): a model is read, and then the invariant, and the
+-- clauses are written in which it is to be shown; or they are refuted, and so no run ever reaches a bad state.
+use Rattle.std.specs.Prelude.{◌≡◌, ◌⊎◌, ℕ, List, None, codes}
+use Rattle.aig_circuit.specs.declared.circuit.Circuit.{Circuit}
+use Rattle.aig_circuit.specs.Wellformed.{IsWellFormed}
+use Rattle.aig_cnf.specs.ClauseText.{cnf_text}
+use Rattle.aig_command.specs.declared.request.Invariant.{Invariant}
+use Rattle.aig_command.specs.declared.request.Reach.{Reach}
+use Rattle.aig_command.specs.declared.request.SolverFile.TheVariants.{Refutation}
+use Rattle.aig_command.specs.declared.request.UnrolledForm.TheVariants.{Clauses}
+use Rattle.aig_invariant.specs.declared.fault.InvariantFault.{InvariantFault}
+use Rattle.aig_invariant.specs.Invariant.{Cube, with_invariant}
+use Rattle.aig_invariant.specs.Laws.{IsNever}
+use Rattle.aig_invariant.specs.Outcome.{HasCubes, NotInvariant}
+use Rattle.aig_io.specs.Runs.{AtEnd}
+use Rattle.aig_search.specs.Alone.{HasAsked, asked_of}
+use Rattle.aig_unroll.specs.Outcome.{HasClauses}
+use Rattle.aig_engines.specs.declared.fault.ToolFault.{ToolFault}
+use Rattle.aig_engines.specs.declared.fault.ToolFault.TheVariants as faults
+use Rattle.aig_engines.specs.Reaching.{IsModelAsked, IsModelRefused}
+use Rattle.aig_engines.specs.Unrolling.{IsUnrolledFor, NotUnrolledAs}
+
+-- the request for a refutation of the clauses of the model alone, over one frame
+abbrev pub over_one_frame : Invariant → Reach
+over_one_frame request = record {
+  frames = 1;
+  bad = request.bad;
+  max_var = request.max_var;
+  model = request.model;
+  wrote = Refutation;
+  file = request.refutation;
+  destination = request.destination;
+}
+
+-- The model is the file of a circuit that has clauses over one frame, and this is the circuit, with the bad state alone
+-- that is asked for.
+abbrev pub IsModelProved : Invariant → (model : List ℕ) → Circuit → Type 0
+IsModelProved request = IsModelAsked (over_one_frame request)
+
+-- The model has no such clauses, for this reason.
+abbrev pub IsModelUnproved : Invariant → ToolFault → List ℕ → Type 0
+IsModelUnproved request = IsModelRefused (over_one_frame request)
+
+-- The bytes are an invariant of the circuit that is asked for, and this is the circuit in which it is to be shown, which
+-- has clauses over one frame.
+pub record IsStrengthened (asked : Circuit) (invariant : List ℕ) (strengthened : Circuit) : Type 0 where
+  pub cubes : List Cube
+  pub unrolled : Circuit
+  pub has_cubes : HasCubes asked invariant cubes
+  pub strengthened_is : strengthened ≡ with_invariant cubes asked
+  pub is_unrolled : IsUnrolledFor None 1 strengthened unrolled
+  pub has_clauses : HasClauses unrolled
+
+-- The bytes are no invariant of the circuit that is asked for, for this reason; or they are one, and the circuit in
+-- which it is to be shown has no clauses.
+abbrev pub NotStrengthened : Circuit → ToolFault → List ℕ → Type 0
+NotStrengthened asked fault invariant =
+    ((reason : InvariantFault) × (fault ≡ faults.Invariant reason) × NotInvariant asked reason invariant AtEnd)
+    ⊎ ((cubes : List Cube) × HasCubes asked invariant cubes
+    × NotUnrolledAs (Clauses None) 1 (with_invariant cubes asked) fault)
+
+-- The text that is written for these bytes of an invariant: the clauses in which it is to be shown.
+pub record IsInvariantText (asked : Circuit) (invariant text : List ℕ) : Type 0 where
+  pub strengthened : Circuit
+  pub is_strengthened : IsStrengthened asked invariant strengthened
+  pub written_as : text ≡ cnf_text is_strengthened.unrolled
+
+-- the line that says that no bad state is ever reached
+abbrev pub never_text : List ℕ
+never_text = codes "never\n"
+
+-- The text that is written for a refutation of the clauses of this circuit: of each circuit of which an invariant is to
+-- be shown in this one, nothing is ever confirmed. Which bytes the refutation has makes no difference.
+pub record IsNeverText (request : Invariant) (strengthened : Circuit) (text : List ℕ) : Type 0 where
+  pub never : (c : Circuit) (invariant : List ℕ) (cubes : List Cube) → IsWellFormed c → HasAsked request.bad c
+      → HasCubes (asked_of request.bad c) invariant cubes
+      → strengthened ≡ with_invariant cubes (asked_of request.bad c) → IsNever c request.bad
+  pub written_as : text ≡ never_text

@@ -1,0 +1,3 @@
+-- A circuit that grows by the cubes of an invariant.
+pub mod Formed
+pub mod Cubes

@@ -1,0 +1,6 @@
+pub mod Invariant
+pub mod InvariantText
+pub mod Messages
+pub mod Outcome
+pub mod Parts
+pub mod Laws
