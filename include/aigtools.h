@@ -98,7 +98,11 @@ enum aigtools_kind {
     AIGTOOLS_NOT_REACHED = 31,        /* the run that the answer gives reaches no bad state */
     AIGTOOLS_NO_REFUTATION = 32,      /* the model is right; the refutation ends, and has shown nothing */
     AIGTOOLS_BAD_REFUTATION = 33,     /* the line is of the refutation */
-    AIGTOOLS_DOES_NOT_FOLLOW = 34     /* so is this line, whose clause does not follow by unit propagation */
+    AIGTOOLS_DOES_NOT_FOLLOW = 34,    /* so is this line, whose clause does not follow by unit propagation */
+    AIGTOOLS_BAD_INVARIANT = 35,      /* the model is right; the line is of the invariant */
+    AIGTOOLS_NOT_EACH_LATCH = 36,     /* so is this line, which has not a character for each latch */
+    AIGTOOLS_MET_AT_START = 37,       /* so is this line, whose cube a first state may meet */
+    AIGTOOLS_TOO_LARGE_INVARIANT = 38 /* the model and the invariant together have too many gates or cubes */
 };
 
 /* Where it is wrong. */
@@ -156,6 +160,24 @@ uint32_t aigtools_answer(uint32_t bad, uint32_t frames, uint32_t max_var, const 
  */
 uint32_t aigtools_refute(uint32_t bad, uint32_t frames, uint32_t max_var, const uint8_t *model, size_t model_length,
                          const uint8_t *refutation, size_t refutation_length, aigtools_outcome *outcome);
+
+/*
+ * Writes clauses in DIMACS in which an invariant of the circuit of an AIGER file is to be shown, as
+ * `aiger aigunroll --invariant --cnf`: a PLA with a column for each latch, as pdr of ABC writes one. `bad` is as above.
+ * If they cannot be satisfied, no run, however long, reaches the bad state, or any, with all constraints kept.
+ */
+uint32_t aigtools_invariant_clauses(uint32_t bad, uint32_t max_var, const uint8_t *model, size_t model_length,
+                                    const uint8_t *invariant, size_t invariant_length,
+                                    uint8_t *output, size_t output_length, aigtools_outcome *outcome);
+
+/*
+ * Checks a refutation of these clauses that a solver wrote, as `aiger aigunroll --invariant --refutation`; pass the
+ * same `bad` and invariant. AIGTOOLS_DONE: no run, however long, reaches the bad state, or any, with all constraints
+ * kept. That is proved, whatever the invariant and the solver said.
+ */
+uint32_t aigtools_never(uint32_t bad, uint32_t max_var, const uint8_t *model, size_t model_length,
+                        const uint8_t *invariant, size_t invariant_length,
+                        const uint8_t *refutation, size_t refutation_length, aigtools_outcome *outcome);
 
 /*
  * Simulates the circuit of an AIGER file over a stimulus, as `aiger aigsim --batch`. The text is the trace, or, with

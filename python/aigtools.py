@@ -28,7 +28,8 @@ from pathlib import Path
 from typing import Any, Callable, Optional, Tuple, Union
 
 __all__ = ["LARGEST", "Kind", "Refused"]
-__all__ += ["answer", "clauses", "confirm", "convert", "dump", "refute", "simulate", "unroll", "version"]
+__all__ += ["answer", "clauses", "confirm", "convert", "dump", "invariant_clauses", "never", "refute", "simulate"]
+__all__ += ["unroll", "version"]
 
 Data = Union[bytes, bytearray, memoryview]
 
@@ -76,6 +77,10 @@ class Kind(enum.IntEnum):
     NO_REFUTATION = 32
     BAD_REFUTATION = 33
     DOES_NOT_FOLLOW = 34
+    BAD_INVARIANT = 35
+    NOT_EACH_LATCH = 36
+    MET_AT_START = 37
+    TOO_LARGE_INVARIANT = 38
 
 
 class Refused(ValueError):
@@ -155,6 +160,8 @@ def _load() -> ctypes.CDLL:
         ("aigtools_clauses", (number, number, number, *text, *room, outcome), number),
         ("aigtools_answer", (number, number, number, *text, *text, *room, outcome), number),
         ("aigtools_refute", (number, number, number, *text, *text, outcome), number),
+        ("aigtools_invariant_clauses", (number, number, *text, *text, *room, outcome), number),
+        ("aigtools_never", (number, number, *text, *text, *text, outcome), number),
         ("aigtools_simulate", (number, number, *text, *text, *room, outcome), number),
         ("aigtools_witness", (number, *text, *text, outcome), number),
         ("aigtools_dump", (number, *text, *text, *room, outcome), number),
@@ -344,6 +351,51 @@ def refute(model: Data, refutation: Data, frames: int, *, bad: Optional[int] = N
     which, limit = _bad(bad), _number("max_var", max_var)
     count, outcome = _number("frames", frames, 1, MOST_FRAMES), _Outcome()
     _library.aigtools_refute(which, count, limit, model, len(model), refutation, len(refutation), outcome)
+    if outcome.status != _DONE:
+        _raise(outcome)
+
+
+def invariant_clauses(model: Data, invariant: Data, *, bad: Optional[int] = None, max_var: int = LARGEST) -> bytes:
+    """Clauses for a SAT solver (DIMACS) in which an invariant of the model is to be shown, as ``aiger aigunroll
+    --invariant --cnf`` writes them: a PLA with a column for each latch, as pdr of ABC writes one. If they cannot be
+    satisfied, no run, however long, reaches a bad state with all constraints kept.
+
+    bad   the bad state of this position alone, counted from 0
+
+    >>> invariant_clauses(b"aag 1 0 1 0 0 1\\n2 2\\n2\\n", b"1 1\\n").splitlines()[0]
+    b'p cnf 7 17'
+    """
+    model, invariant = _bytes(model), _bytes(invariant)
+    which, limit = _bad(bad), _number("max_var", max_var)
+    return _made(
+        min(64 * (len(model) + len(invariant)) + 64, _LARGEST_GUESS),
+        lambda output, room, outcome: _library.aigtools_invariant_clauses(
+            which, limit, model, len(model), invariant, len(invariant), output, room, outcome
+        ),
+    )[0]
+
+
+def never(
+    model: Data, invariant: Data, refutation: Data, *, bad: Optional[int] = None, max_var: int = LARGEST
+) -> None:
+    """Checks a solver's refutation (DRAT, text or binary) of the clauses in which the invariant of the model is to be
+    shown, with the same bad state, as ``aiger aigunroll --invariant --refutation``. If it is right, no run, however
+    long, reaches a bad state with all constraints kept: that is proved, whatever the invariant and the solver said. If
+    it is not, it is refused, as ``refute`` does; so is what is no invariant of the model: BAD_INVARIANT,
+    NOT_EACH_LATCH, MET_AT_START or TOO_LARGE_INVARIANT.
+
+    >>> never(b"aag 1 0 1 0 0 1\\n2 2\\n2\\n", b"1 1\\n", b"-7 0\\n")
+    >>> try:
+    ...     never(b"aag 1 0 1 0 0 1\\n2 2\\n2\\n", b"0 1\\n", b"")
+    ... except Refused as refused:
+    ...     print(refused.kind.name, refused)
+    MET_AT_START line 1: met by a first state
+    """
+    model, invariant, refutation = _bytes(model), _bytes(invariant), _bytes(refutation)
+    which, limit, outcome = _bad(bad), _number("max_var", max_var), _Outcome()
+    _library.aigtools_never(
+        which, limit, model, len(model), invariant, len(invariant), refutation, len(refutation), outcome
+    )
     if outcome.status != _DONE:
         _raise(outcome)
 
