@@ -36,7 +36,10 @@ unsatisfiable
 unknown
 no bad state is reached
 line N: does not follow
-no refutation""".split("\n")
+no refutation
+line N: not a character for each latch
+line N: met by a first state
+too large""".split("\n")
 OF_DEVICES = ["cannot read", "cannot write"]
 NAMED = [*OF_FILES, *OF_MAPS, *OF_USE, *OF_DEVICES]
 # of memory and of arguments, without a name; and what clap refuses, in words of its own
@@ -56,10 +59,14 @@ compressed output is not supported
 --bad needs --cnf, --answer or --refutation
 model and answer are both standard input
 model and refutation are both standard input
+--frames or --invariant is needed
+--invariant excludes --frames, --ascii and --answer
+--invariant needs --cnf or --refutation
+model and invariant are both standard input
+invariant and refutation are both standard input
 an argument is not UTF-8 text""".split("\n")
 BY_CLAP = "error: .."
 ALL = [*NAMED, OF_MEMORY, *OF_ARGUMENTS, BY_CLAP]
-
 
 
 def form_of(kind):

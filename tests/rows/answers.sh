@@ -292,8 +292,7 @@ rows_answer_names() {
 
 # the options with others, which are refused before any file is opened, in this order
 rows_clause_words() {
-    local unroll='\n\nUsage: aiger aigunroll' none=$work/none file
-    local all="$unroll [OPTIONS] --frames <K> [source] [destination]" tip='\n\n  tip:'
+    local none=$work/none all='\n\nUsage: aiger aigunroll [OPTIONS] [source] [destination]' tip='\n\n  tip:' file
     local convert='\n\nUsage: aiger aigtoaig [OPTIONS] [source] [destination]'
     local ascii='--cnf excludes --ascii' alone='--answer excludes --cnf and --ascii' needs='--bad needs --cnf, --answer or --refutation'
     local both='model and answer are both standard input' gz='compressed output is not supported'
@@ -308,9 +307,7 @@ rows_clause_words() {
     unwanted 'model and answer by -' "$both" aigunroll --frames 2 --bad 0 --answer - - x.gz
     unwanted 'a compressed witness' "$gz" aigunroll --frames 2 --answer "$none" "$none" x.gz
     unwanted 'compressed clauses' "$gz" aigunroll --frames 2 --cnf "$none" x.cnf.gz
-    misused 'clauses without frames' \
-        "the following required arguments were not provided:\n  --frames <K>$unroll --frames <K> --cnf [source] [destination]" \
-        aigunroll --cnf
+    unwanted 'clauses without frames' '--frames or --invariant is needed' aigunroll --cnf
     misused 'no answer' "a value is required for '--answer <FILE>' but none was supplied" aigunroll --frames 2 --answer
     misused 'two answers' "the argument '--answer <FILE>' cannot be used multiple times$all" \
         aigunroll --frames 2 --answer a --answer b

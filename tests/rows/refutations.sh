@@ -237,7 +237,7 @@ rows_refutation_names() {
 
 # the options with others, which are refused before any file is opened, in this order
 rows_refutation_words() {
-    local none=$work/none all='\n\nUsage: aiger aigunroll [OPTIONS] --frames <K> [source] [destination]'
+    local none=$work/none all='\n\nUsage: aiger aigunroll [OPTIONS] [source] [destination]'
     local ascii='--cnf excludes --ascii' answer='--answer excludes --cnf and --ascii'
     local alone='--refutation excludes --cnf, --ascii and --answer' both='model and refutation are both standard input'
     unwanted 'clauses in ASCII of a refutation' "$ascii" aigunroll --frames 2 --refutation - --cnf --ascii
@@ -254,6 +254,5 @@ rows_refutation_words() {
         aigunroll --frames 2 --refutation
     misused 'two refutations' "the argument '--refutation <FILE>' cannot be used multiple times$all" \
         aigunroll --frames 2 --refutation a --refutation b
-    misused 'a refutation without frames' "the following required arguments were not provided:\n  --frames <K>$(
-        )\n\nUsage: aiger aigunroll --frames <K> --refutation <FILE> [source] [destination]" aigunroll --refutation a
+    unwanted 'a refutation without frames' '--frames or --invariant is needed' aigunroll --refutation a
 }

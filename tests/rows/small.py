@@ -42,6 +42,15 @@ KEPT_CLAUSES = (
 FOUR = b"aag 9 2 0 0 7 1\n2\n4\n18\n6 5 3\n8 5 2\n10 4 3\n12 4 2\n14 9 7\n16 13 11\n18 16 14\n"
 FOUR_REFUTED = b"c\n2 3 0\nd 3 2 0\r\n3 0\n0\n"
 FOUR_REFUTED_BINARY = b"a\4\6\0d\6\4\0a\x86\0\0a\0"
+# two latches that exchange their values, of which the first is 1 at first: never are both 1
+TOKENS = b"aag 3 0 2 0 1 1\n2 4 1\n4 2\n6\n6 4 2\n"
+TOKENS_INVARIANT = b"# by hand\n.i 2\n11 1\n\n.e\n"
+TOKENS_CLAUSES = (
+    b"p cnf 11 26\n-1 0\n-4 3 0\n-4 2 0\n4 -3 -2 0\n-5 2 0\n-5 -1 0\n5 -2 1 0\n-6 5 0\n-6 3 0\n6 -5 -3 0\n"
+    b"-7 3 0\n-7 -1 0\n7 -3 1 0\n-8 7 0\n-8 2 0\n8 -7 -2 0\n-9 -6 0\n-9 -1 0\n9 6 1 0\n"
+    b"-10 9 0\n-10 4 0\n10 -9 -4 0\n-11 9 0\n-11 8 0\n11 -9 -8 0\n10 11 0\n"
+)
+TOKENS_REFUTED = b"-10 0\n0\n"
 
 DUMP = b"$version aiger $end\n$timescale 1 ns $end\n$scope module aiger $end\n$var integer 64 r run $end\n"
 TOGGLE_DUMP = (
@@ -98,6 +107,21 @@ def refuted(name, words, model, refutation, output):
     yield Row(f"{name}, the model by standard input", words, model, output, {"proof": refutation})
 
 
+def strengthened(name, model, invariant, clauses):
+    """The clauses of an invariant, once it and once the model by standard input."""
+    yield Row(name, "aigunroll model --invariant - --cnf", invariant, clauses, {"model": model})
+    yield Row(f"{name}, the model by standard input", "aigunroll - --invariant rows --cnf", model, clauses, {"rows": invariant})
+
+
+def proved(name, model, invariant, refutation):
+    """An invariant and its refutation, with each of the three by standard input."""
+    files, said = {"model": model, "rows": invariant, "proof": refutation}, b"never\n"
+    for streamed in files:
+        words = "aigunroll model --invariant rows --refutation proof".replace(f" {streamed}", " -")
+        others = {it: text for it, text in files.items() if it != streamed}
+        yield Row(f"{name}, the {streamed} by standard input", words, files[streamed], said, others)
+
+
 ROWS = [
     Row("a half adder to binary", "aigtoaig", HALF, HALF_IMAGE),
     Row("a half adder to binary, stripped", "aigtoaig --strip", HALF, HALF_GATES),
@@ -131,6 +155,8 @@ ROWS = [
     *answered("an answer for a bad state", "--frames 3 --bad 1", COMB, b"s SATISFIABLE\nv 2 0", b"1\nb1\n\n10\n.\n"),
     *refuted("a refutation", "--frames 1", FOUR, FOUR_REFUTED, b"none within 1\n"),
     *refuted("a binary refutation", "--frames 1", FOUR, FOUR_REFUTED_BINARY, b"none within 1\n"),
+    *strengthened("the clauses of an invariant", TOKENS, TOKENS_INVARIANT, TOKENS_CLAUSES),
+    *proved("an invariant", TOKENS, TOKENS_INVARIANT, TOKENS_REFUTED),
     *simulated("every section and a witness", "--witness", EVERY, b"1\nb1\n1x\n1\n0\n.\n", b"not confirmed\n"),
 ]
 

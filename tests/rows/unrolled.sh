@@ -172,7 +172,7 @@ rows_unrolled_sources() {
 rows_unroll_words() {
     local toggle='aag 1 0 1 2 0\n2 3\n2\n3\n' two='aag 0 0 0 4 0\n0\n1\n1\n0\n' binary='aig 0 0 0 4 0\n0\n1\n1\n0\n'
     local unroll='\n\nUsage: aiger aigunroll' file
-    local all="$unroll [OPTIONS] --frames <K> [source] [destination]"
+    local all="$unroll [OPTIONS] [source] [destination]" needed='--frames or --invariant is needed'
     row 'frames behind =' "$toggle" "$two" '' 0 aigunroll --ascii --frames=2
     row 'frames with leading zeros' "$toggle" "$two" '' 0 aigunroll --ascii --frames 002
     row 'both streams by -, to unroll' "$toggle" "$two" '' 0 aigunroll - - --ascii --frames 2
@@ -182,9 +182,8 @@ rows_unroll_words() {
     row 'a refused file to unroll, by its name' 'aag 0 0 0 0 0 0 0 0 1\n1\n' '' \
         "aiger: $work/in: justice or fairness cannot be unrolled\n" 1 aigunroll --frames 2 "$work/in" "$work/named.aig"
     missing 'a file to unroll that is not there' none/x aigunroll --frames 1 none/x
-    misused 'no frames' "the following required arguments were not provided:\n  --frames <K>$unroll --frames <K> [source] [destination]" aigunroll
-    misused 'no frames, and a name' \
-        "the following required arguments were not provided:\n  --frames <K>$unroll --frames <K> <source> [destination]" aigunroll x
+    unwanted 'no frames' "$needed" aigunroll
+    unwanted 'no frames, and a name' "$needed" aigunroll "$work/none" x.gz
     misused 'frames without a number' "a value is required for '--frames <K>' but none was supplied" aigunroll --frames
     misused 'frames twice' "the argument '--frames <K>' cannot be used multiple times$all" aigunroll --frames 1 --frames 1
     for file in 0 1000001 4294967297; do

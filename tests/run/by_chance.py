@@ -16,9 +16,9 @@ from pathlib import Path
 
 sys.dont_write_bytecode = True
 sys.path[0] = str(Path(__file__).resolve().parent.parent)
-from lib import answers, batches, counts, images, refutations, traces, unrolled, waves, witnesses
+from lib import answers, batches, counts, images, invariants, refutations, traces, unrolled, waves, witnesses
 
-MODULES = images, traces, batches, unrolled, witnesses, waves, answers, refutations
+MODULES = images, traces, batches, unrolled, witnesses, waves, answers, refutations, invariants
 KINDS = {it.__name__.rpartition(".")[2]: it for it in MODULES}
 
 

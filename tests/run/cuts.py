@@ -4,11 +4,12 @@
     tests/run/cuts.py PROGRAM [NAME]     all files, or those that have NAME in their names
 
 The files are those of rows/small.py: circuits in ASCII and binary, with and without a map, stimuli, witnesses, solvers'
-answers and refutations. What is refused as a circuit must be refused by all tools in the same words. What is accepted must
-have the image, the traces, the unrolled circuit, its clauses, and the answer to a witness that are worked out here
-from its ASCII text. A cut or changed stimulus must have the trace that is worked out here up to its first bad line,
-and nothing with --batch if there is one; a witness must have its answer, and its dump; a solver's answer its witness; and of
-a refutation, of which each bit is turned too, it must be said what the plain checker of lib/refutations.py says.
+answers, refutations and invariants. What is refused as a circuit must be refused by all tools in the same words. What is
+accepted must have the image, the traces, the unrolled circuit, its clauses, and the answer to a witness that are worked out
+here from its ASCII text. A cut or changed stimulus must have the trace that is worked out here up to its first bad line,
+and nothing with --batch if there is one; a witness must have its answer, and its dump; a solver's answer its witness; an
+invariant its clauses; and of a refutation, of which each bit is turned too, it must be said what the plain checker of
+lib/refutations.py says.
 Whatever comes, the status is 0, 1 or 2, a refusal is one line of a kind that is known, and with it nothing is sent but
 the trace before a bad line.
 
@@ -23,7 +24,7 @@ from pathlib import Path
 
 sys.dont_write_bytecode = True
 sys.path[0] = str(Path(__file__).resolve().parent.parent)
-from lib import answers, counts, images, refusals, refutations, runs, unrolled, waves, witnesses
+from lib import answers, counts, images, invariants, refusals, refutations, runs, unrolled, waves, witnesses
 from lib.soak import calls, generators, oracles
 from rows import small
 
@@ -46,7 +47,7 @@ CIRCUITS = {
     "every section with its map": small.EVERY_MAPPED,
 }
 # what stands beside a circuit that is cut or changed
-STEPS, WITNESS = b"0\n1\n.\nx\n", b"1\nb0\n0\n\n\n.\n"
+STEPS, WITNESS, ROWS = b"0\n1\n.\nx\n", b"1\nb0\n0\n\n\n.\n", b"1 1\n"
 STIMULI = {
     "three steps of a toggle": (small.TOGGLE, b"\n\n\n.\n"),
     "two runs": (small.HELD_IMAGE, b"1\n.\n1\n.\n"),
@@ -66,6 +67,10 @@ REFUTATIONS = {
     "a binary refutation": (small.FOUR, small.FOUR_REFUTED_BINARY),
     "a refutation without its end": (small.FOUR, b"-11 3 10 0\nd 11 0 2 -3 0 c\n-2 3 0 d\n-3 2 0"),
     "a forged refutation": (small.KEPT, b"d 7 9 0\n-7 6 0\n0\n"),
+}
+INVARIANTS = {
+    "an invariant": (small.TOKENS, small.TOKENS_INVARIANT),
+    "an invariant without its end": (small.KEPT, b"#1\n.0 1\n\n0 1"),
 }
 
 
@@ -100,10 +105,11 @@ class Judge:
         """All tools over the text of a circuit."""
         self.runner.put("steps", STEPS)
         self.runner.put("witness", WITNESS)
+        self.runner.put("rows", ROWS)
         canonical, errors, status = self.ask("aigtoaig --ascii", text)
         undoing, unrolling = "aigtoaig --undo-map --ascii", f"aigunroll --frames {FRAMES}"
         if status:
-            others = [unrolling, f"{unrolling} --cnf", f"{unrolling} - --refutation steps"]
+            others = [unrolling, f"{unrolling} --cnf", f"{unrolling} - --refutation steps", "aigunroll --invariant steps --cnf"]
             simulations = ["aigsim - steps", "aigsim --batch --properties - steps", "aigsim --witness - witness"]
             for words in ("aigtoaig --keep-map", undoing, *others, *simulations):
                 self.expect(words, text, b"", errors, 1)
@@ -120,6 +126,7 @@ class Judge:
             self.expect(f"aigsim {words}- steps", text, *oracles.wanted_trace(made, names, "steps", STEPS, words))
         self.expect("aigsim --witness - witness", text, *witnesses.wanted(made, "witness", WITNESS.decode()))
         self.expect(f"{unrolling} --cnf", text, *answers.wanted_clauses(made, FRAMES, None))
+        self.expect("aigunroll --invariant rows --cnf", text, *invariants.wanted_clauses(made, None, ("-", "rows"), ROWS))
         if made.justice or made.fairness:
             self.expect(unrolling, text, b"", b"aiger: -: justice or fairness cannot be unrolled\n", 1)
         else:
@@ -155,6 +162,16 @@ class Judge:
             wanted = refutations.wanted(made, frames, None, "-", text)
             self.expect(f"aigunroll --frames {frames} model --refutation -", text, *wanted)
 
+    def invariant(self, text, model):
+        """The clauses in which an invariant is to be shown, and whether a refutation shows it."""
+        self.runner.put("model", model)
+        self.runner.put("proof", small.TOKENS_REFUTED)
+        made, _ = generators.parsed(self.ask("aigtoaig --ascii", model)[0])
+        names = "model", "-", "proof"
+        wanted = invariants.wanted(made, None, names, text, small.TOKENS_REFUTED)
+        self.expect("aigunroll --cnf model --invariant -", text, *invariants.wanted_clauses(made, None, names, text))
+        self.expect("aigunroll model --invariant - --refutation proof", text, *wanted)
+
 
 def edits(text, place, bits=()):
     """The text cut before this byte, and with the byte changed, also in each of these bits."""
@@ -182,7 +199,7 @@ def tasks():
     """The name of each file, how it is judged, its text and what stands beside it."""
     for name, text in CIRCUITS.items():
         yield name, "circuit", text, b""
-    beside = {"stimulus": STIMULI, "witness": WITNESSES, "answer": ANSWERS, "refutation": REFUTATIONS}
+    beside = {"stimulus": STIMULI, "witness": WITNESSES, "answer": ANSWERS, "refutation": REFUTATIONS, "invariant": INVARIANTS}
     for how, files in beside.items():
         for name, (model, text) in files.items():
             yield name, how, text, model

@@ -389,6 +389,22 @@ printf 'none within 1\n' > "$work/want_file"
 made 'what a refutation shows, to a file' "$files/w" unroll 1 --refutation "$files/answer" "$answered" "$files/w"
 cp "$files/answer" "$files/same"
 made 'a file as refutation and destination' "$files/same" unroll 1 --refutation "$files/same" "$answered" "$files/same"
+held_twice="$files/held twice.aag"
+printf 'aag 1 0 1 0 0 1\n2 2\n2\n' > "$held_twice"
+printf '1 1\n' > "$files/rows"
+printf -- '-6 0\n' > "$files/rows.drat"
+printf 'never\n' > "$work/want_file"
+# proves WORD..
+proves() { "$program" aigunroll --invariant "$files/rows" --refutation "$files/rows.drat" "$@"; }
+made 'what an invariant shows, to a file' "$files/w" proves "$held_twice" "$files/w"
+cp "$held_twice" "$files/same"
+made 'a file as model of an invariant and destination' "$files/same" proves "$files/same" "$files/same"
+cp "$files/rows" "$files/same"
+made 'a file as invariant and destination' "$files/same" \
+    "$program" aigunroll --invariant "$files/same" --refutation "$files/rows.drat" "$held_twice" "$files/same"
+cp "$files/rows.drat" "$files/same"
+made 'a file as refutation of an invariant and destination' "$files/same" \
+    "$program" aigunroll --invariant "$files/rows" --refutation "$files/same" "$held_twice" "$files/same"
 cp "$work/witness" "$work/want_file"
 cp "$answered" "$files/same"
 made 'a file as model and destination' "$files/same" witness "$files/answer" "$files/same" "$files/same"
@@ -423,6 +439,13 @@ no_witness 'a refutation that refutes nothing' "$files/proof: no refutation" unr
 no_witness 'a refutation that is not there' "$files/none.drat: cannot read" unroll 2 --refutation "$files/none.drat" "$answered"
 no_witness 'a refused model of a refutation that is not there' "$held: no bad states" \
     unroll 2 --refutation "$files/none.drat" "$held"
+no_witness 'a wrong invariant' "$files/answer: line 1: bad line" "$program" aigunroll --invariant "$files/answer" --cnf "$held_twice"
+no_witness 'an invariant that is not there' "$files/none.pla: cannot read" \
+    "$program" aigunroll --invariant "$files/none.pla" --refutation "$files/none.drat" "$held_twice"
+no_witness 'an invariant that is not right' "$files/proof: no refutation" \
+    "$program" aigunroll --invariant /dev/null --refutation "$files/proof" "$held_twice"
+no_witness 'a refused model of an invariant that is not there' "$held: no bad states" \
+    "$program" aigunroll --invariant "$files/none.pla" --refutation "$files/none.drat" "$held"
 no_witness 'a refused model of an answer that is not there' "$held: no bad states" witness "$files/none.ans" "$held"
 # cannot_write_both NAME FILE: neither clauses nor a witness
 cannot_write_both() {
@@ -518,6 +541,12 @@ refused 'clauses of an answer' 'aiger: --answer excludes --cnf and --ascii' aigu
 refused 'a refutation and an answer' 'aiger: --refutation excludes --cnf, --ascii and --answer' \
     aigunroll --frames 2 --refutation a --answer b
 refused 'a bad state alone' 'aiger: --bad needs --cnf, --answer or --refutation' aigunroll --frames 2 --bad 0
+refused 'an invariant over frames' 'aiger: --invariant excludes --frames, --ascii and --answer' \
+    aigunroll --invariant a --frames 2 --cnf
+refused 'an invariant alone' 'aiger: --invariant needs --cnf or --refutation' aigunroll --invariant a b
+refused 'one stream for model and invariant' 'aiger: model and invariant are both standard input' aigunroll --invariant - --cnf
+refused 'one stream for invariant and refutation' 'aiger: invariant and refutation are both standard input' \
+    aigunroll --invariant - --refutation - a
 refused 'one stream for model and refutation' 'aiger: model and refutation are both standard input' \
     aigunroll --frames 2 --refutation -
 refused 'one stream for model and answer' 'aiger: model and answer are both standard input' aigunroll --frames 2 --answer -
@@ -573,19 +602,22 @@ if grep -q '^$comment confirmed 0 $end$' "$files/w.vcd"; then pass; else
 fi
 helps 'help of aigunroll' aigunroll --help
 # its examples too; the half adder has no latches, so each frame is a copy of it. In the place of the solver is one that knows
-# how its carry is 1 in the first frame, and that it is never 1 beside 0, which is the model of the last example.
-grep '^  aiger aigunroll \|^  cadical ' "$work/out" | sed 's/^  aiger/"$program"/; s/   .*//' > "$work/examples"
+# how its carry is 1 in the first frame, and that it is never 1 beside 0, which is the model of the last examples; and ABC's
+# invariant is empty.
+grep '^  aiger aigunroll \|^  cadical \|^  berkeley-abc ' "$work/out" | sed 's/^  aiger/"$program"/; s/   .*//' > "$work/examples"
 aig "$files/model.aag" "$files/model.aig"
 unroll 20 "$files/model.aig" > "$work/want_file"
 unroll 2 "$files/model.aag" --ascii > "$work/frames"
 printf 'aag 8 2 0 0 4 1\n2\n4\n16\n6 13 15\n12 2 4\n14 3 5\n16 12 0\n' > "$files/beside.aag"
 cadical() {
-    if [ "$*" = '-q model.cnf model.drat' ]; then cp beside.aag model.aig && echo 0 > model.drat; else
+    if [ "$*" = '-q model.cnf model.drat' ]; then cp beside.aag model.aig && echo 0 > model.drat
+    elif [ "$*" = '-q never.cnf never.drat' ]; then echo 0 > never.drat; else
         cmp - model.cnf && printf 's SATISFIABLE\nv 2 3 0\n'
     fi
 }
+berkeley-abc() { [ "$*" = '-c read model.aig; pdr -d -e -I model.pla' ] && echo '.e' > model.pla; }
 ran=$(cd "$files" && set -e && . "$work/examples" 2>&1 && echo all)
-if [ "$ran" = $'none within 20\nall' ] && [ "$(wc -l < "$work/examples")" = 8 ] && cmp -s "$files/long.aig" "$work/want_file" &&
+if [ "$ran" = $'none within 20\nnever\nall' ] && [ "$(wc -l < "$work/examples")" = 12 ] && cmp -s "$files/long.aig" "$work/want_file" &&
     cmp -s "$files/out" "$work/want_file" && cmp -s "$files/two.aag" "$work/frames" &&
     [ "$(sim --witness "$files/model.aag" "$files/witness.txt")" = 'confirmed 0' ]; then pass; else
     fail 'the examples of help of aigunroll run' "came   $ran, of" "$(cat "$work/examples")"

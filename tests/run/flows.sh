@@ -1,6 +1,7 @@
 #!/usr/bin/env bash
 # The scripts of examples/flows: from Verilog by Yosys and ABC, or from a model by a SAT solver, to a witness that is confirmed,
-# and each way in which that ends otherwise. Both must find the same least step, for designs and for models made by chance.
+# and each way in which that ends otherwise. Both must find the same least step, for designs and for models made by chance; and
+# `never` must be told by cadical where trying all states and inputs reaches no bad state.
 # Where Yosys, ABC or each solver is not installed, what needs them counts as skipped.
 #
 #     tests/run/flows.sh
@@ -48,6 +49,12 @@ echo "$SAYS"
 [ -z "${GIVES+x}" ] || printf '%b' "$GIVES" > "$2"
 exit "${ENDS:-0}"
 CADICAL
+# in the place of ABC, for an invariant: it says what it is told to, and gives rows if it is told some
+cat > "$work/pdr" << 'PDR'
+#!/usr/bin/env bash
+echo "$FINDS"
+[ -z "${ROWS+x}" ] || printf '%b' "$ROWS" > proved.pla
+PDR
 # in the place of MiniSat: it says so, and gives a result if it is told one
 cat > "$work/minisat" << 'MINISAT'
 #!/usr/bin/env bash
@@ -67,7 +74,7 @@ cat > "$work/replay/yosys" << 'REPLAY'
 #!/usr/bin/env bash
 case "$*" in *'sim -q'*) exec "$SIM" ;; *) exec "$YOSYS" "$@" ;; esac
 REPLAY
-chmod +x "$work/solver" "$work/cadical" "$work/minisat" "$work/failing" "$work/replay/yosys"
+chmod +x "$work/solver" "$work/cadical" "$work/pdr" "$work/minisat" "$work/failing" "$work/replay/yosys"
 printf 'aag 1 1 0 0 0 1\n2\n2\n' > "$place/input.aag"
 printf 'aag 1 1 0 1 0\n2\n2\n' > "$place/output.aag"
 printf 'aag 1 1 0 0 0 1 0 1\n2\n2\n1\n2\n' > "$place/justice.aag"
@@ -75,9 +82,9 @@ printf 'aag 1 1 0 0 0 1 0 1\n2\n2\n1\n2\n' > "$place/justice.aag"
 # unrolls NAME WANTED WORD..: the input as bad state for 3 steps, by the solver, with these words of env; unrolls_by_minisat
 unrolls() { flow "$1" "$2" SOLVER="$work/solver" "${@:3}" "$flows/check_unrolled.sh" input.aag 3; }
 unrolls_by_minisat() { flow "$1" "$2" SOLVER="$work/minisat" "${@:3}" "$flows/check_unrolled.sh" input.aag 3; }
-# unproved SOLVER STEPS: what is said where it finds none, and gives no refutation; proved STEPS: where it gives one
+# unproved SOLVER STEPS: what is said where it finds none, and gives no refutation; proved ANSWER: where it gives one
 unproved() { echo "0 no counterexample of at most $2 steps, which is not proved: $1 gives no refutation "; }
-proved() { echo "0 none within $1 solved in *.* s, its refutation of * bytes checked in *.* s "; }
+proved() { echo "0 $1 solved in *.* s, its refutation of * bytes checked in *.* s "; }
 said="2 check_unrolled.sh: the answer of $work/solver:"
 unrolls 'the solver finds none' "$(unproved solver 3)" SAYS='s UNSATISFIABLE' ENDS=20
 unrolls 'the solver finds one' '1 b0: confirmed 2 ' SAYS=$'c a solver\ns SATISFIABLE\nv -1 -2 -3 4\nv 0' ENDS=10
@@ -114,17 +121,18 @@ aiger_fails 'aiger fails at the witness' '2  ' aigsim
 aiger_fails 'aiger does not confirm it' '2 b0: not confirmed check_unrolled.sh: the witness is wrong: see run.aiw ' \
     aigsim WITH='not confirmed'
 aiger_fails 'aiger says another thing' '2  ' aigsim WITH='confirmed'
-# refutes NAME WANTED MODEL STEPS REFUTATION WORD..: the solver finds none, and gives this
+# refutes NAME WANTED MODEL STEPS REFUTATION WORD..: the solver finds none, and gives this; ABC finds no invariant
 refutes() {
-    flow "$1" "$2" SOLVER="$work/cadical" SAYS='s UNSATISFIABLE' ENDS=20 GIVES="$5" "${@:6}" "$flows/check_unrolled.sh" "$3" "$4"
+    flow "$1" "$2" ABC=false SOLVER="$work/cadical" SAYS='s UNSATISFIABLE' ENDS=20 GIVES="$5" "${@:6}" \
+        "$flows/check_unrolled.sh" "$3" "$4"
 }
 # of two inputs, no two of whose four values are at once: that needs a lemma, as 3
 printf 'aag 9 2 0 0 7 1\n2\n4\n18\n6 5 3\n8 5 2\n10 4 3\n12 4 2\n14 9 7\n16 13 11\n18 16 14\n' > "$place/never.aag"
 printf 'aag 1 0 1 0 0 1\n2 3\n2\n' > "$place/toggle.aag"
 refused="check_unrolled.sh: the refutation of $work/cadical is not accepted: see clauses.drat"
-refutes 'a refutation' "$(proved 1)" never.aag 1 '3 0\n0\n'
-refutes 'a binary refutation' "$(proved 1)" never.aag 1 'a\006\000a\000'
-refutes 'an empty refutation that is enough' "$(proved 1)" toggle.aag 1 ''
+refutes 'a refutation' "$(proved 'none within 1')" never.aag 1 '3 0\n0\n'
+refutes 'a binary refutation' "$(proved 'none within 1')" never.aag 1 'a\006\000a\000'
+refutes 'an empty refutation that is enough' "$(proved 'none within 1')" toggle.aag 1 ''
 # the clauses can be satisfied, whatever the solver says
 refutes 'a forged refutation' "2 aiger: clauses.drat: line 1: does not follow $refused " input.aag 3 '0\n'
 refutes 'a forged refutation of a run' "2 aiger: clauses.drat: line 1: does not follow $refused " toggle.aag 2 '-3 0\n0\n'
@@ -132,11 +140,30 @@ refutes 'an empty refutation that is not enough' "2 aiger: clauses.drat: no refu
 refutes 'a refutation of other clauses' "2 aiger: clauses.drat: line 1: bad line $refused " toggle.aag 2 '4 0\n0\n'
 refutes 'a refutation that is cut' "2 aiger: clauses.drat: no refutation $refused " never.aag 1 'a\006'
 refutes 'what is no refutation' "2 aiger: clauses.drat: line 2: bad line $refused " never.aag 1 'c\nx\n'
-flow 'cadical gives none' "$(unproved cadical 3)" SOLVER="$work/cadical" SAYS='s UNSATISFIABLE' ENDS=20 \
+flow 'cadical gives none' "$(unproved cadical 3)" ABC=false SOLVER="$work/cadical" SAYS='s UNSATISFIABLE' ENDS=20 \
     "$flows/check_unrolled.sh" input.aag 3
 refutes 'a refutation beside a run' '1 b0: confirmed 2 ' input.aag 3 '0\n' SAYS=$'s SATISFIABLE\nv 4 0'
 failing=(AIGER="$work/failing" PROGRAM="$program" FAILS=--refutation)
 refutes 'aiger fails at the refutation' "2 $refused " never.aag 1 '3 0\n' "${failing[@]}"
+# shows NAME WANTED ROWS REFUTATION WORD..: ABC gives these rows for two latches that exchange their values, of which the first
+# is 1 at first, behind those for the first step and for constraints. Without them the clauses of a step need no refutation.
+printf 'aag 3 0 2 0 1 1\n2 4 1\n4 2\n6\n6 4 2\n' > "$place/tokens.aag"
+shows() { refutes "$1" "$2" tokens.aag 1 "$4" ABC="$work/pdr" FINDS='Property proved.' ROWS="$3" "${@:5}"; }
+within=$(proved 'none within 1')
+shows 'an invariant' "$(proved never)" '# ABC\n.i 4\n--11 1\n.e\n' '-10 0\n'
+shows 'an invariant from the first step on, while constraints hold' "$(proved never)" '0-1- 1\n-1-1 1\n1011 1\n' '-10 0\n'
+shows 'an invariant that is wrong' "0 aiger: invariant.pla: line 1: met by a first state ${within#0 }" '--1- 1\n' ''
+shows 'an invariant of other latches' "0 aiger: invariant.pla: line 1: not a character for each latch ${within#0 }" '--0 1\n' ''
+shows 'an invariant that is not enough' "$within" '' '' ENDS=10
+shows 'an invariant without a refutation' "2 aiger: invariant.drat: no refutation ${refused/clauses/invariant} " '--11 1\n' ''
+shows 'an invariant, and a forged refutation' "2 aiger: invariant.drat: line 1: does not follow ${refused/clauses/invariant} " \
+    '--11 1\n' '0\n'
+shows 'ABC proves nothing' "$within" '--11 1\n' '-10 0\n' FINDS='Property DISPROVED.'
+shows 'ABC gives no rows' "$within" '' '' ABC="$work/solver" GIVES=
+shows 'ABC is not there' "$within" '--11 1\n' '-10 0\n' ABC="$work/no_abc"
+shows 'aiger fails at an invariant' "$within" '--11 1\n' '-10 0\n' AIGER="$work/failing" PROGRAM="$program" FAILS=invariant.cnf
+shows 'aiger fails at the refutation of an invariant' "2 ${refused/clauses/invariant} " '--11 1\n' '-10 0\n' \
+    AIGER="$work/failing" PROGRAM="$program" FAILS=invariant.drat
 # refused NAME WANTED MODEL STEPS
 refused() { flow "$1" "2 $2" SOLVER="$work/solver" SAYS='s UNSATISFIABLE' "$flows/check_unrolled.sh" "$3" "$4"; }
 refused 'a model that is not there' 'aiger: none.aig: cannot read ' none.aig 3
@@ -164,12 +191,14 @@ fi
 solvers=()
 for tool in cadical kissat minisat picosat; do ! command -v "$tool" > /dev/null || solvers+=("$tool"); done
 turns=0
-# by_solver NAME WANTED WORD..: a flow by the next solver; or by this one, in $solver. WANTED may be `none STEPS`.
+# by_solver NAME WANTED WORD..: a flow by the next solver; or by this one, in $solver. WANTED may be `none STEPS` or
+# `never STEPS`.
 by_solver() {
     local solver=${solver:-${solvers[turns++ % ${#solvers[@]}]}} wanted=$2
     case $wanted,$solver in
-        none*,cadical) wanted=$(proved "${wanted#none }") ;;
-        none*) wanted=$(unproved "$solver" "${wanted#none }") ;;
+        never*,cadical) wanted=$(proved never) ;;
+        none*,cadical) wanted=$(proved "none within ${wanted#none }") ;;
+        none* | never*) wanted=$(unproved "$solver" "${wanted#* }") ;;
     esac
     flow "$1, by $solver" "$wanted" SOLVER="$solver" "${@:3}"
 }
@@ -186,11 +215,15 @@ fails() {
     design "$1" "1 *confirmed $2 Warning: Assert $1. "
     least "$@"
 }
-# holds DESIGN: within both bounds
+# by_each NAME STEPS WANTED [MODEL]: likewise, by each solver
+by_each() {
+    local solver
+    for solver in "${solvers[@]}"; do unrolled "$@"; done
+}
+# holds DESIGN: within the bound of check.sh, and for ever
 holds() {
     design "$1" '0 no counterexample of at most 50 steps '
-    for solver in "${solvers[@]}"; do unrolled "$1" 7 'none 7'; done
-    solver=
+    by_each "$1" 7 'never 7'
 }
 # says_nothing DESIGN WORDS WORDS: of check.sh, and of aiger
 says_nothing() {
@@ -248,9 +281,16 @@ flows_of_models() {
     least 'a model without inputs' 1 0 'no input.aag'
     printf 'aag 3 1 2 2 0 1\n2\n4 2\n6 4\n2\n3\n6\no0 a name\n' > "$place/outputs.aag"
     least 'a model with outputs' 2 0 outputs.aag
+    printf 'aag 6 0 3 0 3 3\n2 6 1\n4 2\n6 4\n8\n10\n12\n8 4 2\n10 6 2\n12 6 4\n' > "$place/ring.aag"
+    by_each 'three bad states that are never reached' 2 'never 2' ring.aag
+    printf 'aag 2 1 1 0 0 1 1\n2\n4 3 1\n5\n3\n' > "$place/kept at 1.aag"
+    by_each 'a latch that a constraint keeps at 1' 2 'never 2' 'kept at 1.aag'
+    printf 'aag 2 0 2 0 0 1\n2 2 2\n4 4\n4\n' > "$place/either.aag"
+    by_each 'a latch without initial value beside one that stays 0' 2 'never 2' either.aag
 }
 
-# models_by_chance COUNT: so many models in files of their numbers, each with a bad state that is reached late or never
+# models_by_chance COUNT: so many models in files of their numbers, each with a bad state that is reached late or never; and a
+# file beside each where trying all states and inputs reaches none
 models_by_chance() {
     mkdir "$place/models"
     PYTHONPATH=$top/tests python3 -B - "$place/models" "$1" << 'MODELS'
@@ -258,23 +298,26 @@ import random
 import sys
 from pathlib import Path
 
-from lib import answers, images, refutations
+from lib import answers, images, invariants, refutations
 
 
 def model(chance, number):
-    """A model that has latches, since bmc3 takes no other one."""
-    made = iter(lambda: (refutations.sums if number % 4 == 0 else answers.small)(chance), None)
-    return next(it for it in made if it.latches)
+    """A model that has latches, since bmc3 takes no other one, and not too many."""
+    made = iter(lambda: [refutations.sums, invariants.unmet, answers.small, answers.small][number % 4](chance), None)
+    return next(it for it in made if it.latches and len(it.latches) + len(it.inputs) <= 10)
 
 
 for number in range(int(sys.argv[2])):
-    Path(sys.argv[1], f"{number}.aig").write_bytes(images.image(model(random.Random(number), number)))
+    made, file = model(random.Random(number), number), Path(sys.argv[1], f"{number}.aig")
+    file.write_bytes(images.image(made))
+    if not invariants.is_reached(made):
+        file.with_suffix(".never").touch()
 MODELS
 }
 
 # least_of_abc MODEL: the least step by ABC, within 10 steps, or none
 least_of_abc() {
-    "$program" aigtoaig --ascii "$1" | awk -f "$flows/folded.awk" | "$program" aigtoaig - "$work/folded.aig"
+    "$program" aigtoaig --strip --ascii "$1" | awk -f "$flows/folded.awk" | "$program" aigtoaig - "$work/folded.aig"
     (cd "$work" && timeout 60 berkeley-abc -q '&r folded.aig; &put; bmc3 -F 10') > "$work/abc.log" 2>&1
     if grep -qE '^(No output asserted in 10 frames|Explored all reachable states)' "$work/abc.log"; then echo none; else
         sed -nE 's/^Output 0 of miter .* was asserted in frame ([0-9]+)\..*/\1/p' "$work/abc.log"
@@ -282,14 +325,15 @@ least_of_abc() {
 }
 
 flows_of_models_by_chance() {
-    local number step solver
+    local number step answer solver
     models_by_chance 100
     for ((number = 0; number < 100; number++)); do
         # in all others by that which gives refutations, if it is there
         solver=$([ $((number % 2)) = 0 ] || printf '%s\n' "${solvers[@]}" | grep -x cadical)
         step=$(least_of_abc "$place/models/$number.aig")
         if [ "$step" = none ]; then
-            unrolled "model $number" 10 'none 10' "models/$number.aig"
+            answer=$([ -e "$place/models/$number.never" ] && echo never || echo none)
+            unrolled "model $number" 10 "$answer 10" "models/$number.aig"
         else
             least "model $number" "${step:-99}" 0 "models/$number.aig"
         fi
@@ -338,6 +382,8 @@ flows_with_spaces() {
     flow 'names with spaces' '1 confirmed 5 Warning: Assert queue. ' "${tools[@]}" "$scripts/check.sh" "a queue.v" queue clk
     mv "$place/design.aig" "$place/a model.aig"
     flow 'names with spaces, unrolled' '1 b0: confirmed 5 ' "${tools[@]}" "$scripts/check_unrolled.sh" 'a model.aig' 6
+    flow 'names with spaces, for ever' "$([ "${solvers[0]}" = cadical ] && proved never || unproved "${solvers[0]}" 6)" \
+        "${tools[@]}" "$scripts/check_unrolled.sh" 'kept at 1.aag' 6
 }
 
 if command -v yosys > /dev/null && command -v berkeley-abc > /dev/null && [ ${#solvers[@]} != 0 ]; then
@@ -350,6 +396,6 @@ if command -v yosys > /dev/null && command -v berkeley-abc > /dev/null && [ ${#s
     flows_that_abc_or_aiger_ends
     flows_with_spaces
 else
-    skip 243 'yosys, berkeley-abc or a SAT solver is not installed, to check designs'
+    skip 235 'yosys, berkeley-abc or a SAT solver is not installed, to check designs'
 fi
 finish

@@ -16,7 +16,7 @@ cp "$top"/release/{state.sh,side_by_side.py,make} "$tree/release"
 printf '#!/bin/sh\n{ cat "%s"; printf static; } > "$1" && chmod +x "$1" && echo of_this\n' "$out/aiger" \
     > "$tree/release/static"
 chmod +x "$tree/release/static"
-printf '# crates\naiger: low next std\nbeside: low\nlow: thiserror\nnext:\n' > "$tree/crates.txt"
+printf '# crates\naiger: low next std\nbeside: low\nlow: memchr\nnext:\n' > "$tree/crates.txt"
 printf '// one\n' | tee "$tree"/crates/{low,next,aiger,beside}/src/lib.rt > "$tree/crates/low/specs/More.antt"
 echo 'Handles allowed: none.' > "$tree/HANDLES"
 echo 'aag 0 0 0 0 0' > "$tree/crates/aiger/stdin"
@@ -238,7 +238,7 @@ copied='./HANDLES\n./crates.txt\n./crates/aiger/src/lib.rt\n./crates/aiger/stdin
 copied+='./crates/low/specs/More.antt\n./crates/low/src/lib.rt\n./crates/low/src/lib.rt~\n./crates/next/src/lib.rt\n'
 wants "$copied" '' 0
 check 'what it copies' cat "$work/copied"
-wants 'aiger: low next std\nlow: thiserror\nnext:\n' '' 0
+wants 'aiger: low next std\nlow: memchr\nnext:\n' '' 0
 check 'the lines of crates.txt that it copies' cat "$work/lines"
 wants "$small" '' 0
 check 'the launch after it' launch aigtoaig --ascii < "$work/small"

@@ -53,6 +53,10 @@ static const char said[] = "c\ns SATISFIABLE\nv -1 2\nv 0\n";
 /* two bits that are at no value, so that a lemma is needed */
 static const char four[] = "aag 9 2 0 0 7 1\n2\n4\n18\n6 5 3\n8 5 2\n10 4 3\n12 4 2\n14 9 7\n16 13 11\n18 16 14\n";
 static const char refutation[] = "2 3 0\nd 3 2 0\n3 0\n0\n";
+/* two tokens go from latch to latch: there are never two */
+static const char tokens[] = "aag 3 0 2 0 1 1\n2 4 1\n4 2\n6\n6 4 2\n";
+static const char invariant[] = ".i 2\n11 1\n.e\n";
+static const char shown_by[] = "-10 0\n";
 static const char wrong_claim[] = "1\nb0\n0\n\n.\n";
 
 typedef uint32_t call(uint8_t *output, size_t room, aigtools_outcome *outcome);
@@ -98,6 +102,16 @@ static uint32_t refuted(uint8_t *output, size_t room, aigtools_outcome *outcome)
     return put_words("none within", 1, output, room, outcome);
 }
 
+static uint32_t shown(uint8_t *output, size_t room, aigtools_outcome *outcome) {
+    return aigtools_invariant_clauses(0, AIGTOOLS_LARGEST, TEXT(tokens), TEXT(invariant), output, room, outcome);
+}
+static uint32_t never(uint8_t *output, size_t room, aigtools_outcome *outcome) {
+    uint32_t status =
+        aigtools_never(AIGTOOLS_ALL_BAD, AIGTOOLS_LARGEST, TEXT(tokens), TEXT(invariant), TEXT(shown_by), outcome);
+    if (status != AIGTOOLS_DONE) return status;
+    return put_words("never", 0, output, room, outcome);
+}
+
 static uint32_t run_of(const char *witness, size_t length, uint8_t *output, size_t room, aigtools_outcome *outcome) {
     return aigtools_dump(AIGTOOLS_LARGEST, TEXT(toggle), (const uint8_t *)witness, length, output, room, outcome);
 }
@@ -108,7 +122,7 @@ static uint32_t run(uint8_t *output, size_t room, aigtools_outcome *outcome) {
 static const struct { const char *name; call *of; } calls[] = {
     {"to binary", to_binary}, {"to ascii", to_ascii}, {"frames", frames}, {"trace", trace},
     {"dump", dump},           {"judged", judged},     {"run", run},       {"clauses", clauses},
-    {"reached", reached},     {"refuted", refuted},
+    {"reached", reached},     {"refuted", refuted},   {"shown", shown}, {"never", never},
 };
 #define CALLS (sizeof calls / sizeof *calls)
 
@@ -214,6 +228,8 @@ static void check_refused_options(void) {
     IS_BAD(aigtools_answer(0, 1, above, text, 0, text, 0, output, 1, &x));
     IS_BAD(aigtools_refute(0, 0, 1, text, 0, text, 0, &x));
     IS_BAD(aigtools_refute(AIGTOOLS_ALL_BAD, 1, above, text, 0, text, 0, &x));
+    IS_BAD(aigtools_invariant_clauses(0, above, text, 0, text, 0, output, 1, &x));
+    IS_BAD(aigtools_never(AIGTOOLS_ALL_BAD, above, text, 0, text, 0, text, 0, &x));
     IS_BAD(aigtools_witness(above, text, 0, text, 0, &x));
     IS_BAD(aigtools_dump(above, text, 0, text, 0, output, 1, &x));
     check(aigtools_message(&x, output, 1) == 0 && output[0] == UNTOUCHED, "message", "no fault", 0);
@@ -288,6 +304,40 @@ static void check_refutations(void) {
           x.status);
 }
 
+static void check_invariants(void) {
+    static const struct { const char *of, *said; uint32_t bad, kind, place, subject; uint64_t number; } refused[] = {
+        {"11 1\n10 11\n", "", 0, AIGTOOLS_BAD_INVARIANT, AIGTOOLS_LINE, 0, 2},
+        {"1 1\n", "", 0, AIGTOOLS_NOT_EACH_LATCH, AIGTOOLS_LINE, 0, 1},
+        {"\n# 1\n10 1\n", "", 0, AIGTOOLS_MET_AT_START, AIGTOOLS_LINE, 0, 3},
+        {"11 1\n", "", 1, AIGTOOLS_NO_SUCH_BAD_STATE, AIGTOOLS_WHOLE, 1, 0},
+        {"11 1\n", "", AIGTOOLS_ALL_BAD, AIGTOOLS_NO_REFUTATION, AIGTOOLS_WHOLE, 0, 0},
+        {"11 1\n", "\nx\n", 0, AIGTOOLS_BAD_REFUTATION, AIGTOOLS_LINE, 0, 2},
+        {"11 1\n", "0\n", 0, AIGTOOLS_DOES_NOT_FOLLOW, AIGTOOLS_LINE, 0, 1},
+        {"", "-5 0\n", 0, AIGTOOLS_DOES_NOT_FOLLOW, AIGTOOLS_LINE, 0, 1},
+    };
+    uint8_t output[ROOM];
+    aigtools_outcome x;
+    size_t i;
+    memset(output, UNTOUCHED, sizeof output);
+    for (i = 0; i < sizeof refused / sizeof *refused; i++) {
+        const uint8_t *of = (const uint8_t *)refused[i].of, *said = (const uint8_t *)refused[i].said;
+        aigtools_never(refused[i].bad, AIGTOOLS_LARGEST, TEXT(tokens), of, strlen(refused[i].of), said,
+                       strlen(refused[i].said), &x);
+        check(x.status == AIGTOOLS_REFUSED && x.kind == refused[i].kind && x.place == refused[i].place &&
+                  x.subject == refused[i].subject && x.number == refused[i].number && x.length == 0,
+              "never", "refused", (long)i);
+        if (i > 3) continue;
+        aigtools_invariant_clauses(refused[i].bad, AIGTOOLS_LARGEST, TEXT(tokens), of, strlen(refused[i].of), output,
+                                   ROOM, &x);
+        check(x.status == AIGTOOLS_REFUSED && x.kind == refused[i].kind && x.number == refused[i].number, "shown",
+              "refused", (long)i);
+    }
+    check(is_untouched(output, ROOM), "shown", "output untouched, refused", 0);
+    aigtools_never(0, AIGTOOLS_LARGEST, TEXT(tokens), TEXT(invariant), TEXT(shown_by), &x);
+    check(x.status == AIGTOOLS_DONE && x.kind == 0 && x.place == 0 && x.number == 0 && x.length == 0, "never", "done",
+          x.status);
+}
+
 static int time_conversion(const char *path, long times) {
     FILE *file = fopen(path, "rb");
     size_t length;
@@ -320,6 +370,7 @@ int main(int count, char **words) {
     check_verdicts_with_runs();
     check_answers();
     check_refutations();
+    check_invariants();
     check_refused_options();
     check_threads();
     return failed;

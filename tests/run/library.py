@@ -71,7 +71,7 @@ def options_of(words):
             options[{"-a": "ascii", "-s": "strip"}.get(word, word[2:].replace("-", "_"))] = True
         elif word in ("--max-var", "--frames", "--bad") and rest and rest[0].isdigit():
             options[word[2:].replace("-", "_")] = int(rest.pop(0))
-        elif word in ("--answer", "--refutation") and rest:
+        elif word in ("--answer", "--refutation", "--invariant") and rest:
             options[word[2:]] = rest.pop(0)
         elif word.startswith("-") and word != "-":
             return None
@@ -90,12 +90,18 @@ def judged(with_run, model, witness, options):
     return output, "", int(step is None)
 
 
-def answer(name, options, first, second):
+def answer(name, options, first, second, third=b""):
     """What the library answers, as the program would: its output, the words of its error, and its status."""
     options = dict(options)
     try:
         if name == "aigtoaig":
             return aigtools.convert(first, **options), "", 0
+        if name == "aigunroll" and options.pop("invariant", False):
+            if not options.pop("refutation", False):
+                options.pop("cnf")
+                return aigtools.invariant_clauses(first, second, **options), "", 0
+            aigtools.never(first, second, third, **options)
+            return b"never\n", "", 0
         if name == "aigunroll" and options.pop("answer", False):
             return aigtools.answer(first, second, **options), "", 0
         if name == "aigunroll" and options.pop("refutation", False):
@@ -113,7 +119,7 @@ def answer(name, options, first, second):
 
 
 def rows(folder):
-    """The rows that have bytes in and bytes out: a name, the words, two inputs, and what is wanted."""
+    """The rows that have bytes in and bytes out: a name, the words, two inputs or three, and what is wanted."""
     said = subprocess.run(["bash", "-c", ROWS, "rows", folder], cwd=TOP, stdout=subprocess.PIPE, check=True)
     words = said.stdout.split(b"\0")
     while len(words) > 1:
@@ -124,17 +130,17 @@ def rows(folder):
         if asked is None or status not in (b"0", b"1") or asked[0] not in ("aigtoaig", "aigunroll", "aigsim"):
             continue
         tool, options, files = asked
-        written = options.get("answer", options.get("refutation"))
-        if written is not None:
-            files = [*(files or ["-"]), written]
+        written = [options[it] for it in ("invariant", "answer", "refutation") if it in options]
+        if written:
+            files = [*(files or ["-"]), *written]
         inputs = [meant(given) if it == "-" else Path(it).read_bytes() if os.path.isfile(it) else None for it in files]
         if tool == "aigsim":
             inputs += [meant(given)] * (len(inputs) == 1)
             whole = "batch" in options or "witness" in options or status == b"0"
         else:
-            inputs = (inputs or [meant(given)]) + [b""] * (written is None)
+            inputs = (inputs or [meant(given)]) + [b""] * (not written)
             whole = True
-        if whole and len(inputs) == 2 and None not in inputs:
+        if whole and len(inputs) == 1 + (len(written) or 1) and None not in inputs:
             yield name.decode(), tool, options, inputs, (meant(output), meant(errors).decode(), int(status)), files
 
 
@@ -172,7 +178,7 @@ def mutants(folder, program):
     seeds += [row[3][0] for row in rows(folder) if row[4][2] == 0 and len(row[3][0]) < 2000][::7]
     seeds += [aigtools.convert(it, keep_map=True) for it in seeds]
     for number in range(MUTANTS):
-        text, kind = mutated(chance, chance.choice(seeds)), chance.randrange(12)
+        text, kind = mutated(chance, chance.choice(seeds)), chance.randrange(13)
         if kind < 6:
             flags = [(), ("ascii",), ("keep_map",), ("undo_map",), ("undo_map", "ascii"), ("strip",)]
             flags = chance.choice([*flags, ("outputs_as_bad",)])
@@ -191,6 +197,14 @@ def mutants(folder, program):
             else:
                 said = b"c\ns SATISFIABLE\nv %d %d 5 -6\nv 0\n" % (chance.randrange(1, 9), chance.randrange(1, 9))
                 yield "aigunroll", [*words, "--answer", "-"], {**options, "answer": "-"}, text, mutated(chance, said)
+        elif kind == 12:
+            latches = re.match(rb"a[ai]g \d+ \d+ (\d+)", text)
+            width = min(int(latches[1]), 9) if latches else 1
+            cubes = [b"%s 1\n" % bytes(chance.choice(b"01-") for _ in range(width)) for _ in range(chance.randrange(3))]
+            options = chance.choice([{}, {"bad": chance.randrange(3)}])
+            words = [word for name, number in options.items() for word in (f"--{name}", str(number))]
+            words, options = [*words, "--invariant", "-", "--cnf"], {**options, "invariant": "-", "cnf": True}
+            yield "aigunroll", words, options, text, mutated(chance, b"".join(cubes))
         else:
             inputs = re.match(rb"a[ai]g \d+ (\d+)", text)
             width = min(int(inputs[1]), 9) if inputs else 1
@@ -212,7 +226,7 @@ def check_mutants(program):
         def compare(mutant):
             number, (tool, words, options, first, second) = mutant
             given, files = first, []
-            if tool == "aigsim" or {"answer", "refutation"} & options.keys():
+            if tool == "aigsim" or {"answer", "refutation", "invariant"} & options.keys():
                 model = Path(folder, str(number))
                 model.write_bytes(first)
                 given, files = second, [str(model)]
@@ -301,6 +315,24 @@ class Sizes:
             judge("a refutation of megabytes", len(given) > MANY and came == (b"", said, 1), came)
             judge("and by the program", ran.stderr == f"aiger: -: {said}\n".encode(), ran.stderr)
 
+    def shown(self):
+        """An invariant of megabytes, and a refutation of its clauses: that the constraints are not 1 in all."""
+        source, given = b"aag 1 0 1 0 0 1\n2 2\n2\n", b"# no state\n1 1\n" * LINES
+        self.model.write_bytes(source)
+        words = f"aigunroll --invariant - --cnf {self.model}"
+        text = self.alike("clauses of an invariant", aigtools.invariant_clauses(source, given), words, given)
+        # a cube has a gate for the state and one for the next one, and a gate in each of two chains
+        came = text[: text.index(b"\n")], text.count(b"\n")
+        judge("clauses of an invariant by count", came == (b"p cnf %d %d" % (4 * LINES + 3, 12 * LINES + 5), 12 * LINES + 6))
+        proof = b"c\n" * MANY + b"-%d 0\n" % (3 * LINES + 2)
+        invariant = Path(f"{self.model}.pla")
+        invariant.write_bytes(given)
+        words = f"aigunroll --invariant {invariant} --refutation - {self.model}"
+        ran = subprocess.run([self.program, *words.split()], input=proof, capture_output=True, check=False)
+        came = answer("aigunroll", {"invariant": "-", "refutation": "-"}, source, given, proof)
+        judge("an invariant of megabytes", len(given) > MANY and came == (b"never\n", "", 0), came)
+        judge("and by the program", ran.stdout == b"never\n", ran.stderr)
+
     def traces(self, count, runs):
         """The traces and the dump of these runs of a circuit of this size."""
         source = "".join(large.wide(count, range(count), "ilobc")).encode()
@@ -341,6 +373,7 @@ def check_sizes(program):
         sizes.unrolled()
         sizes.answered()
         sizes.refuted()
+        sizes.shown()
         *some, last = large.inputs(LINES)
         run = [*itertools.islice(itertools.cycle(some), STEPS), last]
         dump = sizes.traces(LINES, [run])
@@ -429,7 +462,7 @@ def check_symbols(folder):
         ran = subprocess.run(["nm", "--format=posix", *options, path], stdout=subprocess.PIPE, text=True, check=True)
         return {line.split()[0] for line in ran.stdout.splitlines() if len(line.split()) > 1}
 
-    exports = set(re.findall(r"\b(aigtools_[a-z]+)\(", (TOP / "include/aigtools.h").read_text()))
+    exports = set(re.findall(r"\b(aigtools_[a-z_]+)\(", (TOP / "include/aigtools.h").read_text()))
     calls = {"malloc", "realloc", "free", "memcpy", "memmove", "memset", "memcmp", "bcmp"}
     made = symbols(Path(folder, "libaigtools.a"), "-g", "--defined-only")
     judge("the symbols of libaigtools.a", made == exports, sorted(made))
@@ -490,8 +523,11 @@ def check_options(program):
     calls = {
         "aigtoaig": ((aigtools.convert,), set()),
         "aigunroll": (
-            (aigtools.unroll, aigtools.clauses, aigtools.answer, aigtools.refute),
-            {"cnf", "answer", "refutation"},
+            (
+                *(aigtools.unroll, aigtools.clauses, aigtools.answer, aigtools.refute),
+                *(aigtools.invariant_clauses, aigtools.never),
+            ),
+            {"cnf", "answer", "refutation", "invariant"},
         ),
         "aigsim": ((aigtools.simulate, aigtools.confirm, aigtools.dump), {"batch", "witness"}),
     }
@@ -500,7 +536,7 @@ def check_options(program):
         words = re.findall(r"^ {2,6}(?:-\w, )?--([a-z-]+)", said, re.M)
         there = {it.replace("-", "_") for it in words} - {"help", "version"}
         names = {name for it in functions for name in inspect.signature(it).parameters}
-        here = names - {"data", "model", "stimulus", "witness", "answer", "refutation"} | chosen
+        here = names - {"data", "model", "stimulus", "witness", "answer", "refutation", "invariant"} | chosen
         judge(f"the options of {command}", there == here and len(there) > 1, there, here)
 
 
@@ -522,6 +558,7 @@ def check_arguments():
         judge("no bytes", refuses(TypeError, "bytes-like", aigtools.convert, data), data)
         judge("no bytes for a witness", refuses(TypeError, "bytes-like", aigtools.dump, gate, data), data)
         judge("no bytes for a refutation", refuses(TypeError, "bytes-like", aigtools.refute, gate, data, 1), data)
+        judge("no bytes for an invariant", refuses(TypeError, "bytes-like", aigtools.never, gate, data, b""), data)
     for other in ("ascii", "strip", "undo_map"):
         why = f"keep_map excludes {other}"
         judge(why, refuses(ValueError, why, aigtools.convert, gate, keep_map=True, **{other: True}))
@@ -539,9 +576,12 @@ def check_arguments():
         why = f"bad is not from 0 to {aigtools.LARGEST}"
         judge(why, refuses(ValueError, why, aigtools.clauses, gate, 1, bad=bad), bad)
         judge(why, refuses(ValueError, why, aigtools.refute, gate, b"", 1, bad=bad), bad)
+        judge(why, refuses(ValueError, why, aigtools.invariant_clauses, gate, b"", bad=bad), bad)
+        judge(why, refuses(ValueError, why, aigtools.never, gate, b"", b"", bad=bad), bad)
     for limit in (-1, aigtools.LARGEST + 1):
         why = f"max_var is not from 0 to {aigtools.LARGEST}"
         judge(why, refuses(ValueError, why, aigtools.confirm, gate, b"", max_var=limit), limit)
+        judge(why, refuses(ValueError, why, aigtools.never, gate, b"", b"", max_var=limit), limit)
 
 
 def check_guess():

@@ -16,7 +16,7 @@ from lib import counts
 TOP = Path(__file__).resolve().parents[2]
 PAGE = "docs/PROOFS.md"
 # libraries of the kit, and a call of the system
-OTHERS = {"clap", "core", "fdatasync", "itoa", "memchr", "std", "thiserror"}
+OTHERS = {"clap", "core", "fdatasync", "itoa", "memchr", "std"}
 IN_CODE = (
     r"\b(?:fn|struct|enum|trait|type|const|static|mod) (\w+)",
     r"\b(?:ensures|requires) (\w+) \{",

@@ -4,7 +4,8 @@
     tests/run/sizes.py PROGRAM [NAME]     all, or what has NAME in the name of its function
 
 Files, stimuli, witnesses and map blocks have more than 64 MB, comments of a solver's answer 100 MB, a line of its
-values 50 MB, and refutations 100 MB, with a lemma of a million literals. Each section has 500,000 lines. There are
+values 50 MB, and refutations 100 MB, with a lemma of a million literals. An invariant has 200,000 rows, and between them
+100 MB of comments. Each section has 500,000 lines. There are
 20,000 runs, 1,000 frames, and 4,000,000 gates, each before the one that it is over. Dumps have 350,000 signals, and
 1,200,000 steps.
 What is wanted is made here by rule. A run may take 1.5 GB of memory.
@@ -35,8 +36,8 @@ WIDTH, INPUTS, FRAMES, CARRIED = 5_000, 1_000, 1_000, 1_000
 SIGNALS, STEPS = 70_000, 1_200_000
 # bytes of comments in a solver's answer, and of a line of its values
 COMMENTS, VALUES = 100_000_000, 50_000_000
-# literals of a lemma, and lines of a refutation
-LITERALS, LEMMAS = 1_000_000, 1_000_000
+# literals of a lemma, and lines of a refutation; rows of an invariant, and latches
+LITERALS, LEMMAS, ROWS, HELD = 1_000_000, 1_000_000, 200_000, 40
 # bytes of a file that are held at a time
 EDGE = 65_536
 
@@ -308,6 +309,40 @@ def large_refutations(room):
     room.judge("a long lemma without its end", came == (b"aiger: -: no refutation\n", 1), came)
 
 
+def large_invariants(room):
+    """Latches that stay 0, of which each row asks for one to be 1. The bad state is the first of them."""
+    write("model", f"aag {HELD} 0 {HELD} 0 0 1\n".encode(), (f"{2 * at} {2 * at}\n" for at in range(1, HELD + 1)), b"2\n")
+    rows = [f"{'-' * at}1{'-' * (HELD - 1 - at)} 1\n" for at in range(HELD)]
+    last = rows[(ROWS - 1) % HELD].removesuffix("\n").encode()
+    write("rows", b"#" * COMMENTS, b"\n", (rows[at % HELD] for at in range(ROWS - 1)), b"\n", last)
+    # the gates of rows, of the state and of the next one; the chain of constraints; the bad states, in clauses
+    first, chain, bad = HELD + 1, HELD + 1 + 2 * ROWS, HELD + 1 + 3 * ROWS
+    largest = bad + ROWS
+
+    def clauses():
+        yield f"p cnf {largest + 1} {3 * (largest - HELD) + 2}\n-1 0\n"
+        for at in range(2 * ROWS):
+            yield three_clauses(2 * (first + at), 2 * (at // 2 % HELD + 1), 1)
+        for at in range(ROWS):
+            now, held = 2 * (first + 2 * at) + 1, 2 * (chain + at - 1)
+            yield three_clauses(2 * (chain + at), *((held, now) if at else (now, 1)))
+        for at in range(ROWS + 1):
+            reached = 2 * (first + 2 * at - 1) if at else 2
+            yield three_clauses(2 * (bad + at), 2 * (bad - 1), reached)
+        yield " ".join(str(bad + at + 1) for at in range(ROWS + 1)) + " 0\n"
+
+    write("wanted", clauses())
+    room.gives("aigunroll --invariant - --cnf model", "rows", "wanted")
+    # the end of the chain
+    write("proof", b"%d 0\n" % bad)
+    write("wanted", b"never\n")
+    room.gives("aigunroll --invariant rows --refutation - model", "proof", "wanted")
+    with open("rows", "ab") as file:
+        file.write(b"\n1\n")
+    came = room.run("aigunroll --invariant - --cnf model", "rows", "came")
+    room.judge("a bad row behind many", came == (b"aiger: -: line %d: bad line\n" % (ROWS + 3), 1), came)
+
+
 def frames_of_nothing(room):
     """Latches that start anyhow, and nothing else: to go over all latches in each frame would take hours."""
     count, frames = LINES, 1_000_000
@@ -338,7 +373,7 @@ def window_edges(room):
 
 
 JUDGES = [large_chains, large_tails, large_sections, many_runs, many_signals, many_latches, long_stimuli, long_dumps]
-JUDGES += [many_frames, many_clauses, large_answers, large_refutations, frames_of_nothing, window_edges]
+JUDGES += [many_frames, many_clauses, large_answers, large_refutations, large_invariants, frames_of_nothing, window_edges]
 
 
 def main(program, name=""):

@@ -330,6 +330,38 @@ refutation_memory() {
     judge 'lemmas without an end' "${PIPESTATUS[1]}"
 }
 
+# an invariant: never are both latches 1 that exchange their values
+invariant_streams() {
+    local stream
+    strengthen() { "$program" aigunroll --invariant - "$@" "$judged/tokens.aag"; }
+    printf 'aag 3 0 2 0 1 1\n2 4 1\n4 2\n6\n6 4 2\n' > "$judged/tokens.aag"
+    printf '#\n11 1\n' > "$judged/rows"
+    printf -- '-10 0\n' > "$judged/tokens.drat"
+    for stream in closed full; do
+        wants '' 'aiger: -: cannot write\n' 1
+        check "an invariant, a $stream standard output" "output_$stream" strengthen --refutation "$judged/tokens.drat" < "$judged/rows"
+        check "clauses of an invariant, a $stream standard output" "output_$stream" strengthen --cnf < "$judged/rows"
+        wants '' '' 1
+        check "a wrong invariant, a $stream standard error" "errors_$stream" strengthen --cnf < "$judged/tokens.drat"
+        wants 'never\n' '' 0
+        check "an invariant, a $stream standard error" "errors_$stream" strengthen --refutation "$judged/tokens.drat" < "$judged/rows"
+    done
+    wants '' 'aiger: -: cannot read\n' 1
+    check 'a directory as invariant by standard input' strengthen --cnf < "$work"
+    check 'a closed standard input as invariant' strengthen --cnf <&-
+    wants 'never\n' '' 0
+    rows_in_pieces() { printf '#\n1'; sleep 0.1; printf '1 '; sleep 0.1; printf '1'; }
+    rows_in_pieces | strengthen --refutation "$judged/tokens.drat" > "$work/out" 2> "$work/err"
+    judge 'an invariant that comes in pieces' "${PIPESTATUS[1]}"
+    wants '#\n11 1\n' '' 0
+    check 'an invariant of a model that is refused' unread aigunroll --invariant - --cnf "$judged/cut.aag" < "$judged/rows"
+    check 'an invariant of words that are refused' unread aigunroll --invariant - "$judged/tokens.aag" < "$judged/rows"
+    check 'an invariant of no such bad state' unread aigunroll --invariant - --cnf --bad 1 "$judged/tokens.aag" < "$judged/rows"
+    wants '-10 0\n' '' 0
+    check 'a refutation beside a wrong invariant' \
+        unread aigunroll --invariant "$judged/tokens.drat" --refutation - "$judged/tokens.aag" < "$judged/tokens.drat"
+}
+
 make_witnesses
 witness_outputs
 witness_inputs
@@ -344,4 +376,5 @@ answer_memory
 refutation_streams
 refutations_left_alone
 refutation_memory
+invariant_streams
 finish

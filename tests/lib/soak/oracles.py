@@ -3,7 +3,7 @@ import dataclasses
 import itertools
 import re
 
-from lib import answers, images, refusals, refutations, traces, unrolled, waves, witnesses
+from lib import answers, images, invariants, refusals, refutations, traces, unrolled, waves, witnesses
 from lib.soak.calls import Call, Failed
 from lib.soak.editors import edited
 from lib.soak.generators import parsed, simulation, some_rows, stimulus
@@ -193,6 +193,19 @@ def clauses_alike(here, models, made):
         text = answers.given(chance, made, frames)
         same_run(here, models, made, frames, bad, edited(chance, text, text) if chance.randrange(2) else text)
         same_refutation(here, models, made, frames, bad)
+    same_invariant(here, models, made, bad)
+
+
+def same_invariant(here, models, made, bad):
+    """The clauses of an invariant are those of the circuit that is made of it; of the image too, which has other numbers."""
+    chance, words = here.chance, ["aigunroll", "--cnf", *([] if bad is None else ["--bad", str(bad)])]
+    text = invariants.given(chance, made, [])
+    text = edited(chance, text, text) if chance.randrange(2) else text
+    for model, it in zip(models, (made, images.renumbered(made))):
+        call, names = Call([*words, "--invariant", "-", "model"], text, {"model": model}), ("model", "-")
+        if chance.randrange(2):
+            call, names = Call([*words, "--invariant", "rows", "-"], model, {"rows": text}), ("-", "rows")
+        here.expect("the clauses of an invariant", call, *invariants.wanted_clauses(it, bad, names, text))
 
 
 def same_refutation(here, models, made, frames, bad):

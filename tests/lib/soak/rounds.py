@@ -12,7 +12,7 @@ LARGEST = 2**31 - 1
 WORDS = """aigtoaig aigtoaig aigsim aigsim aigunroll aigunroll --ascii --strip --keep-map --undo-map
     --outputs-as-bad --max-var --max-var=9 --max-var=2147483648 --frames --frames=2 --frames=0 --batch --properties
     --vcd --witness --cnf --cnf --bad=0 --bad=1 --answer=source --answer
-    --refutation=source --refutation --help -h -- - source source source out.aag
+    --refutation=source --refutation --invariant=source --invariant --help -h -- - source source source out.aag
     out.aig out.gz 3 --unknown""".split() + [""]
 # what the arguments that refusals.py lists are refused for, in this order; and names of files that cannot be there
 REFUSED_WORDS = """aigtoaig --keep-map --ascii
@@ -30,6 +30,11 @@ aigunroll --frames 2 --refutation model --answer -
 aigunroll --frames 2 --bad 0
 aigunroll --frames 2 --answer - -
 aigunroll --frames 2 --refutation - -
+aigunroll --cnf
+aigunroll --invariant - --frames 2
+aigunroll --invariant - --bad 0
+aigunroll --invariant - --cnf
+aigunroll --invariant - --refutation - model
 aigtoaig \udcff""".split("\n")
 NO_FILES = {
     "aigtoaig none/source": "none/source: cannot read",
@@ -77,6 +82,9 @@ def refused_alike(here, text, errors, limit):
     unroll = ["aigunroll", "--frames", "2", *limit]
     for words in ([], ["--cnf"], ["-", "--answer", "steps"], ["-", "--refutation", "steps"]):
         here.expect("a refusal is one of all tools", Call([*unroll, *words], text, steps), b"", errors, 1)
+    for words in (["--cnf"], ["--refutation", "steps"]):
+        call = Call(["aigunroll", "--invariant", "steps", *limit, *words], text, steps)
+        here.expect("a refusal is one of all tools", call, b"", errors, 1)
     told = errors.replace(b"aiger: -: ", b"aiger: source: ", 1)
     named = [["aigtoaig", *limit, "source", "out.aag"], [*unroll, "source", "out.aag"], ["aigsim", *limit, "source"]]
     for words in named:
