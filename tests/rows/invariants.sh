@@ -8,15 +8,21 @@ untaken() { row "$1" "$2" '' "aiger: -: $3\n" 1 aigunroll --invariant - --cnf "$
 bad_row() { untaken "$1" "$2" "line $3: bad line"; }
 other_length() { untaken "$1" "$2" "line $3: not a character for each latch"; }
 met() { untaken "$1" "$2" "line $3: met by a first state"; }
+# held INVARIANT: makes $invariant, a file of its own, since rows may be run after all were made
+held() {
+    invariants=$((${invariants:-0} + 1))
+    invariant=$work/invariant.$invariants
+    printf '%b' "$1" > "$invariant"
+}
 # proves NAME INVARIANT REFUTATION WORD..: no bad state of the model that was made last is reached
 proves() {
-    printf '%b' "$2" > "$work/invariant"
-    row "$1" "$3" 'never\n' '' 0 aigunroll --invariant "$work/invariant" --refutation - "$model" "${@:4}"
+    held "$2"
+    row "$1" "$3" 'never\n' '' 0 aigunroll --invariant "$invariant" --refutation - "$model" "${@:4}"
 }
 # unproved NAME INVARIANT REFUTATION MESSAGE WORD..
 unproved() {
-    printf '%b' "$2" > "$work/invariant"
-    row "$1" "$3" '' "aiger: -: $4\n" 1 aigunroll --invariant "$work/invariant" --refutation - "$model" "${@:5}"
+    held "$2"
+    row "$1" "$3" '' "aiger: -: $4\n" 1 aigunroll --invariant "$invariant" --refutation - "$model" "${@:5}"
 }
 
 rows_invariants() {
