@@ -171,7 +171,8 @@ same_symbol a b =
     (Decides-and _ _ (same_kind a.kind b.kind)
     (Decides-and _ _ (Decides-eqb a.position b.position) (bytes_eq-Decides a.name b.name)))
 
-abbrev circuit_of : ℕ → List ℕ → List Latch → List ℕ → List ℕ → List ℕ → Justice → List ℕ → List Gate → List Symbol → Option (List ℕ) → Circuit
+abbrev circuit_of : ℕ → List ℕ → List Latch → List ℕ → List ℕ → List ℕ → Justice → List ℕ → List Gate → List Symbol
+    → Option (List ℕ) → Circuit
 circuit_of m i l o b n j f g s c = record {
   max_var = m;
   inputs = i;
@@ -206,7 +207,31 @@ same_circuit a b =
     a.symbols a.comment
     ≡ circuit_of b.max_var b.inputs b.latches b.outputs b.bad b.constraints b.justice b.fairness b.gates b.symbols
     b.comment = cc in t)
-    (λ e. (ap (λ (x : Circuit). x.max_var) e, (ap (λ (x : Circuit). x.inputs) e, (ap (λ (x : Circuit). x.latches) e, ((ap (λ (x : Circuit). x.outputs) e, (ap (λ (x : Circuit). x.bad) e, (ap (λ (x : Circuit). x.constraints) e, (ap (λ (x : Circuit). x.justice) e, ap (λ (x : Circuit). x.fairness) e)))), (ap (λ (x : Circuit). x.gates) e, (ap (λ (x : Circuit). x.symbols) e, ap (λ (x : Circuit). x.comment) e)))))))
+    (λ e. (
+      ap (λ (x : Circuit). x.max_var) e,
+      (
+        ap (λ (x : Circuit). x.inputs) e,
+        (
+          ap (λ (x : Circuit). x.latches) e,
+          (
+            (
+              ap (λ (x : Circuit). x.outputs) e,
+              (
+                ap (λ (x : Circuit). x.bad) e,
+                (
+                  ap (λ (x : Circuit). x.constraints) e,
+                  (ap (λ (x : Circuit). x.justice) e, ap (λ (x : Circuit). x.fairness) e),
+                ),
+              ),
+            ),
+            (
+              ap (λ (x : Circuit). x.gates) e,
+              (ap (λ (x : Circuit). x.symbols) e, ap (λ (x : Circuit). x.comment) e),
+            ),
+          ),
+        ),
+      ),
+    ))
     (Decides-and _ _ (Decides-eqb a.max_var b.max_var)
     (Decides-and _ _ (slice_eq-Decides Decides-eqb a.inputs b.inputs _ refl)
     (Decides-and _ _ (slice_eq-Decides same_latch a.latches b.latches _ refl)

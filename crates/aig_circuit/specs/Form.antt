@@ -5,7 +5,8 @@ use Rattle.std.specs.List.{All, AllByRecursion}
 use Rattle.aig_circuit.specs.declared.circuit.Circuit.{Circuit}
 use Rattle.aig_circuit.specs.declared.circuit.Latch.{Latch}
 use Rattle.aig_circuit.specs.declared.circuit.Gate.{Gate}
-use Rattle.aig_circuit.specs.Wellformed.{IsWithinLimits, IsVariableUpTo, HasGoodSymbols, defined_variables, used_literals}
+use Rattle.aig_circuit.specs.Wellformed.{IsWithinLimits, IsVariableUpTo, HasGoodSymbols}
+use Rattle.aig_circuit.specs.Wellformed.{defined_variables, used_literals}
 use Rattle.aig_circuit.specs.Wellformed.{literal_lists, operands}
 
 -- a literal that a circuit with this largest index may use

@@ -102,8 +102,8 @@ pub struct Reach {
     pub destination: Option<String>,
 }
 
-/// An invariant of a model: the clauses in which it is to be shown, or that a solver's refutation of
-/// them is right.
+/// An invariant of a model: the clauses in which it is to be shown, or that a solver's refutation
+/// of them is right.
 #[derive(Drop)]
 pub struct Invariant {
     /// The number of the bad state that is never to be reached, counted from 0; `None` is any.

@@ -1,5 +1,6 @@
 -- What comes of an invariant that is read, and of a refutation of its clauses.
-use Rattle.std.proofs.Common.{◌≡◌, ◌⊎◌, ◌∙◌, ℕ, List, None, Result, Ok, Err, IfErr, IfOk, ap, inl, inr, refl, subst, sym}
+use Rattle.std.proofs.Common.{◌≡◌, ◌⊎◌, ◌∙◌, ℕ, List, None, Result, Ok, Err, IfErr, IfOk}
+use Rattle.std.proofs.Common.{ap, inl, inr, refl, subst, sym}
 use Rattle.aig_rows.proofs.Steps.{ok_same}
 use Rattle.aig_circuit.specs.declared.circuit.Circuit.{Circuit}
 use Rattle.aig_circuit.specs.Wellformed.{IsWellFormed}
@@ -150,8 +151,9 @@ never_reached request strengthened d (Ok done) before after right good formed is
     read.says.0,
     record {
       never = λ c invariant cubes formed_first there has same.
-          invariants_mean_never c d request.bad invariant cubes formed_first there has (subst (λ (k : Circuit). IsWellFormed k) same good)
-          formed (subst (λ (k : Circuit). IsUnrolled k 1 d) same is) read.says.1;
+          invariants_mean_never c d request.bad invariant cubes formed_first there has
+          (subst (λ (k : Circuit). IsWellFormed k) same good) formed
+          (subst (λ (k : Circuit). IsUnrolled k 1 d) same is) read.says.1;
       written_as = refl;
     },
   );

@@ -15,7 +15,8 @@ use Rattle.aig_search.specs.declared.fault.AnswerFault.TheVariants as answer_fau
 use Rattle.aig_unroll.specs.declared.fault.UnrollFault.{UnrollFault}
 use Rattle.aig_unroll.specs.declared.fault.UnrollFault.TheVariants as unroll_faults
 use Rattle.aig_engines.specs.declared.fault.ToolFault.TheVariants.{Read, Map, HasBad, Sim, NoBad, Unroll, Clauses}
-use Rattle.aig_engines.specs.declared.fault.ToolFault.TheVariants.{Answer, Refutation, Invariant, Source, Sink, OutOfMemory}
+use Rattle.aig_engines.specs.declared.fault.ToolFault.TheVariants.{Answer, Refutation, Invariant}
+use Rattle.aig_engines.specs.declared.fault.ToolFault.TheVariants.{Source, Sink, OutOfMemory}
 
 -- The device that failed, memory that was refused, or else what the source gave, or the stimulus. Of a simulation the
 -- model is the source; a witness file stands in the place of the stimulus.

@@ -41,7 +41,7 @@ IsModelProved request = IsModelAsked (over_one_frame request)
 abbrev pub IsModelUnproved : Invariant → ToolFault → List ℕ → Type 0
 IsModelUnproved request = IsModelRefused (over_one_frame request)
 
--- The bytes are an invariant of the circuit that is asked for, and this is the circuit in which it is to be shown, which
+-- The bytes are an invariant of the circuit that is asked for, and this is the circuit in which it is to be shown. It
 -- has clauses over one frame.
 pub record IsStrengthened (asked : Circuit) (invariant : List ℕ) (strengthened : Circuit) : Type 0 where
   pub cubes : List Cube

@@ -1,5 +1,5 @@
--- By induction on a run: no state of it meets a cube, and no bad state of it is 1, since a step that goes wrong would be
--- a claim of the circuit with the invariant, confirmed at its first step.
+-- By induction on a run: no state of it meets a cube, and no bad state of it is 1, since a step that goes wrong would
+-- be a claim of the circuit with the invariant, confirmed at its first step.
 use Rattle.std.proofs.Common.{◌≡◌, ◌∙◌, ◌++◌, ℕ, zero, suc, List, [], ◌∷◌, Bool, None, Some, ap, arith}
 use Rattle.std.proofs.Common.{get_or, length, map, refl, subst, sym}
 use Rattle.std.specs.List.{All, AllByRecursion, AllZip, Contains}
@@ -14,7 +14,8 @@ use Rattle.aig_circuit.specs.declared.value.Val.TheVariants.{Zero, One}
 use Rattle.aig_circuit.specs.Values.{value_not}
 use Rattle.aig_circuit.specs.Wellformed.{IsWellFormed}
 use Rattle.aig_meaning.specs.Completion.{RowStays}
-use Rattle.aig_meaning.specs.Meaning.{Holds, IsRow, IsStepAssignment, Row, latch_variables, literal_value, next_literals}
+use Rattle.aig_meaning.specs.Meaning.{Holds, IsRow, IsStepAssignment, Row}
+use Rattle.aig_meaning.specs.Meaning.{latch_variables, literal_value, next_literals}
 use Rattle.aig_meaning.specs.Trace.{Follow, IsFirstState, IsTrace, MayStartAt}
 use Rattle.aig_meaning.proofs.Existing.{one_step_assignment}
 use Rattle.aig_meaning.proofs.Related.{contained_later, known_bad, known_constraints, known_next, literals_agree}
@@ -69,7 +70,8 @@ each_gate P (g ∷ gs) holds =
 
 -- latches that may start at 0 or at 1 start at any values
 free_starts : (a : ℕ → Val) (ls : List Latch)
-    → AllZip MayStartAt (map (λ (l : Latch). l.reset) (map freed ls)) (map a (map (λ (l : Latch). l.var) (map freed ls)))
+    → AllZip MayStartAt (map (λ (l : Latch). l.reset) (map freed ls))
+    (map a (map (λ (l : Latch). l.var) (map freed ls)))
 free_starts a [] = tt
 free_starts a (l ∷ ls) = (tt, free_starts a ls)
 

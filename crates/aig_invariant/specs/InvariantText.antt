@@ -1,6 +1,6 @@
--- The file of an invariant (this project's profile): a PLA, as ABC's pdr writes it. A row has a character for each latch,
--- in the order of the model, then a space and 1: a 0 or a 1 is the value that its cube asks for, a - is none. An empty
--- line, and one that begins with # or with a dot, says nothing of a cube.
+-- The file of an invariant (this project's profile): a PLA, as ABC's pdr writes it. A row has a character for each
+-- latch, in the order of the model, then a space and 1: a 0 or a 1 is the value that its cube asks for, a - is none. An
+-- empty line, and one that begins with # or with a dot, says nothing of a cube.
 use Rattle.std.specs.Prelude.{◌+◌, ◌==◌, ◌||◌, ℕ, List, [], ◌∷◌, Bool, true, Option, None, Some, Result, Ok, Err}
 use Rattle.std.specs.Prelude.{codes, length, option_and_then, option_map, if◌then◌else◌}
 use Rattle.std.specs.Str.{bytes_eq}

@@ -15,8 +15,8 @@ use Rattle.aig_invariant.specs.Outcome.{HasCubes}
 abbrev pub IsNever : Circuit → Option ℕ → Type 0
 IsNever c asked = (claim : Claim) (step : ℕ) → IsOfAsked asked claim → ¬ IsVerdict c claim (Confirmed step)
 
--- Where nothing satisfies the clauses of the circuit with an invariant, unrolled over one frame, no claim of the circuit
--- is confirmed at any step, with x or without.
+-- Where nothing satisfies the clauses of the circuit with an invariant, unrolled over one frame, no claim of the
+-- circuit is confirmed at any step, with x or without.
 abbrev pub InvariantsMeanNever : Type 0
 InvariantsMeanNever = (c d : Circuit) (asked : Option ℕ) (bytes : List ℕ) (cubes : List Cube) → IsWellFormed c
     → HasAsked asked c → HasCubes (asked_of asked c) bytes cubes

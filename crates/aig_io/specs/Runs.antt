@@ -66,4 +66,5 @@ pub record Sent (Says : List ℕ → Taking → Type 0) (sink sink_now : Past) :
 
 -- A source was read and a text was sent, and this holds of both.
 abbrev pub Ran : (List ℕ → Ending → List ℕ → Taking → Type 0) → (source source_now sink sink_now : Past) → Type 0
-Ran Says source source_now sink sink_now = Read (λ bytes ending. Sent (Says bytes ending) sink sink_now) source source_now
+Ran Says source source_now sink sink_now =
+    Read (λ bytes ending. Sent (Says bytes ending) sink sink_now) source source_now

@@ -27,8 +27,8 @@ pub record IsJudged {A B : Type 0} (Holds : A → Type 0) (judge : A → Result 
   pub held : (x : A) → Holds x → read ≡ judge x
   pub empty : ¬ ((x : A) × Holds x) → read ≡ Err otherwise
 
--- where a row is due: a line without one is a bad line; else its numbers are judged, beside what is carried, and nothing
--- else of the line
+-- where a row is due: a line without one is a bad line; else its numbers are judged, beside what is carried, and
+-- nothing else of the line
 abbrev pub RowsAreJudged : Type 0
 RowsAreJudged =
     (form : Form) (bound carried : ℕ) (l : Line) → CanBeMet form

@@ -48,8 +48,8 @@ pub enum ReadKind {
     NotAiger,
     /// The header has not five to nine numbers, or its counts do not fit below its largest index.
     BadHeader,
-    /// The largest index or a count is above the limit, or the size of a justice property, or the sum
-    /// of the sizes up to it.
+    /// The largest index or a count is above the limit, or the size of a justice property, or the
+    /// sum of the sizes up to it.
     TooLarge,
     /// The line does not have the numbers that its section asks for, or has other bytes.
     BadLine,
@@ -61,8 +61,8 @@ pub enum ReadKind {
     BadReset,
     /// The text ends where a line or a byte of a gate should follow.
     Truncated,
-    /// A delta of a binary gate that has no end within five bytes, or a value of 2^32 or more; a first
-    /// delta that is 0; or a delta above what it is taken from.
+    /// A delta of a binary gate that has no end within five bytes, or a value of 2^32 or more; a
+    /// first delta that is 0; or a delta above what it is taken from.
     BadDelta,
     /// A line of the tail that is neither a symbol line nor the line `c`.
     BadSymbol,
@@ -74,8 +74,8 @@ pub enum ReadKind {
     Redefined(Var),
     /// The literal is used, and nothing defines its variable.
     Undefined(Lit),
-    /// The gate with this literal depends on a cycle of gates: it is part of one, or uses a gate that
-    /// depends on one.
+    /// The gate with this literal depends on a cycle of gates: it is part of one, or uses a gate
+    /// that depends on one.
     Cyclic(Lit),
     /// An allocation failed; nothing is known of the text.
     OutOfMemory,

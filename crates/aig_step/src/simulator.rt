@@ -1,8 +1,9 @@
 //! The simulator.
-ghost use Rattle.std.specs.Prelude.{◌≡◌, ◌↔◌, length, IfOk, IfErr, IsOk, OnErr, OnOk};
+ghost use Rattle.std.specs.Prelude.{◌≡◌, ◌↔◌, Some, length, IfOk, IfErr, IsOk, OnErr, OnOk};
 ghost use Rattle.aig_meaning.specs.Meaning.{MeansTheSame};
 ghost use Rattle.aig_step.specs.declared.fault.SimFault.TheVariants as faults;
 ghost use Rattle.aig_step.specs.declared.simulator.StepError.TheVariants as errors;
+ghost use Rattle.aig_step.specs.Messages.{step_error_text};
 ghost use Rattle.aig_step.specs.Simulating.{IsReset, Stepped};
 ghost use Rattle.aig_step.specs.Showing.{Shows};
 ghost use Rattle.aig_step.specs.Parts.Simulators.{HasRoom};
@@ -14,6 +15,8 @@ use crate::stepper::Stepper;
 use aig_checked::Checked;
 use aig_circuit::{Circuit, OutOfMemory, Val};
 use std::alloc::Global;
+use std::error::Error;
+use std::fmt;
 use std::marker::Model;
 
 /// Why a step was not taken.
@@ -27,6 +30,20 @@ pub enum StepError {
         inputs: usize,
     },
 }
+
+impl fmt::Display for StepError {
+    ghost output = { λ error. Some (step_error_text error) };
+
+    fn fmt<W: fmt::Write>(&self, f: &mut fmt::Formatter<W>) -> fmt::Result {
+        match *self {
+            StepError::WrongInputCount { given, inputs } => {
+                write!(f, "{given} values for {inputs} inputs")
+            }
+        }
+    }
+}
+
+impl Error for StepError {}
 
 /// What can be seen of a step beside its inputs, list by list in the circuit's order.
 #[derive(Clone, Copy)]

@@ -178,7 +178,8 @@ rows_are_good (r ∷ rows) h = (number_line_is_good r.form.least r.numbers h.0.s
 
 -- a row of entries, each of which a file can tell
 pub entries_full : {X : Type 0} (P : X → Type 0) (form : Form) (of : X → List ℕ)
-    → ((x : X) → P x → IsFullRow (row form (of x))) → (xs : List X) → AllByRecursion P xs → AllByRecursion IsFullRow (map (row form) (map of xs))
+    → ((x : X) → P x → IsFullRow (row form (of x))) → (xs : List X) → AllByRecursion P xs
+    → AllByRecursion IsFullRow (map (row form) (map of xs))
 entries_full P form of full [] h = tt
 entries_full P form of full (x ∷ xs) h = (full x h.0, entries_full P form of full xs h.1)
 

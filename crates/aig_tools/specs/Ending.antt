@@ -78,7 +78,8 @@ EndsBehind {A} Holds IsRefused source Rest before after errors errors_now status
     ⊎ ((made : A) × (read : World)
     × ReadIn (λ bytes ending. (ending ≡ AtEnd) × Holds made bytes) source before read × Rest made read)
 
--- What a solver wrote was to be looked at: behind the model, it was read on the clauses of the circuit that is asked for.
+-- What a solver wrote was to be looked at: behind the model, it was read on the clauses of the circuit that is asked
+-- for.
 abbrev pub ReachEnds : Reach → (before after : World) (errors errors_now : Past) → ℕ → Type 0
 ReachEnds request before after errors errors_now status =
     EndsBehind (λ asked bytes. IsModelAsked request bytes asked) (IsModelRefused request) (name_of request.model)

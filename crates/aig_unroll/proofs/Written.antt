@@ -1,6 +1,7 @@
 -- The text of an unrolled circuit, frame by frame.
 use Rattle.std.proofs.Common.{◌≡◌, ◌+◌, ◌*◌, ◌<◌, ◌++◌, ◌∙◌, ◌∷◌, ℕ, List, [], ap, ap₂, arith, subst, sym}
-use Rattle.std.proofs.Common.{refl, rules, append-nil, append_assoc, drop, length, take, All, flat_map, take-add, take-append-drop}
+use Rattle.std.proofs.Common.{refl, rules, append-nil, append_assoc, drop, length, take}
+use Rattle.std.proofs.Common.{All, flat_map, take-add, take-append-drop}
 use Rattle.std.specs.List.{range_with_len}
 use Rattle.std.proofs.lemmas.List.Concat.{flat_map-append}
 use Rattle.std.proofs.lemmas.List.FromFn.{length-range_with_len}

@@ -64,9 +64,9 @@ DumpsLoseNothing = (c : Circuit) → IsWithinLimits c → (stimulus other text o
 abbrev pub ShowsSteps : Circuit → Type 0
 ShowsSteps c = 0 < length c.inputs + length c.outputs + length c.bad + length c.constraints
 
--- A dump without its end loses nothing of what came: of the lines of a stimulus that goes on, of those before a bad line,
--- or of all. Where two of these have one such dump, they have one trace text: the same steps, no more and no fewer. The
--- state behind the last step, which is not shown, follows from that step.
+-- A dump without its end loses nothing of what came: of the lines of a stimulus that goes on, of those before a bad
+-- line, or of all. Where two of these have one such dump, they have one trace text: the same steps, no more and no
+-- fewer. The state behind the last step, which is not shown, follows from that step.
 abbrev pub BegunDumpsLoseNothing : Type 0
 BegunDumpsLoseNothing = (c : Circuit) → IsWellFormed c → ShowsSteps c
     → (stimulus other text other_text : List ℕ) (ended other_ended : Bool)

@@ -9,7 +9,7 @@ ghost use Rattle.aig_step.specs.declared.trace.Columns.TheVariants.{Plain};
 
 use aig_binary::{Limits, read_file};
 use aig_core::{Checked, Circuit, Kind, Val};
-use aig_step::{Simulator, StepError};
+use aig_step::Simulator;
 use std::alloc::{AllocError, Global};
 
 /// The lamp, as an ASCII file. It is on in the next step if it is on now or its switch is pressed.
@@ -52,9 +52,7 @@ fn step(alloc: Global, simulator: &mut Simulator, given: &[Val]) -> anyhow::Resu
     ensures line { IfOk result (λ line. IfSome simulator.new.row
         (λ row. string_bytes line ≡ row_text Plain row)) }
 {
-    if let Err(StepError::WrongInputCount { given, inputs }) = simulator.try_step(given) {
-        anyhow::bail!("{given} values for {inputs} inputs");
-    }
+    simulator.try_step(given)?;
     let mut line = String::new(alloc);
     if let Some(row) = simulator.row() {
         push_column(&mut line, row.state, " ")?;

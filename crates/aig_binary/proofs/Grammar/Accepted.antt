@@ -32,8 +32,8 @@ use Rattle.aig_text.proofs.Grammar.Sections.{AreSections, sections_found}
 use Rattle.aig_text.proofs.Grammar.Tail.{TellsTail, tail_tells, with_tail, tail_holds, good_symbols}
 use Rattle.aig_binary.specs.BinaryGrammar.{binary_word, binary_rows_of, EndsBefore, IsBinaryText}
 use Rattle.aig_binary.specs.BinaryReading.{filled, gates_at, with_definitions, binary_at, binary_reading}
-use Rattle.aig_binary.proofs.Grammar.Lines.{numbered_circuit, AreGates, gates_are, literals_are, sizes_within, counts_are}
-use Rattle.aig_binary.proofs.Grammar.Lines.{order_is, tells, apart}
+use Rattle.aig_binary.proofs.Grammar.Lines.{numbered_circuit, AreGates, gates_are, literals_are, sizes_within}
+use Rattle.aig_binary.proofs.Grammar.Lines.{counts_are, order_is, tells, apart}
 
 -- lines that tell rows, with gates and the lines of a tail behind them
 pub record TellsNumbers (h : Header) (ls : List Line) (c : Circuit) : Type 0 where

@@ -110,7 +110,8 @@ module _ (first : List ℕ) (gates : List Gate) (once : AreDistinct (first ++ va
       ⊎_elim
       (λ (i : IsAmong (at gates h).var first). absurd
       (distinct_apart first (variables gates) once (at gates h).var i (stands_there gates h h_there)))
-      (search (rules, variables, place_before, same_gate, distinct_back)) (among_either (at gates h).var first (variables (take g gates)) among)) known
+      (search (rules, variables, place_before, same_gate, distinct_back))
+      (among_either (at gates h).var first (variables (take g gates)) among)) known
 
   falls : (g h : ℕ) → g < length gates → IsAmong h (gate_operands gates g) → h < g
   falls g h there used = search (rules, over_one, known_falls)

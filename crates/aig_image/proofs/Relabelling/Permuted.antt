@@ -48,7 +48,8 @@ IsLike g h = (h.var ≡ g.var)
 
 -- other gates, each like one that was there, that define the same variables
 module _ (c : Circuit) (gates : List Gate) (good : IsWellFormed c) (many : length gates ≡ length c.gates)
-    (once : AreDistinct (variables gates)) (there : (v : ℕ) → IsAmong v (variables gates) → IsAmong v (variables c.gates))
+    (once : AreDistinct (variables gates))
+    (there : (v : ℕ) → IsAmong v (variables gates) → IsAmong v (variables c.gates))
     (back_there : (v : ℕ) → IsAmong v (variables c.gates) → IsAmong v (variables gates))
     (like : (h : Gate) → Contains gates h → (g : Gate) × Contains c.gates g × IsLike g h) where
   abbrev ends : List ℕ
@@ -65,7 +66,8 @@ module _ (c : Circuit) (gates : List Gate) (good : IsWellFormed c) (many : lengt
       ⊎_elim (λ (e : variable_of l ≡ 0). inl e) (λ (a : IsAmong (variable_of l) (defined_variables c)).
       inr (among_swapped (first_of c) (variables c.gates) (variables gates) back_there (variable_of l) a)) known
 
-  operand_known : (h : Gate) → Contains gates h → (l : ℕ) → IsAmong (variable_of l) (map variable_of (operands h)) → Now l
+  operand_known : (h : Gate) → Contains gates h → (l : ℕ) → IsAmong (variable_of l) (map variable_of (operands h))
+      → Now l
   operand_known h h_in l used =
       let g = like h h_in in
       let known = of_operands Then c.gates (back Then ends (flat_map operands c.gates) good.known) g.0 g.1 in
@@ -87,10 +89,12 @@ module _ (c : Circuit) (gates : List Gate) (good : IsWellFormed c) (many : lengt
   formed_by_others : IsWellFormed (with_gates gates c)
   formed_by_others =
       let InRange : ℕ → Type 0 = IsVariableUpTo c.max_var in
-      let last : AllByRecursion InRange (variables c.gates) = back InRange (first_of c) (variables c.gates) good.in_range in
+      let last : AllByRecursion InRange (variables c.gates) =
+      back InRange (first_of c) (variables c.gates) good.in_range in
       record {
         limits = search rules;
-        in_range = joined InRange (first_of c) (variables gates) (front InRange (first_of c) (variables c.gates) good.in_range)
+        in_range = joined InRange (first_of c) (variables gates)
+            (front InRange (first_of c) (variables c.gates) good.in_range)
             (all_of InRange (variables gates) (λ v a. each InRange (variables c.gates) last v (there v a)));
         once = swapped_last (first_of c) (variables c.gates) (variables gates) good.once once there;
         known = search (rules, joined, all_weaker, known_now, front, all_operands);

@@ -17,7 +17,8 @@ make_undone-requires-clause-variables c = rw c.circuit.ensures.value c.requires.
 pub returns-in-Err-clause-fault : goal.returns-in-Err-clause-fault
 returns-in-Err-clause-fault c =
     of_exchanges c.args.image.now (block_read c.args.image.now) c.args.comment.now c.requires.block.fit.ordered
-    c.requires.block.read c.in-Err.fault c.circuit.ensures.well_formed (rw c.circuit.ensures.value at c.in-Err.ensures.err)
+    c.requires.block.read c.in-Err.fault c.circuit.ensures.well_formed
+    (rw c.circuit.ensures.value at c.in-Err.ensures.err)
 
 pub confirm_source-requires-clause-is : goal.confirm_source-requires-clause-is
 confirm_source-requires-clause-is c = rw c.circuit.ensures.value at c.in-Ok.ensures.ok

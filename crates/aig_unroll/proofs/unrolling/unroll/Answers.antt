@@ -11,8 +11,8 @@ unroll_image-requires-clause-fits c large =
     let fits = subst (λ (k : Circuit). ¬ IsTooLarge k c.args.frames) c.circuit.ensures.value
     c.in_ok-check_supported.ensures.supported.1 in
     fits
-    (as_large source image c.args.frames (image_counts source image c.circuit.ensures.well_formed c.in_ok-image.ensures.image)
-    large)
+    (as_large source image c.args.frames
+    (image_counts source image c.circuit.ensures.well_formed c.in_ok-image.ensures.image) large)
 
 pub from_well_ordered-requires-clause-well_formed : goal.from_well_ordered-requires-clause-well_formed
 from_well_ordered-requires-clause-well_formed c =

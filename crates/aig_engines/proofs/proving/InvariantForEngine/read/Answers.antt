@@ -20,7 +20,8 @@ returns-in_err-strengthened-clause-read g c =
 pub returns-clause-read : goal.returns-clause-read
 returns-clause-read g c =
     clauses_read c.args.self.now.asked c.in_ok-strengthened.strengthened _ _
-    (rw c.in_ok-copy.ensures.value at c.in_ok-strengthened.ensures) c.unroll_as.result c.unroll_as.ensures.ok c.unroll_as.ensures.err
+    (rw c.in_ok-copy.ensures.value at c.in_ok-strengthened.ensures) c.unroll_as.result c.unroll_as.ensures.ok
+    c.unroll_as.ensures.err
 
 pub returns-clause-some : goal.returns-clause-some
 returns-clause-some g c = what_is_unrolled_begins (Clauses None) c.unroll_as.result

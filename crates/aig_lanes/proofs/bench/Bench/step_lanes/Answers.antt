@@ -42,8 +42,8 @@ returns-clause-ends c j run held =
     let begun = c.put_resets.ensures.table j (1 + machine.max_var) held.is_lane
     (omega (arith, c.deref_mut.ensures.len, tables.table_size)) in
     let values = values_in j c.put_resets.new.table in
-    let first = stands_first machine run j c.put_resets.new.table c.put_resets.new.state bench.shown c.put_resets.new.sheet
-    tables.shows (omega (arith, ap length parts.latches, parts.room, parts.max_var)) begun
+    let first = stands_first machine run j c.put_resets.new.table c.put_resets.new.state bench.shown
+    c.put_resets.new.sheet tables.shows (omega (arith, ap length parts.latches, parts.room, parts.max_var)) begun
     (c.put_resets.ensures.state j values held.is_lane begun.now.stand)
     (c.put_resets.ensures.text j values held.is_lane begun.now.stand (omega (arith, held.room))) in
     let table : c.deref_mut-3.result.now ≡ c.put_resets.new.table =

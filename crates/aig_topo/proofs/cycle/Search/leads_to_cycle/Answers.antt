@@ -36,7 +36,8 @@ returns-then-index-eq-MET-clause-cyclic c = λ _ n.
 pub returns-in_err-enter-clause-few : goal.returns-in_err-enter-clause-few
 returns-in_err-enter-clause-few c =
     let now = c.args.self.now in
-    let all : c.enter.new.steps.count + sum now.states.items ≤ c.args.steps.now.count + 2 * length now.operands.items + 2 =
+    let all : c.enter.new.steps.count + sum now.states.items
+    ≤ c.args.steps.now.count + 2 * length now.operands.items + 2 =
     omega (
       arith,
       c.in_err-enter.ensures.no_step,
