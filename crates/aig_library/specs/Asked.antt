@@ -90,7 +90,8 @@ simulation options max_var = record {
 
 -- Which numbers can be met: only known options are given, the limit is at most the largest index, a map is kept in
 -- binary and alone, outputs become bad states without a map, there are as many frames as can be unrolled, also for
--- clauses and what is written on them, and a dump is asked for without the properties.
+-- clauses and what is written on them, and a dump is asked for without the properties. Arrays are read with one option,
+-- and written with one.
 abbrev pub CanConvert : (options max_var : ℕ) → Type 0
 CanConvert options max_var =
     OnlyHas options (numbers.ascii + numbers.strip + numbers.keep_map + numbers.undo_map + numbers.outputs_as_bad)
@@ -102,6 +103,12 @@ CanUnroll options frames max_var =
 
 abbrev pub CanReach : (frames max_var : ℕ) → Type 0
 CanReach frames max_var = (1 ≤ frames) × (frames ≤ most_frames) × (max_var ≤ largest_index)
+
+abbrev pub CanRead : (options max_var : ℕ) → Type 0
+CanRead options max_var = OnlyHas options numbers.ordered × (max_var ≤ largest_index)
+
+abbrev pub CanWrite : (options : ℕ) → Type 0
+CanWrite options = OnlyHas options numbers.ascii
 
 abbrev pub CanSimulate : (options max_var : ℕ) → Type 0
 CanSimulate options max_var =

@@ -4,3 +4,5 @@ pub mod Message
 pub mod Laws
 pub mod Asked
 pub mod Answers
+pub mod Arrays
+pub mod ArrayLaws

@@ -16,7 +16,9 @@ abbrev pub place_words : (place number : ℕ) → List ℕ
 place_words place number =
     if place == numbers.line then around (codes "line ") number (codes ": ") else
     if place == numbers.gate then around (codes "gate ") number (codes ": ") else
-    if place == numbers.map_line then around (codes "map line ") number (codes ": ") else []
+    if place == numbers.map_line then around (codes "map line ") number (codes ": ") else
+    if place == numbers.word then around (codes "word ") number (codes ": ") else
+    if place == numbers.value then around (codes "value ") number (codes ": ") else []
 
 -- what is wrong there, by the kinds of the header
 abbrev pub kind_words : (kind subject : ℕ) → List ℕ
@@ -58,7 +60,9 @@ kind_words kind subject =
     if kind == 35 then codes "bad line" else
     if kind == 36 then codes "not a character for each latch" else
     if kind == 37 then codes "met by a first state" else
-    if kind == 38 then codes "too large" else []
+    if kind == 38 then codes "too large" else
+    if kind == 39 then codes "counts do not fit" else
+    if kind == 40 then codes "neither 0, 1 nor 2" else []
 
 -- the words for an outcome: none where nothing is wrong with the input and memory was not refused
 abbrev pub outcome_text : Outcome → List ℕ

@@ -33,6 +33,12 @@ gate = 2
 abbrev pub map_line : ℕ
 map_line = 3
 
+abbrev pub word : ℕ
+word = 4
+
+abbrev pub value : ℕ
+value = 5
+
 -- the options, a bit each
 abbrev pub ascii : ℕ
 ascii = 1
@@ -54,6 +60,9 @@ vcd = 32
 
 abbrev pub outputs_as_bad : ℕ
 outputs_as_bad = 64
+
+abbrev pub ordered : ℕ
+ordered = 128
 
 -- in the place of the number of a bad state: all of them
 abbrev pub all_bad : ℕ

@@ -1,10 +1,15 @@
 -- What came of a call, in numbers (this project's interface for C).
 use Rattle.std.specs.Prelude.{◌≡◌, ◌<◌, ◌++◌, ◌⊎◌, ℕ, List, drop, length}
+use Rattle.aig_array_steps.specs.declared.one_step.StepFault.{StepFault}
+use Rattle.aig_array_steps.specs.declared.one_step.StepFault.TheVariants as step_faults
+use Rattle.aig_arrays.specs.declared.fault.ArrayFault.{ArrayFault}
+use Rattle.aig_arrays.specs.declared.fault.ArrayFault.TheVariants as array_faults
 use Rattle.aig_rows.specs.declared.fault.Place.{Place}
 use Rattle.aig_rows.specs.declared.fault.Place.TheVariants as places
 use Rattle.aig_rows.specs.declared.fault.ReadFault.{ReadFault}
 use Rattle.aig_rows.specs.declared.fault.ReadKind.{ReadKind}
 use Rattle.aig_rows.specs.declared.fault.ReadKind.TheVariants as kinds
+use Rattle.aig_text.specs.Reading.{kind_of}
 use Rattle.aig_map.specs.declared.fault.MapFault.{MapFault}
 use Rattle.aig_map.specs.declared.fault.MapFault.TheVariants as map_faults
 use Rattle.aig_step.specs.declared.fault.SimFault.{SimFault}
@@ -144,6 +149,19 @@ fault_outcome (faults.Invariant fault) = invariant_outcome fault
 fault_outcome faults.Source = out_of_memory
 fault_outcome faults.Sink = out_of_memory
 fault_outcome faults.OutOfMemory = out_of_memory
+
+-- an entry that is not right is told by the place of its first word, and a structural fault as that of a file
+abbrev pub array_outcome : ArrayFault → Outcome
+array_outcome array_faults.BadCounts = refusal 39 numbers.whole 0 0
+array_outcome (array_faults.BadEntry word kind) =
+    refusal (kind_number kind) numbers.word word (subject_of kind)
+array_outcome (array_faults.Structure fault) = outcome_at places.Whole (kind_of fault)
+
+abbrev pub step_outcome : StepFault → Outcome
+step_outcome step_faults.BadCounts = refusal 39 numbers.whole 0 0
+step_outcome step_faults.NotOrdered = refusal 16 numbers.whole 0 0
+step_outcome (step_faults.TooShort length) = ending numbers.too_short 0 length
+step_outcome (step_faults.BadValue place) = refusal 40 numbers.value place 0
 
 -- The text is at the front of the output, and what stood behind it is as it was; or it has more bytes than there is
 -- room for, and the output is as it was. The outcome tells how many bytes it has: the first is that of a text that was

@@ -26,6 +26,9 @@ pub const VCD: u32 = 32;
 /// Outputs become bad states.
 pub const OUTPUTS_AS_BAD: u32 = 64;
 
+/// The arrays are those of the binary image, and the new numbers of its variables follow.
+pub const ORDERED: u32 = 128;
+
 /// All bad states, in the place of the number of one.
 pub const ALL_BAD: u32 = 0xFFFF_FFFF;
 

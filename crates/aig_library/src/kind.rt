@@ -76,3 +76,7 @@ pub const NOT_EACH_LATCH: u32 = 36;
 pub const MET_AT_START: u32 = 37;
 
 pub const TOO_LARGE_INVARIANT: u32 = 38;
+
+pub const BAD_COUNTS: u32 = 39;
+
+pub const BAD_VALUE: u32 = 40;

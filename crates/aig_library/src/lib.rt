@@ -1,14 +1,17 @@
-//! Conversion, unrolling, simulation and witnesses from bytes to bytes, in memory.
+//! Conversion, unrolling, simulation and witnesses from bytes to bytes, in memory; and circuits as
+//! arrays: read, written, and stepped.
 //!
 //! Others call `convert`, `unroll`, `write_clauses`, `reach`, `refute`, `invariant_clauses`,
-//! `never`, `simulate`, `witness`, `dump_witness` and `message`. What is asked of them is numbers,
-//! and so is the `Outcome` that each call answers: a caller may stand in any language. A call makes
-//! its whole text first, and then copies it to the output where there is room for it; otherwise the
-//! output is as it was.
+//! `never`, `simulate`, `witness`, `dump_witness`, `read`, `write`, `step` and `message`. What is
+//! asked of them is numbers, and so is the `Outcome` that each call answers: a caller may stand in
+//! any language. A call makes its whole text first, and then copies it to the output where there is
+//! room for it; otherwise the output is as it was. So it is with arrays.
 //!
-//! The definitions that matter most are `Answers` and `fault_outcome`.
+//! The definitions that matter most are `Answers`, `ReadAnswers`, `WriteAnswers`, `StepAnswers` and
+//! `fault_outcome`.
 #![tactic(auto)]
 
+mod arrays;
 mod asked;
 pub mod kind;
 pub mod laws;
@@ -16,21 +19,24 @@ mod outcome;
 mod proving;
 mod reaching;
 mod simulation;
+mod stepping;
 mod texts;
 mod verdicts;
 mod witness_dump;
 mod wording;
 
+pub use crate::arrays::{read, write};
 pub use crate::asked::{
-    ALL_BAD, ASCII, KEEP_MAP, OUTPUTS_AS_BAD, PROPERTIES, STRIP, UNDO_MAP, VCD,
+    ALL_BAD, ASCII, KEEP_MAP, ORDERED, OUTPUTS_AS_BAD, PROPERTIES, STRIP, UNDO_MAP, VCD,
 };
 pub use crate::outcome::{
     BAD_OPTIONS, DONE, GATE, LINE, MAP_LINE, NOT_CONFIRMED, OUT_OF_MEMORY, Outcome, REFUSED,
-    TOO_SHORT, WHOLE,
+    TOO_SHORT, VALUE, WHOLE, WORD,
 };
 pub use crate::proving::{invariant_clauses, never};
 pub use crate::reaching::{reach, refute};
 pub use crate::simulation::simulate;
+pub use crate::stepping::step;
 pub use crate::texts::{convert, unroll, write_clauses};
 pub use crate::verdicts::witness;
 pub use crate::witness_dump::dump_witness;

@@ -1,12 +1,18 @@
 //! What came of a call, in numbers.
 ghost use Rattle.std.specs.Prelude.{◌≡◌, IfErr, IfOk};
-ghost use Rattle.aig_library.specs.Outcome.{answer_outcome, clause_outcome, ending, fault_outcome};
+ghost use Rattle.aig_rows.specs.declared.fault.Place.TheVariants.{Whole};
+ghost use Rattle.aig_text.specs.Reading.{kind_of};
+ghost use Rattle.aig_library.specs.Outcome.{answer_outcome, array_outcome, clause_outcome};
+ghost use Rattle.aig_library.specs.Outcome.{ending, fault_outcome, outcome_at};
 ghost use Rattle.aig_library.specs.Outcome.{invariant_outcome, map_outcome, place_number};
-ghost use Rattle.aig_library.specs.Outcome.{refutation_outcome};
+ghost use Rattle.aig_library.specs.Outcome.{refutation_outcome, step_outcome};
 ghost use Rattle.aig_library.specs.Outcome.{place_kind, read_outcome, IsPlaced, kind_number};
 ghost use Rattle.aig_library.specs.Outcome.{refusal, sim_outcome, subject_of, unroll_outcome};
 
 use crate::kind;
+use aig_array_steps::StepFault;
+use aig_arrays::ArrayFault;
+use aig_core::CheckFault;
 use aig_engines::ToolFault;
 use aig_invariant::InvariantFault;
 use aig_order::MapFault;
@@ -47,6 +53,12 @@ pub const GATE: u32 = 2;
 /// The fault is in a line of the map.
 pub const MAP_LINE: u32 = 3;
 
+/// The fault is in an entry of the words.
+pub const WORD: u32 = 4;
+
+/// The fault is in a value.
+pub const VALUE: u32 = 5;
+
 /// What came of a call.
 #[repr(C)]
 #[derive(Clone, Copy, Debug, PartialEq, Eq)]
@@ -55,14 +67,15 @@ pub struct Outcome {
     pub status: u32,
     /// What is wrong, where the status is `REFUSED`: a number of the module `kind`.
     pub kind: u32,
-    /// Where it is wrong: `WHOLE`, `LINE`, `GATE` or `MAP_LINE`.
+    /// Where it is wrong: `WHOLE`, `LINE`, `GATE`, `MAP_LINE`, `WORD` or `VALUE`.
     pub place: u32,
     /// The variable or the literal that the fault names.
     pub subject: u32,
-    /// The number of the line or of the gate, counted from 1; or the step at which a witness is
-    /// confirmed, from 0.
+    /// The number of the line or of the gate, counted from 1; or that of the entry's first word, of
+    /// the value, or of the step at which a witness is confirmed, from 0.
     pub number: u64,
-    /// How many bytes the text has, where the status is `DONE`, `TOO_SHORT` or `NOT_CONFIRMED`.
+    /// How many bytes the text has, or words or values there are, where the status is `DONE`,
+    /// `TOO_SHORT` or `NOT_CONFIRMED`.
     pub length: u64,
 }
 
@@ -251,6 +264,42 @@ pub(crate) fn fault_outcome(fault: &ToolFault) -> Outcome
         ToolFault::Source | ToolFault::Sink | ToolFault::OutOfMemory => {
             ending(OUT_OF_MEMORY, 0, 0)
         }
+    }
+}
+
+fn check_outcome(fault: CheckFault) -> Outcome
+    ensures { result ≡ outcome_at Whole (kind_of fault) }
+{
+    match fault {
+        CheckFault::Redefined(variable) => refusal(kind::REDEFINED, WHOLE, 0, variable.0),
+        CheckFault::Undefined(literal) => refusal(kind::UNDEFINED, WHOLE, 0, literal.0),
+        CheckFault::Cyclic(literal) => refusal(kind::CYCLIC, WHOLE, 0, literal.0),
+        CheckFault::OutOfMemory => ending(OUT_OF_MEMORY, 0, 0),
+    }
+}
+
+/// What the first fault of arrays comes to.
+pub(crate) fn array_outcome(fault: &ArrayFault) -> Outcome
+    ensures { result ≡ array_outcome fault.now }
+{
+    match fault {
+        ArrayFault::BadCounts => refusal(kind::BAD_COUNTS, WHOLE, 0, 0),
+        ArrayFault::BadEntry { word, kind } => {
+            refusal(kind_number(*kind), WORD, *word, subject_of(*kind))
+        }
+        ArrayFault::Structure(fault) => check_outcome(*fault),
+    }
+}
+
+/// What it comes to that no step was made.
+pub(crate) fn step_outcome(fault: &StepFault) -> Outcome
+    ensures { result ≡ step_outcome fault.now }
+{
+    match fault {
+        StepFault::BadCounts => refusal(kind::BAD_COUNTS, WHOLE, 0, 0),
+        StepFault::NotOrdered => refusal(kind::NOT_ORDERED, WHOLE, 0, 0),
+        StepFault::TooShort(length) => ending(TOO_SHORT, 0, *length),
+        StepFault::BadValue(place) => refusal(kind::BAD_VALUE, VALUE, *place, 0),
     }
 }
 

@@ -5,7 +5,7 @@ ghost use Rattle.aig_library.specs.Message.{IsWritten, around, kind_words};
 ghost use Rattle.aig_library.specs.Message.{outcome_text, place_words};
 
 use crate::kind;
-use crate::outcome::{GATE, LINE, MAP_LINE, OUT_OF_MEMORY, Outcome, REFUSED};
+use crate::outcome::{GATE, LINE, MAP_LINE, OUT_OF_MEMORY, Outcome, REFUSED, VALUE, WORD};
 use aig_core::Block;
 use itoa::Buffer;
 use std::fmt::Write;
@@ -42,6 +42,8 @@ fn put_place(words: &mut Block, place: u32, number: u64)
         LINE => put_around(words, "line ", number, ": "),
         GATE => put_around(words, "gate ", number, ": "),
         MAP_LINE => put_around(words, "map line ", number, ": "),
+        WORD => put_around(words, "word ", number, ": "),
+        VALUE => put_around(words, "value ", number, ": "),
         _ => {}
     }
 }
@@ -90,6 +92,8 @@ fn put_kind(words: &mut Block, kind: u32, subject: u64)
         kind::NOT_EACH_LATCH => put(words, "not a character for each latch"),
         kind::MET_AT_START => put(words, "met by a first state"),
         kind::TOO_LARGE_INVARIANT => put(words, "too large"),
+        kind::BAD_COUNTS => put(words, "counts do not fit"),
+        kind::BAD_VALUE => put(words, "neither 0, 1 nor 2"),
         _ => {}
     }
 }

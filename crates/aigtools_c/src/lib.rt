@@ -13,15 +13,17 @@ ghost use Rattle.aig_library.specs.Answers.{Answers, IsAnswerRefused, IsAnswerTe
 ghost use Rattle.aig_library.specs.Answers.{DumpAnswers, RefutationAnswers, WitnessAnswers};
 ghost use Rattle.aig_library.specs.Answers.{IsProvingRefused, IsProvingText, NeverAnswers};
 ghost use Rattle.aig_library.specs.Answers.{IsSimulationRefused};
+ghost use Rattle.aig_library.specs.Arrays.{ReadAnswers, StepAnswers, WriteAnswers, arrays};
 ghost use Rattle.aig_library.specs.Asked.{CanConvert, CanReach, CanSimulate, CanUnroll};
 ghost use Rattle.aig_library.specs.Asked.{clauses, conversion, proving};
 ghost use Rattle.aig_library.specs.Asked.{reaching, simulation, unrolling};
 ghost use Rattle.aig_library.specs.Message.{IsWritten, outcome_text};
 ghost use Rattle.aigtools_c.specs.Version.{version_text};
 
+use aig_arrays::Counts;
 use aig_library::{
-    Outcome, convert, dump_witness, invariant_clauses, message, never, reach, refute, simulate,
-    unroll, witness, write_clauses,
+    Outcome, convert, dump_witness, invariant_clauses, message, never, reach, read, refute,
+    simulate, step, unroll, witness, write, write_clauses,
 };
 use std::alloc::Global;
 
@@ -211,6 +213,60 @@ pub extern "C" fn aigtools_dump(
     ensures answers { DumpAnswers max_var model.now file.now output.old output.new outcome.new }
 {
     *outcome = dump_witness(alloc, max_var, model, file, output);
+    outcome.status
+}
+
+/// Reads the bytes of an AIGER file into arrays.
+#[unsafe(no_mangle)]
+pub extern "C" fn aigtools_read(
+    alloc: Global,
+    options: u32,
+    max_var: u32,
+    input: &[u8],
+    words: &mut [u32],
+    bytes: &mut [u8],
+    counts: &mut Counts,
+    outcome: &mut Outcome,
+) -> u32
+    ensures status { result ≡ outcome.new.status }
+    ensures answers { ReadAnswers options max_var input.now (arrays words.old bytes.old counts.old)
+        (arrays words.new bytes.new counts.new) outcome.new }
+{
+    *outcome = read(alloc, options, max_var, input, words, bytes, counts);
+    outcome.status
+}
+
+/// Writes the circuit that arrays tell as an AIGER file.
+#[unsafe(no_mangle)]
+pub extern "C" fn aigtools_write(
+    alloc: Global,
+    options: u32,
+    counts: &Counts,
+    words: &[u32],
+    bytes: &[u8],
+    output: &mut [u8],
+    outcome: &mut Outcome,
+) -> u32
+    ensures status { result ≡ outcome.new.status }
+    ensures answers { WriteAnswers options (arrays words.now bytes.now counts.now)
+        output.old output.new outcome.new }
+{
+    *outcome = write(alloc, options, counts, words, bytes, output);
+    outcome.status
+}
+
+/// Steps the circuit that words tell whose variables are numbered in order.
+#[unsafe(no_mangle)]
+pub extern "C" fn aigtools_step(
+    counts: &Counts,
+    words: &[u32],
+    values: &mut [u8],
+    outcome: &mut Outcome,
+) -> u32
+    ensures status { result ≡ outcome.new.status }
+    ensures answers { StepAnswers counts.now words.now values.old values.new outcome.new }
+{
+    *outcome = step(counts, words, values);
     outcome.status
 }
 

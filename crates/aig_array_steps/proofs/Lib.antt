@@ -1,0 +1,4 @@
+mod Threes
+mod BySection
+mod Told
+mod Values

@@ -1,0 +1,16 @@
+use Rattle.std.proofs.Common.{refl}
+use Rattle.aig_rows.specs.Rows.{input_form, input_of}
+use Rattle.aig_arrays.proofs.Loops.{one_right, one_wrong}
+use Rattle.aig_arrays.proofs.entries.VarFromWords.read_entry.Goals as goal
+
+pub returns-in-Some : goal.returns-in-Some
+returns-in-Some c =
+    rw (← c.from.view_is)
+    (one_wrong input_of input_form c.args.bound c.args._carried c.from.inside.at c.from.inside.rest.now c.in-Some.kind
+    c.in-len1-up.len_at_least refl (c.in-Some.ensures c.args._carried))
+
+pub returns : goal.returns
+returns c =
+    rw (← c.from.view_is)
+    (one_right input_of input_form c.args.bound c.args._carried c.from.inside.at c.from.inside.rest.now
+    c.in-len1-up.len_at_least refl (c.in_default-fault_in_input.ensures c.args._carried))

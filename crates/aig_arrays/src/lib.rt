@@ -1,0 +1,24 @@
+//! Circuits as arrays: words of 32 bits and bytes, as programs in C have them.
+//!
+//! Others call `Counts`, how many of each a circuit has; `counts_of`, `put_words` and `put_bytes`,
+//! which make arrays of a circuit; `numbered_image`, its binary image with the new numbers of its
+//! variables; and `read_arrays`, which makes a circuit of arrays or reports their first fault.
+//!
+//! The definitions that matter most are `circuit_words`, `circuit_bytes` and `told`.
+#![tactic(auto)]
+
+mod counts;
+mod entries;
+mod fault;
+pub mod laws;
+mod numbered;
+mod put;
+mod sections;
+mod symbols;
+mod told;
+
+pub use crate::counts::Counts;
+pub use crate::fault::ArrayFault;
+pub use crate::numbered::numbered_image;
+pub use crate::put::{counts_of, put_bytes, put_words};
+pub use crate::told::read_arrays;

@@ -1,0 +1,102 @@
+//! The binary image of a circuit with the new numbers of its variables.
+ghost use Rattle.std.specs.Prelude.{◌≡◌, ◌+◌, ◌≤◌, length, map, IfOk, OnErr};
+ghost use Rattle.std.specs.List.{range_with_len};
+ghost use Rattle.aig_circuit.specs.Wellformed.{defined_variables};
+ghost use Rattle.aig_checked.specs.BinaryOrder.{IsNumberedInOrder};
+ghost use Rattle.aig_image.specs.Parts.Numbers.{IsRenumberingOf, number_of};
+ghost use Rattle.aig_arrays.specs.Ordered.{IsNumberedImageIn};
+ghost use Rattle.aig_arrays.specs.Parts.Placed.{placed};
+
+use aig_core::{Checked, Circuit, Ordered, OutOfMemory, Steps, is_numbered_in_order};
+use aig_image::{Defines, Numbers, Renumbering, into_binary};
+use std::alloc::Global;
+
+/// Puts the numbers of what defines variables from a place on, and answers where they end.
+fn put_numbers_of<T: Defines>(numbers: &mut [u32], at: usize, new: &Numbers, items: &[T]) -> usize
+    requires { at + length items.now ≤ length numbers.old }
+    ensures end { result ≡ at + length items.now }
+    ensures numbers { numbers.new
+        ≡ placed at (map (λ x. number_of new.now (T.variable x)) items.now) numbers.old }
+{
+    let mut end = at;
+    for item in items {
+        numbers[end] = new.number(item.variable());
+        end += 1;
+    }
+    end
+}
+
+fn put_numbers(numbers: &mut [u32], new: &Numbers, circuit: &Circuit)
+    requires { length (defined_variables circuit.now) ≤ length numbers.old }
+    ensures { numbers.new
+        ≡ placed 0 (map (number_of new.now) (defined_variables circuit.now)) numbers.old }
+{
+    let end = put_numbers_of(numbers, 0, new, circuit.inputs.as_slice());
+    let end = put_numbers_of(numbers, end, new, circuit.latches.as_slice());
+    put_numbers_of(numbers, end, new, circuit.gates.as_slice());
+}
+
+/// The numbers are let go.
+fn by_numbers(renumbering: Renumbering, checked: Checked, numbers: &mut [u32]) -> Ordered
+    requires of_it { IsRenumberingOf checked renumbering }
+    requires room { length (defined_variables checked) ≤ length numbers.old }
+    ensures { IsNumberedImageIn checked result numbers.old numbers.new }
+{
+    put_numbers(numbers, renumbering.numbers(), checked.circuit());
+    renumbering.image(checked.into_circuit())
+}
+
+fn renumbered(alloc: Global, checked: Checked, numbers: &mut [u32]) -> Result<Ordered, OutOfMemory>
+    requires { length (defined_variables checked) ≤ length numbers.old }
+    ensures ok { IfOk result (λ image. IsNumberedImageIn checked image numbers.old numbers.new) }
+    ensures err { OnErr result (numbers.new ≡ numbers.old) }
+{
+    let renumbering = Renumbering::new(alloc, &checked, &mut Steps::new())?;
+    Ok(by_numbers(renumbering, checked, numbers))
+}
+
+fn put_first_numbers(numbers: &mut [u32], count: u32)
+    requires { count ≤ length numbers.old }
+    ensures { numbers.new ≡ placed 0 (range_with_len 1 count) numbers.old }
+{
+    for at in 0..count {
+        numbers[at as usize] = 1 + at;
+    }
+}
+
+/// The variables keep their numbers: all from 1 on.
+#[tactic(auto, using(crate::proofs::Numbering::as_many_defined))]
+fn with_first_numbers(
+    alloc: Global,
+    checked: Checked,
+    numbers: &mut [u32],
+) -> Result<Ordered, OutOfMemory>
+    requires numbered { IsNumberedInOrder checked }
+    requires room { length (defined_variables checked) ≤ length numbers.old }
+    ensures ok { IfOk result (λ image. IsNumberedImageIn checked image numbers.old numbers.new) }
+    ensures err { OnErr result (numbers.new ≡ numbers.old) }
+{
+    let count = checked.circuit().max_var;
+    let image = into_binary(alloc, checked, &mut Steps::new())?;
+    put_first_numbers(numbers, count);
+    Ok(image)
+}
+
+/// The binary image of a circuit, in the circuit's own memory. The new number of each variable that
+/// it defines, in the order in which it defines them, is written at the front of `numbers`. It
+/// fails only if an allocation fails.
+pub fn numbered_image(
+    alloc: Global,
+    checked: Checked,
+    numbers: &mut [u32],
+) -> Result<Ordered, OutOfMemory>
+    requires { length (defined_variables checked) ≤ length numbers.old }
+    ensures ok { IfOk result (λ image. IsNumberedImageIn checked image numbers.old numbers.new) }
+    ensures err { OnErr result (numbers.new ≡ numbers.old) }
+{
+    if is_numbered_in_order(&checked) {
+        with_first_numbers(alloc, checked, numbers)
+    } else {
+        renumbered(alloc, checked, numbers)
+    }
+}
