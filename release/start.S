@@ -1,12 +1,14 @@
-/* Where the static program starts. Before the C library does, this asks it for large pages under large tables, by
-   GLIBC_TUNABLES, unless the environment has that variable: an installed program is then as fast as one by ./aiger. And it
+/* Where the static program starts. Before the C library does, this asks it for large pages under large tables, and for one
+   heap that is not given back, by GLIBC_TUNABLES, unless the environment has that variable: an installed program is then
+   as fast as one by ./aiger, which says why. And it
    ignores SIGXFSZ, as ./aiger does, so that a write above the limit on the size of files fails.
 
    The system puts on the stack, a word for each: how many arguments there are, the arguments, 0, the variables, 0. These go
    down by a word, and ours becomes the last variable. It can be written, since the C library cuts the text as it reads. */
 
         .data
-asked:  .asciz  "GLIBC_TUNABLES=glibc.malloc.hugetlb=1"
+asked:  .ascii  "GLIBC_TUNABLES=glibc.malloc.hugetlb=1:glibc.malloc.mmap_threshold=33554432"
+        .asciz  ":glibc.malloc.trim_threshold=1073741824:glibc.malloc.top_pad=67108864"
         .set    name_length, 15                 # with the =
         .balign 8
 ignored:
