@@ -1,21 +1,23 @@
 /*
- * libaigtools: AIGER files converted, unrolled and simulated, and witnesses judged, in the memory of a program.
+ * libaigtools: AIGER files converted, unrolled and simulated, and witnesses judged, in the memory of a program; and
+ * circuits as arrays of numbers.
  *
- * The functions are those of the program `aiger`, and proved as it is. docs/FORMAT.md says what each text is, and
- * examples/c has a program in C and one in Rust.
+ * The functions are those of the program `aiger`, and proved as it is; so are those for arrays. docs/FORMAT.md says
+ * what each text is, and examples/c has programs in C and in Rust.
  *
- * Calls        A call reads its inputs, makes its whole text, and then copies it to `output` where there is room for
- *              all of it. It keeps nothing: no state, no file, no pointer that it was given.
+ * Calls        A call reads its inputs, makes its whole answer, a text or arrays, and then copies it out where there is
+ *              room for all of it. It keeps nothing: no state, no file, no pointer that it was given.
  * Threads      Any thread may call any function at any time. Calls that run at once share nothing, unless their
  *              outputs or outcomes overlap. A call takes up to 128 KB of stack, for a waveform; 64 KB may be too few for
  *              any but aigtools_witness.
  * Ownership    All memory that is passed stays the caller's. What a call takes for itself comes from malloc and
- *              realloc, and goes back to free before it returns. No signal handler may call.
- * Pointers     No pointer is null: where a length is 0, pass any address. An output overlaps no input and no outcome.
- *              Inputs are not changed.
+ *              realloc, and goes back to free before it returns; aigtools_step takes none. No signal handler may call.
+ * Pointers     No pointer is null: where a length is 0, pass any address of that type. What a call may write to
+ *              overlaps nothing else that is passed. Inputs are not changed.
  * Errors       Each call returns outcome->status. For AIGTOOLS_REFUSED the outcome says what the first fault is and
- *              where, and aigtools_message has the words. Without a text the output is as it was.
- * Units        Lengths are in bytes. Lines and gates are counted from 1, steps from 0. No text ends in a zero byte.
+ *              where, and aigtools_message has the words. Without an answer outputs and arrays are as they were.
+ * Units        Lengths are in bytes, those of `words` in words of 32 bits. Lines and gates are counted from 1, steps,
+ *              words and values from 0. No text ends in a zero byte.
  *
  * Compile and link with what `pkg-config --cflags --libs aigtools` says, or with libaigtools.a alone. x86-64 with
  * SSE4.2 (x86-64-v2), Linux.
@@ -41,8 +43,10 @@ extern "C" {
 
 /* How a call ended. */
 enum aigtools_status {
-    AIGTOOLS_DONE = 0,          /* the text was written, the witness is confirmed, or there is no run */
-    AIGTOOLS_TOO_SHORT = 1,     /* the output has no room for the text, which has outcome.length bytes */
+    AIGTOOLS_DONE = 0,          /* the text, the arrays or the values were written, the witness is confirmed, or there
+                                   is no run */
+    AIGTOOLS_TOO_SHORT = 1,     /* there is no room for the text, which has outcome.length bytes; aigtools_read needs as
+                                   many words, and aigtools_step as many bytes of values */
     AIGTOOLS_REFUSED = 2,       /* the input has a fault, a solver's answer has no run into a bad state, or its
                                    refutation shows nothing: see kind, place, number and subject */
     AIGTOOLS_OUT_OF_MEMORY = 3, /* memory was refused; nothing is said of the input */
@@ -53,13 +57,14 @@ enum aigtools_status {
 
 /* Options, a bit each. */
 enum aigtools_option {
-    AIGTOOLS_ASCII = 1,     /* convert, unroll: write ASCII, and not binary */
+    AIGTOOLS_ASCII = 1,     /* convert, unroll, write: write ASCII, and not binary */
     AIGTOOLS_STRIP = 2,     /* convert: leave out symbols and comment */
     AIGTOOLS_KEEP_MAP = 4,  /* convert: begin the comment with a map that undoes the conversion; with no other option */
     AIGTOOLS_UNDO_MAP = 8,  /* convert: undo a conversion by the map of its image */
     AIGTOOLS_PROPERTIES = 16, /* simulate: show bad states and constraints too */
     AIGTOOLS_VCD = 32,      /* simulate: write the trace as a waveform, with them; without AIGTOOLS_PROPERTIES */
-    AIGTOOLS_OUTPUTS_AS_BAD = 64 /* convert: write outputs as bad states; with no map */
+    AIGTOOLS_OUTPUTS_AS_BAD = 64, /* convert: write outputs as bad states; with no map */
+    AIGTOOLS_ORDERED = 128  /* read: the circuit as a binary file has it, and how its variables are numbered there */
 };
 
 /* What is wrong, where the status is AIGTOOLS_REFUSED. */
@@ -80,7 +85,7 @@ enum aigtools_kind {
     AIGTOOLS_REDEFINED = 13,          /* outcome.subject is the variable */
     AIGTOOLS_UNDEFINED = 14,          /* outcome.subject is the literal */
     AIGTOOLS_CYCLIC = 15,             /* outcome.subject is the literal of the gate */
-    AIGTOOLS_NOT_ORDERED = 16,        /* to undo a map, the gates must be in binary order */
+    AIGTOOLS_NOT_ORDERED = 16,        /* to undo a map, or for a step, the gates must be in binary order */
     AIGTOOLS_NO_MAP = 17,
     AIGTOOLS_BAD_MAP_LINE = 18,       /* outcome.number counts lines of the map */
     AIGTOOLS_MAP_MISMATCH = 19,
@@ -102,7 +107,9 @@ enum aigtools_kind {
     AIGTOOLS_BAD_INVARIANT = 35,      /* the model is right; the line is of the invariant */
     AIGTOOLS_NOT_EACH_LATCH = 36,     /* so is this line, which has not a character for each latch */
     AIGTOOLS_MET_AT_START = 37,       /* so is this line, whose cube a first state may meet */
-    AIGTOOLS_TOO_LARGE_INVARIANT = 38 /* the model and the invariant together have too many gates or cubes */
+    AIGTOOLS_TOO_LARGE_INVARIANT = 38, /* the model and the invariant together have too many gates or cubes */
+    AIGTOOLS_BAD_COUNTS = 39,         /* the counts are out of range, or not those of these words, bytes and names */
+    AIGTOOLS_BAD_VALUE = 40           /* a value is neither 0, 1 nor 2 */
 };
 
 /* Where it is wrong. */
@@ -110,7 +117,9 @@ enum aigtools_place {
     AIGTOOLS_WHOLE = 0,   /* no one place */
     AIGTOOLS_LINE = 1,    /* outcome.number is a line */
     AIGTOOLS_GATE = 2,    /* outcome.number is a gate of a binary file, whose gates stand in no line */
-    AIGTOOLS_MAP_LINE = 3 /* outcome.number is a line of the map */
+    AIGTOOLS_MAP_LINE = 3, /* outcome.number is a line of the map */
+    AIGTOOLS_WORD = 4,    /* outcome.number is the first word of the entry */
+    AIGTOOLS_VALUE = 5    /* outcome.number is the value of an input or a latch: that of variable 1 is value 1 */
 };
 
 /* What came of a call. A field that says nothing is 0. */
@@ -119,9 +128,27 @@ typedef struct aigtools_outcome {
     uint32_t kind;    /* enum aigtools_kind */
     uint32_t place;   /* enum aigtools_place */
     uint32_t subject; /* the variable, the literal or the bad state that the fault names */
-    uint64_t number;  /* the line or the gate; or the step at which a witness is confirmed */
-    uint64_t length;  /* how many bytes the text has, where it was written or has no room */
+    uint64_t number;  /* the line, the gate, the word or the value; or the step at which a witness is confirmed */
+    uint64_t length;  /* how long the text is, where it was written or has no room; so also the words or the values */
 } aigtools_outcome;
+
+/* What a circuit has, counted. */
+typedef struct aigtools_counts {
+    uint32_t max_var;          /* the largest variable */
+    uint32_t inputs;
+    uint32_t latches;
+    uint32_t outputs;
+    uint32_t bad;
+    uint32_t constraints;
+    uint32_t justice;          /* justice properties */
+    uint32_t justice_literals; /* of all of them */
+    uint32_t fairness;
+    uint32_t gates;
+    uint32_t symbols;
+    uint32_t has_comment;      /* 1 where there is a comment, perhaps an empty one; else 0 */
+    uint64_t name_bytes;       /* of all symbols */
+    uint64_t comment_bytes;
+} aigtools_counts;
 
 /*
  * Converts an AIGER file, ASCII or binary, to the canonical text of its circuit, as `aiger aigtoaig`. The same input
@@ -204,6 +231,70 @@ uint32_t aigtools_dump(uint32_t max_var, const uint8_t *model, size_t model_leng
                        uint8_t *output, size_t output_length, aigtools_outcome *outcome);
 
 /*
+ * A circuit as arrays: `words`, section by section in the order of an ASCII file, with nothing between.
+ *
+ *     Section            Words of an entry
+ *     inputs             1: its literal
+ *     latches            3: its literal; its next state; its reset: 0, 1, or its literal if it is uninitialised
+ *     outputs            1: its literal
+ *     bad                1: its literal
+ *     constraints        1: its literal
+ *     justice_sizes      1: how many literals the property has
+ *     justice_literals   1: the literal, property by property
+ *     fairness           1: its literal
+ *     gates              3: its literal; its left operand; its right operand
+ *     symbols            4: what is named: 0 an input, 1 a latch, 2 an output, 3 a bad state, 4 a constraint, 5 a
+ *                           justice property, 6 a fairness constraint; its position, from 0; at which byte its name
+ *                           begins; how many bytes that has
+ *     numbers            1: with AIGTOOLS_ORDERED alone: the new variable of each that the file defines, in the order
+ *                           in which it does: inputs, latches, gates
+ *
+ * And `bytes`: the names end to end, in the order of the symbols, then the comment. So circuits are the same exactly if
+ * their counts, words and bytes are. The functions at the end say how many there are, and where a section begins.
+ */
+
+/*
+ * Reads an AIGER file, ASCII or binary, into arrays, as the circuit stands there. With AIGTOOLS_ORDERED it is the one
+ * that aigtools_convert would write in binary: inputs are the variables from 1 on, latches follow, then gates, each
+ * behind its operands, the larger of which is the left one. With AIGTOOLS_TOO_SHORT the counts are told too, and with
+ * them how many bytes are needed. Pass likely sizes first: to ask for them takes a whole reading. Behind the circuit the
+ * arrays are as they were.
+ */
+uint32_t aigtools_read(uint32_t options, uint32_t max_var, const uint8_t *input, size_t input_length,
+                       uint32_t *words, size_t words_length, uint8_t *bytes, size_t bytes_length,
+                       aigtools_counts *counts, aigtools_outcome *outcome);
+
+/*
+ * Writes the AIGER file of a circuit in arrays, binary or ASCII, as aigtools_convert writes that of a file. It takes no
+ * numbers: words_length is aigtools_words(counts), and bytes_length is aigtools_bytes(counts). The entries are judged
+ * as the lines of a file, and a wrong one is told by its first word (AIGTOOLS_WORD).
+ */
+uint32_t aigtools_write(uint32_t options, const aigtools_counts *counts,
+                        const uint32_t *words, size_t words_length, const uint8_t *bytes, size_t bytes_length,
+                        uint8_t *output, size_t output_length, aigtools_outcome *outcome);
+
+/*
+ * Evaluates one step of a circuit that is numbered in order: inputs are the variables from 1 on, latches follow, then
+ * gates, each over lower literals, and no variable is left over. So it is if it was read with AIGTOOLS_ORDERED, or from
+ * a binary file. Symbols and numbers are not looked at, and may be left out. A value is a byte: 0, 1, or 2 for x. The
+ * caller sets those of inputs and latches, and the call all others.
+ *
+ *     Values             From
+ *     the constant       0: it is 0
+ *     inputs             1
+ *     latches            1 + inputs: the state
+ *     gates              1 + inputs + latches
+ *     outputs            1 + max_var
+ *     bad                behind the outputs
+ *     constraints        behind the bad states
+ *     next states        behind the constraints: one for each latch, which is its state in the step that follows
+ *
+ * So value v is that of variable v, up to max_var.
+ */
+uint32_t aigtools_step(const aigtools_counts *counts, const uint32_t *words, size_t words_length,
+                       uint8_t *values, size_t values_length, aigtools_outcome *outcome);
+
+/*
  * Puts the words for an outcome into the output, as the program reports it, without a file's name or a line feed:
  * "line 3: bad line". Returns how many bytes they have, at most 80; with less room nothing is written. It is 0 where
  * the status tells of no fault. This call takes no memory.
@@ -212,6 +303,71 @@ size_t aigtools_message(const aigtools_outcome *outcome, uint8_t *output, size_t
 
 /* The version of the library. */
 uint32_t aigtools_version(void);
+
+/* How many words a circuit has, without numbers. */
+static inline size_t aigtools_words(const aigtools_counts *counts) {
+    size_t count = counts->inputs;
+    count += UINT64_C(3) * counts->latches;
+    count += counts->outputs;
+    count += counts->bad;
+    count += counts->constraints;
+    count += counts->justice;
+    count += counts->justice_literals;
+    count += counts->fairness;
+    count += UINT64_C(3) * counts->gates;
+    return count + UINT64_C(4) * counts->symbols;
+}
+
+/* How many bytes names and comment have. */
+static inline size_t aigtools_bytes(const aigtools_counts *counts) {
+    return counts->name_bytes + counts->comment_bytes;
+}
+
+/* How many variables are defined: so many numbers there are. */
+static inline size_t aigtools_defined(const aigtools_counts *counts) {
+    return UINT64_C(0) + counts->inputs + counts->latches + counts->gates;
+}
+
+/* How many values a step has. */
+static inline size_t aigtools_values_length(const aigtools_counts *counts) {
+    return UINT64_C(1) + counts->max_var + counts->outputs + counts->bad + counts->constraints + counts->latches;
+}
+
+/* Where a section begins. */
+static inline const uint32_t *aigtools_inputs(const aigtools_counts *counts, const uint32_t *words) {
+    (void)counts;
+    return words;
+}
+static inline const uint32_t *aigtools_latches(const aigtools_counts *counts, const uint32_t *words) {
+    return aigtools_inputs(counts, words) + counts->inputs;
+}
+static inline const uint32_t *aigtools_outputs(const aigtools_counts *counts, const uint32_t *words) {
+    return aigtools_latches(counts, words) + UINT64_C(3) * counts->latches;
+}
+static inline const uint32_t *aigtools_bad(const aigtools_counts *counts, const uint32_t *words) {
+    return aigtools_outputs(counts, words) + counts->outputs;
+}
+static inline const uint32_t *aigtools_constraints(const aigtools_counts *counts, const uint32_t *words) {
+    return aigtools_bad(counts, words) + counts->bad;
+}
+static inline const uint32_t *aigtools_justice_sizes(const aigtools_counts *counts, const uint32_t *words) {
+    return aigtools_constraints(counts, words) + counts->constraints;
+}
+static inline const uint32_t *aigtools_justice_literals(const aigtools_counts *counts, const uint32_t *words) {
+    return aigtools_justice_sizes(counts, words) + counts->justice;
+}
+static inline const uint32_t *aigtools_fairness(const aigtools_counts *counts, const uint32_t *words) {
+    return aigtools_justice_literals(counts, words) + counts->justice_literals;
+}
+static inline const uint32_t *aigtools_gates(const aigtools_counts *counts, const uint32_t *words) {
+    return aigtools_fairness(counts, words) + counts->fairness;
+}
+static inline const uint32_t *aigtools_symbols(const aigtools_counts *counts, const uint32_t *words) {
+    return aigtools_gates(counts, words) + UINT64_C(3) * counts->gates;
+}
+static inline const uint32_t *aigtools_numbers(const aigtools_counts *counts, const uint32_t *words) {
+    return aigtools_symbols(counts, words) + UINT64_C(4) * counts->symbols;
+}
 
 #ifdef __cplusplus
 }

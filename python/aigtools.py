@@ -1,4 +1,4 @@
-"""AIGER files converted, unrolled and simulated, and witnesses judged, by libaigtools.
+"""AIGER files converted, unrolled and simulated, and witnesses judged, by libaigtools; and circuits as arrays.
 
 The functions take and give bytes, and are those of the program ``aiger``: docs/FORMAT.md says what each text is. The
 library is the one that the variable LIBAIGTOOLS names; or that beside this file or in the folder ``lib`` that holds it;
@@ -17,19 +17,37 @@ b' 01 0 \\n 1x x \\n.\\n'
 ... except Refused as refused:
 ...     print(refused.kind.name, refused.line, refused)
 NOT_VARIABLE 2 line 2: not a variable
+
+``read`` gives the circuit of a file as a ``Circuit``, which can be looked at, changed, stepped and written:
+
+>>> circuit = read(and_gate)
+>>> circuit
+<Circuit: max_var 3, 2 inputs, 1 outputs, 1 gates>
+>>> for literal, left, right in circuit.gates:
+...     print(literal, left, right)
+6 4 2
+>>> circuit.outputs[0] ^= 1
+>>> circuit.write(ascii=True)
+b'aag 3 2 0 1 1\\n2\\n4\\n7\\n6 4 2\\n'
+>>> circuit.step([1, 1]).outputs
+b'\\x00'
 """
 
 import ctypes
 import enum
 import gzip
+import itertools
 import operator
 import os
+from array import array
+from collections.abc import Sequence
+from dataclasses import dataclass
 from pathlib import Path
-from typing import Any, Callable, Optional, Tuple, Union
+from typing import Any, Callable, Dict, Iterable, Iterator, List, Mapping, NamedTuple, Optional, Sized, Tuple, Union
 
-__all__ = ["LARGEST", "Kind", "Refused"]
-__all__ += ["answer", "clauses", "confirm", "convert", "dump", "invariant_clauses", "never", "refute", "simulate"]
-__all__ += ["unroll", "version"]
+__all__ = ["LARGEST", "Circuit", "Entries", "Gate", "Kind", "Latch", "Refused", "Step", "Symbol"]
+__all__ += ["answer", "clauses", "confirm", "convert", "dump", "invariant_clauses", "never", "read", "refute"]
+__all__ += ["simulate", "unroll", "version"]
 
 Data = Union[bytes, bytearray, memoryview]
 
@@ -81,6 +99,8 @@ class Kind(enum.IntEnum):
     NOT_EACH_LATCH = 36
     MET_AT_START = 37
     TOO_LARGE_INVARIANT = 38
+    BAD_COUNTS = 39
+    BAD_VALUE = 40
 
 
 class Refused(ValueError):
@@ -90,15 +110,25 @@ class Refused(ValueError):
     line      the line, counted from 1, where it is wrong in one; for BAD_MAP_LINE a line of the map
     gate      the gate of a binary file, counted from 1, where it is wrong in one
     subject   the variable, the literal or the bad state that the fault names, or 0
+    entry     of a circuit, the name and the index of what is wrong, as ("gates", 0)
     """
 
-    def __init__(self, message: str, kind: Kind, line: Optional[int], gate: Optional[int], subject: int) -> None:
+    def __init__(
+        self,
+        message: str,
+        kind: Kind,
+        line: Optional[int],
+        gate: Optional[int],
+        subject: int,
+        entry: Optional[Tuple[str, int]] = None,
+    ) -> None:
         super().__init__(message)
         self.message = message
         self.kind = kind
         self.line = line
         self.gate = gate
         self.subject = subject
+        self.entry = entry
 
 
 class _Outcome(ctypes.Structure):
@@ -107,9 +137,24 @@ class _Outcome(ctypes.Structure):
     ]
 
 
+# The sections of the words of a circuit, in their order, and how many words an entry has.
+_WIDTHS = {"inputs": 1, "latches": 3, "outputs": 1, "bad": 1, "constraints": 1, "justice_sizes": 1}
+_WIDTHS.update({"justice_literals": 1, "fairness": 1, "gates": 3, "symbols": 4, "numbers": 1})
+
+# How many entries each has but the numbers, by the names of the header.
+_COUNTED = ("inputs", "latches", "outputs", "bad", "constraints", "justice", "justice_literals", "fairness", "gates")
+_COUNTED += ("symbols",)
+
+
+class _Counts(ctypes.Structure):
+    _fields_ = [(name, ctypes.c_uint32) for name in ("max_var", *_COUNTED, "has_comment")] + [
+        (name, ctypes.c_uint64) for name in ("name_bytes", "comment_bytes")
+    ]
+
+
 _DONE, _TOO_SHORT, _REFUSED, _OUT_OF_MEMORY, _BAD_OPTIONS, _NOT_CONFIRMED = range(6)
-_WHOLE, _LINE, _GATE, _MAP_LINE = range(4)
-_ASCII, _STRIP, _KEEP_MAP, _UNDO_MAP, _PROPERTIES, _VCD, _OUTPUTS_AS_BAD = 1, 2, 4, 8, 16, 32, 64
+_WHOLE, _LINE, _GATE, _MAP_LINE, _WORD, _VALUE = range(6)
+_ASCII, _STRIP, _KEEP_MAP, _UNDO_MAP, _PROPERTIES, _VCD, _OUTPUTS_AS_BAD, _ORDERED = 1, 2, 4, 8, 16, 32, 64, 128
 
 
 # the number that stands for all bad states
@@ -153,7 +198,7 @@ def _opened() -> ctypes.CDLL:
 def _load() -> ctypes.CDLL:
     library = _opened()
     number, text, size = ctypes.c_uint32, (ctypes.c_char_p, ctypes.c_size_t), ctypes.c_size_t
-    room, outcome = (ctypes.c_void_p, ctypes.c_size_t), ctypes.POINTER(_Outcome)
+    room, outcome, counts = (ctypes.c_void_p, ctypes.c_size_t), ctypes.POINTER(_Outcome), ctypes.POINTER(_Counts)
     for name, arguments, result in (
         ("aigtools_convert", (number, number, *text, *room, outcome), number),
         ("aigtools_unroll", (number, number, number, *text, *room, outcome), number),
@@ -165,6 +210,9 @@ def _load() -> ctypes.CDLL:
         ("aigtools_simulate", (number, number, *text, *text, *room, outcome), number),
         ("aigtools_witness", (number, *text, *text, outcome), number),
         ("aigtools_dump", (number, *text, *text, *room, outcome), number),
+        ("aigtools_read", (number, number, *text, *room, *room, counts, outcome), number),
+        ("aigtools_write", (number, counts, *text, *text, *room, outcome), number),
+        ("aigtools_step", (counts, *text, *room, outcome), number),
         ("aigtools_message", (outcome, *room), size),
         ("aigtools_version", (), number),
     ):
@@ -176,7 +224,16 @@ def _load() -> ctypes.CDLL:
 _library = _load()
 
 
-def _raise(outcome: _Outcome) -> None:
+def _entry(parts: Mapping[str, Sized], number: int) -> Optional[Tuple[str, int]]:
+    """The part with this word or value, and the index of its entry there."""
+    for name, part in parts.items():
+        if number < len(part):
+            return name, number // _WIDTHS.get(name, 1)
+        number -= len(part)
+    return None
+
+
+def _raise(outcome: _Outcome, parts: Optional[Mapping[str, Sized]] = None) -> None:
     if outcome.status == _OUT_OF_MEMORY:
         raise MemoryError
     if outcome.status == _BAD_OPTIONS:
@@ -186,24 +243,33 @@ def _raise(outcome: _Outcome) -> None:
     words = room.raw[:length].decode()
     line = outcome.number if outcome.place in (_LINE, _MAP_LINE) else None
     gate = outcome.number if outcome.place == _GATE else None
-    raise Refused(words, Kind(outcome.kind), line, gate, outcome.subject)
+    entry = _entry(parts or {}, outcome.number) if outcome.place in (_WORD, _VALUE) else None
+    if entry:
+        words = f"{entry[0]}[{entry[1]}]: {words.partition(': ')[2]}"
+    raise Refused(words, Kind(outcome.kind), line, gate, outcome.subject, entry)
 
 
-def _made(room: int, call: Callable[[int, int, _Outcome], int]) -> Tuple[bytes, _Outcome]:
+def _address(output: bytearray) -> int:
+    return ctypes.addressof(ctypes.c_char.from_buffer(output))
+
+
+def _made(
+    room: int, call: Callable[[int, int, _Outcome], int], parts: Optional[Mapping[str, Sized]] = None
+) -> Tuple[bytes, _Outcome]:
     """The text that a call makes, and its outcome. It is called again where a first guess of its length is short."""
     outcome = _Outcome()
     while True:
         output = bytearray(room)
-        status = call(ctypes.addressof(ctypes.c_char.from_buffer(output)), room, outcome)
+        status = call(_address(output), room, outcome)
         if status in (_DONE, _NOT_CONFIRMED):
             return bytes(memoryview(output)[: outcome.length]), outcome
         if status != _TOO_SHORT:
-            _raise(outcome)
+            _raise(outcome, parts)
         room = outcome.length
 
 
-def _step(outcome: _Outcome) -> Optional[int]:
-    """The verdict of an outcome."""
+def _verdict(outcome: _Outcome) -> Optional[int]:
+    """The step at which a witness is confirmed."""
     return outcome.number if outcome.status == _DONE else None
 
 
@@ -440,7 +506,7 @@ def confirm(model: Data, witness: Data, *, max_var: int = LARGEST) -> Optional[i
     status = _library.aigtools_witness(limit, model, len(model), witness, len(witness), outcome)
     if status not in (_DONE, _NOT_CONFIRMED):
         _raise(outcome)
-    return _step(outcome)
+    return _verdict(outcome)
 
 
 def dump(model: Data, witness: Data, *, max_var: int = LARGEST) -> Tuple[Optional[int], bytes]:
@@ -458,7 +524,277 @@ def dump(model: Data, witness: Data, *, max_var: int = LARGEST) -> Tuple[Optiona
             limit, model, len(model), witness, len(witness), output, room, outcome
         ),
     )
-    return _step(outcome), text
+    return _verdict(outcome), text
+
+
+class Latch(NamedTuple):
+    """A latch: its literal, its next state, and its reset: 0, 1, or its literal if it is uninitialised."""
+
+    literal: int
+    next: int
+    reset: int
+
+
+class Gate(NamedTuple):
+    """An AND gate: its literal, and its operands."""
+
+    literal: int
+    left: int
+    right: int
+
+
+class Symbol(NamedTuple):
+    """A name: the letter of what has it, as in an AIGER file (i, l, o, b, c, j or f), its position, and the name."""
+
+    kind: str
+    position: int
+    name: bytes
+
+
+class Step(NamedTuple):
+    """The values of a step, a byte each: 0, 1, or 2 for x. ``values`` has that of each variable, and 0 of the constant;
+    ``next`` is the state of the step that follows."""
+
+    values: bytes
+    outputs: bytes
+    bad: bytes
+    constraints: bytes
+    next: bytes
+
+
+def _words(given: Iterable[int]) -> array:
+    """Numbers as an array of words; what is one stays it."""
+    return given if isinstance(given, array) and given.typecode == "I" else array("I", given)
+
+
+class Entries(Sequence):
+    """Latches or gates: a sequence of named tuples over the array ``words``, which has three numbers for each."""
+
+    def __init__(self, entry: Callable[[int, int, int], Any], given: Iterable[Any]) -> None:
+        self.entry = entry
+        if isinstance(given, Entries):
+            given = given.words
+        elif not isinstance(given, array):
+            given = itertools.chain.from_iterable(entry(*numbers) for numbers in given)
+        self.words = _words(given)
+        if len(self.words) % 3:
+            raise ValueError(f"{len(self.words)} words are not three for each {entry.__name__}")
+
+    def __len__(self) -> int:
+        return len(self.words) // 3
+
+    def __iter__(self) -> Iterator[Any]:
+        word = iter(self.words)
+        # as map(self.entry, word, word, word), in half the time
+        return map(tuple.__new__, itertools.repeat(self.entry), zip(word, word, word))
+
+    def __getitem__(self, index: Any) -> Any:
+        if isinstance(index, slice):
+            return [self[at] for at in range(*index.indices(len(self)))]
+        at = 3 * range(len(self))[index]
+        return self.entry(*self.words[at : at + 3])
+
+    def __eq__(self, other: Any) -> bool:
+        return self.words == other.words if isinstance(other, Entries) else list(self) == other
+
+    def __repr__(self) -> str:
+        return repr(list(self))
+
+
+_LETTERS = "ilobcjf"
+_KINDS = {letter: number for number, letter in enumerate(_LETTERS)}
+
+# What is made of what a field is given.
+_FIELDS = {name: _words for name, width in _WIDTHS.items() if width == 1}
+_FIELDS["latches"] = lambda given: Entries(Latch, given)
+_FIELDS["gates"] = lambda given: Entries(Gate, given)
+_FIELDS["symbols"] = lambda given: [Symbol(*symbol) for symbol in given]
+
+
+@dataclass(repr=False)
+class Circuit:
+    """A circuit. Its numbers stand in arrays, ``array("I")``, which ``numpy.asarray`` takes without a copy. Whoever
+    makes or changes one may give lists, and leave out what it does not have; arrays are kept, and not copied.
+
+    max_var            the largest variable; if it is left out, the largest that is defined
+    inputs             literals, as are outputs, bad, constraints and fairness
+    latches            a sequence of ``Latch``; all its numbers are the array ``latches.words``
+    gates              a sequence of ``Gate``; all its numbers are the array ``gates.words``
+    justice_sizes      how many literals each justice property has
+    justice_literals   the literals of all these
+    symbols            a list of ``Symbol``
+    comment            bytes, or None
+    numbers            where ``ordered`` was asked for: the new variable of each that was defined, in the order in which
+                       it was: inputs, latches, gates
+
+    >>> circuit = Circuit(inputs=[2, 4], outputs=[6], gates=[(6, 4, 2)], symbols=[("o", 0, b"both")])
+    >>> circuit.write(ascii=True)
+    b'aag 3 2 0 1 1\\n2\\n4\\n6\\n6 4 2\\no0 both\\n'
+    >>> circuit.outputs = [8]
+    >>> try:
+    ...     circuit.write()
+    ... except Refused as refused:
+    ...     print(refused.kind.name, refused.entry, refused)
+    LITERAL_RANGE ('outputs', 0) outputs[0]: literal out of range
+    """
+
+    max_var: Optional[int] = None
+    inputs: array = ()
+    latches: Entries = ()
+    outputs: array = ()
+    bad: array = ()
+    constraints: array = ()
+    justice_sizes: array = ()
+    justice_literals: array = ()
+    fairness: array = ()
+    gates: Entries = ()
+    symbols: List[Symbol] = ()
+    comment: Optional[bytes] = None
+    numbers: Optional[array] = None
+
+    def __post_init__(self) -> None:
+        if self.max_var is None:
+            defined = self.inputs, self.latches.words[::3], self.gates.words[::3]
+            self.max_var = max((max(literals) for literals in defined if literals), default=0) // 2
+
+    def __setattr__(self, name: str, value: Any) -> None:
+        made = value if value is None or name not in _FIELDS else _FIELDS[name](value)
+        super().__setattr__(name, made)
+
+    def __repr__(self) -> str:
+        counts = ((len(getattr(self, name) or ()), name) for name in _WIDTHS)
+        return f"<Circuit: max_var {self.max_var}{''.join(f', {count} {name}' for count, name in counts if count)}>"
+
+    def _sections(self) -> Dict[str, array]:
+        """The words of the sections before the symbols."""
+        sections = {name: getattr(self, name) for name in _WIDTHS if name not in ("symbols", "numbers")}
+        return {**sections, "latches": self.latches.words, "gates": self.gates.words}
+
+    def _symbol_words(self) -> array:
+        words, start = array("I"), 0
+        for kind, position, name in self.symbols:
+            words.extend((_KINDS.get(kind, len(_LETTERS)), position, start, len(name)))
+            start += len(name)
+        return words
+
+    def _counts(self, sections: Dict[str, array], name_bytes: int = 0) -> _Counts:
+        counts = _Counts(_number("max_var", self.max_var), name_bytes=name_bytes)
+        for name, (section, words) in zip(_COUNTED, sections.items()):
+            setattr(counts, name, len(words) // _WIDTHS[section])
+        if self.comment is not None:
+            counts.has_comment, counts.comment_bytes = 1, len(self.comment)
+        return counts
+
+    def write(self, *, ascii: bool = False) -> bytes:
+        """The AIGER file of the circuit, as ``aiger aigtoaig`` would write it. A circuit that is not right is refused
+        with the first entry that is wrong.
+
+        ascii   write ASCII, with variables and gates as they are, and not binary
+        """
+        sections = {**self._sections(), "symbols": self._symbol_words()}
+        names = b"".join(name for _, _, name in self.symbols)
+        words, data = b"".join(sections.values()), names + (self.comment or b"")
+        options, counts = _options((ascii, _ASCII)), self._counts(sections, len(names))
+        return _made(
+            (3 if ascii else 1) * len(words) + len(data) + 64,
+            lambda output, room, outcome: _library.aigtools_write(
+                options, counts, words, len(words) // 4, data, len(data), output, room, outcome
+            ),
+            sections,
+        )[0]
+
+    def ordered(self) -> "Circuit":
+        """The circuit as a binary file has it: inputs are the variables from 1 on, latches follow, then gates, each
+        behind its operands. Its ``numbers`` say which variable was which.
+
+        >>> circuit = Circuit(inputs=[6], outputs=[3], gates=[(2, 4, 6), (4, 6, 7)]).ordered()
+        >>> circuit.gates
+        [Gate(literal=4, left=3, right=2), Gate(literal=6, left=4, right=2)]
+        >>> circuit.outputs, circuit.numbers
+        (array('I', [7]), array('I', [1, 3, 2]))
+        """
+        return read(self.write(ascii=True), ordered=True)
+
+    def first_state(self) -> bytes:
+        """A byte for each latch: its reset, or 2 where it is uninitialised."""
+        return bytes(min(reset, 2) for reset in self.latches.words[2::3])
+
+    def step(self, inputs: Iterable[int], state: Optional[Iterable[int]] = None) -> Step:
+        """The values of a step, by those of inputs and latches: 0, 1, or 2 for x. Without a state it is the first step.
+        The circuit must be in order, as from ``ordered`` or from a binary file, or it is refused: NOT_ORDERED.
+
+        >>> toggle = Circuit(inputs=[2], latches=[(4, 10, 0)], outputs=[4], gates=[(6, 4, 2), (8, 5, 3), (10, 9, 7)])
+        >>> step = toggle.step([1])
+        >>> step.outputs, step.next
+        (b'\\x00', b'\\x01')
+        >>> toggle.step([2], step.next).next
+        b'\\x02'
+        """
+        given = {"inputs": bytes(iter(inputs)), "state": self.first_state() if state is None else bytes(iter(state))}
+        for (name, values), wanted in zip(given.items(), (self.inputs, self.latches)):
+            if len(values) != len(wanted):
+                raise ValueError(f"{name} has {len(values)} values, and not {len(wanted)}")
+        sections, outcome = self._sections(), _Outcome()
+        words, counts = b"".join(sections.values()), self._counts(sections)
+        shown = [len(part) for part in (self.outputs, self.bad, self.constraints, self.latches)]
+        values = bytearray(b"".join((b"\0", *given.values(), bytes(len(self.gates) + sum(shown)))))
+        if _library.aigtools_step(counts, words, len(words) // 4, _address(values), len(values), outcome) != _DONE:
+            _raise(outcome, {"constant": b"\0", **given})
+        at = [*itertools.accumulate(shown, initial=len(values) - sum(shown))]
+        return Step(*(bytes(values[begin:end]) for begin, end in zip([0, *at], at)))
+
+
+def _guessed_words(data: bytes) -> int:
+    """How many words a file may come to: by its header, with some for symbols, and by its length."""
+    counts = (int(word) for word in data[:120].split(b"\n")[0].split()[2:10] if word.isdigit())
+    told = sum(map(operator.mul, counts, (2, 4, 1, 4, 1, 1, 1, 1)))
+    return min(told + len(data) // 4, 2 * len(data), _LARGEST_GUESS // 4) + 16
+
+
+def _circuit(counts: _Counts, ordered: bool, words: memoryview, data: bytearray) -> Circuit:
+    """The circuit that words and bytes tell."""
+    numbers = counts.inputs + counts.latches + counts.gates
+    fields, at = {}, 0
+    for (name, width), count in zip(_WIDTHS.items(), [*(getattr(counts, it) for it in _COUNTED), numbers]):
+        fields[name] = array("I")
+        fields[name].frombytes(words[at : at + 4 * width * count])
+        at += 4 * width * count
+    names, ends = bytes(memoryview(data)[: counts.name_bytes]), counts.name_bytes + counts.comment_bytes
+    word = iter(fields["symbols"])
+    fields["symbols"] = [
+        (_LETTERS[kind], position, names[start : start + length])
+        for kind, position, start, length in zip(word, word, word, word)
+    ]
+    comment = bytes(memoryview(data)[counts.name_bytes : ends]) if counts.has_comment else None
+    fields["numbers"] = fields["numbers"] if ordered else None
+    return Circuit(counts.max_var, comment=comment, **fields)
+
+
+def read(data: Data, *, ordered: bool = False, max_var: int = LARGEST) -> Circuit:
+    """The circuit of an AIGER file, with variables and gates as they stand there.
+
+    ordered   as ``convert`` would write it in binary: see ``Circuit.ordered``
+    max_var   refuse a file with a larger index, or with more of a kind
+
+    >>> circuit = read(b"aag 1 0 1 1 0\\n2 3\\n2\\nl0 bit\\nc\\ntoggle\\n")
+    >>> circuit
+    <Circuit: max_var 1, 1 latches, 1 outputs, 1 symbols>
+    >>> circuit.latches[0], circuit.symbols, circuit.comment
+    (Latch(literal=2, next=3, reset=0), [Symbol(kind='l', position=0, name=b'bit')], b'toggle\\n')
+    """
+    data = _bytes(data)
+    options, limit = _options((ordered, _ORDERED)), _number("max_var", max_var)
+    counts, outcome, room, names = _Counts(), _Outcome(), _guessed_words(data), bytearray(len(data) + 1)
+    while True:
+        words = bytearray(4 * room)
+        status = _library.aigtools_read(
+            options, limit, data, len(data), _address(words), room, _address(names), len(names), counts, outcome
+        )
+        if status == _DONE:
+            return _circuit(counts, bool(ordered), memoryview(words), names)
+        if status != _TOO_SHORT:
+            _raise(outcome)
+        room = outcome.length
 
 
 def version() -> str:

@@ -7,28 +7,17 @@
    Where the library is installed:
 
        cc -o aigconvert examples/c/aigconvert.c $(pkg-config --cflags --libs aigtools) */
+#include "read_all.h"
 #include <aigtools.h>
-#include <stdio.h>
-#include <stdlib.h>
-
-static uint8_t *read_all(FILE *file, size_t *length) {
-    size_t room = 1 << 16, count;
-    uint8_t *bytes = malloc(room), *more;
-    *length = 0;
-    while (bytes && (count = fread(bytes + *length, 1, room - *length, file)) > 0)
-        if ((*length += count) == room) {
-            more = realloc(bytes, room *= 2);
-            if (!more) free(bytes);
-            bytes = more;
-        }
-    return bytes;
-}
 
 int main(void) {
     size_t length, room;
     uint8_t *input = read_all(stdin, &length), *output, words[80];
     aigtools_outcome outcome;
-    if (!input) return 1;
+    if (!input) {
+        perror("aigconvert");
+        return 1;
+    }
 
     /* a likely size first; with less than is needed, the outcome tells how much that is */
     output = malloc(room = length + 64);
