@@ -22,27 +22,31 @@ class Function:
         end = re.compile(rf"^{indent}(\}}|\{{\}})$", re.M).search(text, head.end())
         self.start, self.end = head.start(), end.end() if end else len(text)
         self.is_public_with_a_body = bool(head[2] and end and end[1] == "}")
-        self.is_method = bool(indent)
         blocks = [*BLOCK.finditer(text, 0, self.start)][-1:] if indent else []
-        self.name = "::".join([*(block_name(it[0]) for it in blocks), head[3]])
+        block = "".join(block_name(it[0]) for it in blocks)
+        self.name = f"{block}::{head[3]}" if block else head[3]
+        self.is_in_module = not block or re.search(rf"^(pub(\(\w+\))? )?(struct|enum) {re.escape(block)}\b", text, re.M)
 
     def path(self, crate, file):
         """How its whole name ends. A method stands in the module of its type, which may be that of another file."""
-        if self.is_method:
+        if not self.is_in_module:
             return f"::{self.name}"
         module = file.removeprefix("src/").removesuffix(".rt").replace("/", "::")
         return "::".join([crate, *([] if module in ("lib", "main") else [module]), self.name])
 
 
 def block_name(head):
-    """The name of an impl block or a trait: the type, then the trait and what it is applied to."""
+    """The name of an impl block or a trait: the type, then the trait and what it is applied to; or "Type+argument"."""
+    if of_one_type := re.match(r"impl (\w+)<(\w+)>\s*$", head):
+        return "+".join(of_one_type.groups())
     head = re.sub(r"^impl\s*(<(?:[^<>]|<[^<>]*>)*>)?|^.*\btrait\b", "", head)
     head = re.split(r"\swhere\s", head)[0]
     trait, is_for, implementor = head.partition(" for ")
     if not is_for:
         trait, implementor = "", head
     words = [re.sub(r"&('\w+ )?|<.*", "", implementor), trait.partition("<")[0], *re.findall(r"^[^<]*<([\w:]+)", trait)]
-    return "Ref" * implementor.startswith("&") + "".join(it.strip().rpartition("::")[2] for it in words)
+    name = "Ref" * implementor.startswith("&") + "".join(it.strip().rpartition("::")[2] for it in words)
+    return name[:1].upper() + name[1:] if is_for else name
 
 
 def functions_of(text):

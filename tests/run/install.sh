@@ -157,6 +157,9 @@ package_files="./usr/bin/aiger
 ./usr/share/doc/libaigtools-dev/copyright
 ./usr/share/doc/libaigtools-dev/examples/aigconvert.c
 ./usr/share/doc/libaigtools-dev/examples/aigconvert.rs
+./usr/share/doc/libaigtools-dev/examples/levels.c
+./usr/share/doc/libaigtools-dev/examples/levels.rs
+./usr/share/doc/libaigtools-dev/examples/read_all.h
 .$multiarch/libaigtools.so.1
 ./usr/share/doc/libaigtools1/CHANGELOG.md.gz
 ./usr/share/doc/libaigtools1/changelog.gz

@@ -14,6 +14,7 @@
 #include <time.h>
 
 #define ROOM 4096
+#define THREADS 8
 #define UNTOUCHED 0xAA
 /* an array of characters as the two arguments of an input */
 #define TEXT(it) (const uint8_t *)(it), sizeof(it) - 1
@@ -58,6 +59,14 @@ static const char tokens[] = "aag 3 0 2 0 1 1\n2 4 1\n4 2\n6\n6 4 2\n";
 static const char invariant[] = ".i 2\n11 1\n.e\n";
 static const char shown_by[] = "-10 0\n";
 static const char wrong_claim[] = "1\nb0\n0\n\n.\n";
+
+static int failed;
+
+static void check(int holds, const char *name, const char *what, long number) {
+    if (holds) return;
+    failed = 1;
+    printf("FAILED %s: %s, %ld\n", name, what, number);
+}
 
 typedef uint32_t call(uint8_t *output, size_t room, aigtools_outcome *outcome);
 
@@ -112,6 +121,59 @@ static uint32_t never(uint8_t *output, size_t room, aigtools_outcome *outcome) {
     return put_words("never", 0, output, room, outcome);
 }
 
+/* the circuit of the gate as arrays, which are made once, and what has its words, its bytes and its counts one behind the
+   other */
+#define MOST 64
+static struct arrays {
+    aigtools_counts counts;
+    uint32_t words[MOST];
+    uint8_t bytes[MOST];
+} gate_arrays, ordered_arrays;
+
+static int is_untouched(const uint8_t *from, size_t count) {
+    while (count && *from == UNTOUCHED) from++, count--;
+    return count == 0;
+}
+
+static uint32_t read_into(struct arrays *arrays, uint32_t options) {
+    aigtools_outcome outcome;
+    memset(arrays, UNTOUCHED, sizeof *arrays);
+    return aigtools_read(options, AIGTOOLS_LARGEST, TEXT(gate), arrays->words, MOST, arrays->bytes, MOST,
+                         &arrays->counts, &outcome);
+}
+static uint32_t arrays_of(uint32_t options, uint8_t *output, size_t room, aigtools_outcome *outcome) {
+    struct arrays arrays;
+    uint32_t status;
+    memset(&arrays, UNTOUCHED, sizeof arrays);
+    status = aigtools_read(options, AIGTOOLS_LARGEST, TEXT(gate), arrays.words, MOST, arrays.bytes, MOST, &arrays.counts,
+                           outcome);
+    if (status != AIGTOOLS_DONE) {
+        check(is_untouched((const uint8_t *)&arrays, sizeof arrays), "arrays", "untouched", status);
+        return status;
+    }
+    outcome->length = sizeof arrays;
+    if (room < sizeof arrays) return outcome->status = AIGTOOLS_TOO_SHORT;
+    memcpy(output, &arrays, sizeof arrays);
+    return status;
+}
+static uint32_t as_arrays(uint8_t *output, size_t room, aigtools_outcome *outcome) {
+    return arrays_of(0, output, room, outcome);
+}
+static uint32_t in_order(uint8_t *output, size_t room, aigtools_outcome *outcome) {
+    return arrays_of(AIGTOOLS_ORDERED, output, room, outcome);
+}
+static uint32_t write_of(uint32_t options, uint8_t *output, size_t room, aigtools_outcome *outcome) {
+    const aigtools_counts *counts = &gate_arrays.counts;
+    return aigtools_write(options, counts, gate_arrays.words, aigtools_words(counts), gate_arrays.bytes,
+                          aigtools_bytes(counts), output, room, outcome);
+}
+static uint32_t written(uint8_t *output, size_t room, aigtools_outcome *outcome) {
+    return write_of(0, output, room, outcome);
+}
+static uint32_t written_ascii(uint8_t *output, size_t room, aigtools_outcome *outcome) {
+    return write_of(AIGTOOLS_ASCII, output, room, outcome);
+}
+
 static uint32_t run_of(const char *witness, size_t length, uint8_t *output, size_t room, aigtools_outcome *outcome) {
     return aigtools_dump(AIGTOOLS_LARGEST, TEXT(toggle), (const uint8_t *)witness, length, output, room, outcome);
 }
@@ -123,21 +185,9 @@ static const struct { const char *name; call *of; } calls[] = {
     {"to binary", to_binary}, {"to ascii", to_ascii}, {"frames", frames}, {"trace", trace},
     {"dump", dump},           {"judged", judged},     {"run", run},       {"clauses", clauses},
     {"reached", reached},     {"refuted", refuted},   {"shown", shown}, {"never", never},
+    {"arrays", as_arrays},    {"in order", in_order}, {"written", written}, {"written ascii", written_ascii},
 };
 #define CALLS (sizeof calls / sizeof *calls)
-
-static int failed;
-
-static void check(int holds, const char *name, const char *what, long number) {
-    if (holds) return;
-    failed = 1;
-    printf("FAILED %s: %s, %ld\n", name, what, number);
-}
-
-static int is_untouched(const uint8_t *from, size_t count) {
-    while (count && *from == UNTOUCHED) from++, count--;
-    return count == 0;
-}
 
 static void check_rooms(const char *name, call *of, const uint8_t *text, size_t length) {
     size_t rooms[] = {0, length - 1, length, length + 7}, i;
@@ -177,6 +227,32 @@ static void check_refusals(const char *name, call *of) {
     printf("%s: %ld growths refused\n", name, all);
 }
 
+/* the half adder of these inputs, 0, 1 or 2 for x: that each value is right, and that no memory was taken */
+static int is_stepped(uint8_t x, uint8_t y) {
+    static const uint8_t and[3][3] = {{0, 0, 0}, {0, 1, 2}, {0, 2, 2}};
+    const aigtools_counts *counts = &ordered_arrays.counts;
+    uint8_t values[ROOM], not_x = x == 2 ? 2 : !x, not_y = y == 2 ? 2 : !y, carry = and[x][y], none = and[not_x][not_y];
+    uint8_t wanted[8] = {0, 0, 0, 0, 0, 0, 0, 0};
+    aigtools_outcome outcome;
+    memset(values, UNTOUCHED, sizeof values);
+    values[1] = x, values[2] = y;
+    wanted[1] = x, wanted[2] = y, wanted[3] = carry, wanted[4] = none;
+    wanted[5] = and[carry == 2 ? 2 : !carry][none == 2 ? 2 : !none];
+    wanted[6] = wanted[5], wanted[7] = carry;
+    return aigtools_step(counts, ordered_arrays.words, aigtools_words(counts), values, ROOM, &outcome) ==
+               AIGTOOLS_DONE &&
+           outcome.length == sizeof wanted && aigtools_values_length(counts) == sizeof wanted &&
+           memcmp(values, wanted, sizeof wanted) == 0 &&
+           is_untouched(values + sizeof wanted, sizeof values - sizeof wanted);
+}
+
+static void check_steps(void) {
+    uint8_t i;
+    growths = 0;
+    for (i = 0; i < 9; i++) check(is_stepped(i / 3, i % 3), "step", "of a half adder", i);
+    check(growths == 0, "step", "takes no memory", growths);
+}
+
 static uint8_t texts[CALLS][ROOM];
 static size_t lengths[CALLS];
 
@@ -187,19 +263,19 @@ static void *call_often(void *wrong) {
         aigtools_outcome outcome;
         size_t k = (size_t)i % CALLS;
         if (calls[k].of(output, ROOM, &outcome) != AIGTOOLS_DONE || outcome.length != lengths[k] ||
-            memcmp(output, texts[k], lengths[k]) != 0)
+            memcmp(output, texts[k], lengths[k]) != 0 || !is_stepped((uint8_t)(i % 3), (uint8_t)(i / 3 % 3)))
             *(int *)wrong = 1;
     }
     return NULL;
 }
 
 static void check_threads(void) {
-    pthread_t threads[4];
-    int wrong[4] = {0, 0, 0, 0}, i;
-    for (i = 0; i < 4; i++)
+    pthread_t threads[THREADS];
+    int wrong[THREADS] = {0}, i;
+    for (i = 0; i < THREADS; i++)
         check(pthread_create(&threads[i], NULL, call_often, &wrong[i]) == 0, "threads", "started", i);
-    for (i = 0; i < 4; i++) pthread_join(threads[i], NULL);
-    for (i = 0; i < 4; i++) check(!wrong[i], "threads", "the same texts", i);
+    for (i = 0; i < THREADS; i++) pthread_join(threads[i], NULL);
+    for (i = 0; i < THREADS; i++) check(!wrong[i], "threads", "the same texts", i);
 }
 
 static void check_refused_options(void) {
@@ -360,6 +436,8 @@ static int time_conversion(const char *path, long times) {
 int main(int count, char **words) {
     size_t i;
     if (count == 3) return time_conversion(words[1], atol(words[2]));
+    check(read_into(&gate_arrays, 0) == AIGTOOLS_DONE, "arrays", "read", 0);
+    check(read_into(&ordered_arrays, AIGTOOLS_ORDERED) == AIGTOOLS_DONE, "arrays", "in order", 0);
     for (i = 0; i < CALLS; i++) {
         aigtools_outcome outcome;
         check(calls[i].of(texts[i], ROOM, &outcome) == AIGTOOLS_DONE, calls[i].name, "done", (long)i);
@@ -372,6 +450,7 @@ int main(int count, char **words) {
     check_refutations();
     check_invariants();
     check_refused_options();
+    check_steps();
     check_threads();
     return failed;
 }

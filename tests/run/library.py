@@ -1,12 +1,13 @@
 #!/usr/bin/env python3
 """The library libaigtools beside the linked program: what it answers to the rows of tests/rows/all.sh, to inputs that are
 changed by chance, to those of megabytes, to memory that is refused, to outputs that are too short, and from threads at
-once; its symbols; that its header, its Python module and its sources have the same numbers, and their outcome the same
-form; and that each option of a command is one of a call.
+once; its symbols; that its header, its Python module and its sources have the same numbers, and their structs the same
+form; that each option of a command is one of a call; and the programs of examples/c and examples/python over it.
 
     tests/run/library.py FOLDER PROGRAM     FOLDER holds libaigtools.a and libaigtools.so.1, as release/library makes them
 """
 import ctypes
+import dataclasses
 import doctest
 import inspect
 import itertools
@@ -18,12 +19,14 @@ import shutil
 import subprocess
 import sys
 import tempfile
+from array import array
 from concurrent.futures import ThreadPoolExecutor
 from pathlib import Path
 
 sys.dont_write_bytecode = True
 sys.path[0] = str(Path(__file__).resolve().parent.parent)
-from lib import large
+from lib import examples, large
+from lib.texts import mutated, rows
 
 TOP = Path(__file__).resolve().parents[2]
 SEED, MUTANTS = 7, 2400
@@ -31,11 +34,6 @@ SEED, MUTANTS = 7, 2400
 LINES, STEPS, FRAMES, MANY = 70_000, 16, 3, 1_000_000
 # what a smaller one has, and runs of its stimulus
 FEWER, RUNS = 60, 1_000
-FLAGS = "--ascii -a --strip -s --keep-map --undo-map --outputs-as-bad --properties --witness --batch --vcd --cnf".split()
-# prints each row of the table, each word of it ended by a NUL
-ROWS = 'work=$1; . tests/rows/all.sh; row() { printf "%s\\0" $# "$@"; }; rows'
-ESCAPE = re.compile(rb"\\(0[0-7]{0,3}|x[0-9a-f]{1,2}|.)", re.S)
-LETTERS = {b"n": b"\n", b"r": b"\r", b"t": b"\t", b"\\": b"\\", b"a": b"\a"}
 
 passed = failed = skipped = 0
 
@@ -48,36 +46,6 @@ def judge(name, holds, *details):
         return
     failed += 1
     print("FAILED", name, *(repr(it)[:300] for it in details))
-
-
-def meant(text):
-    """The bytes that printf's %b makes of a text."""
-
-    def byte(found):
-        digits = found[1]
-        if digits[:1] in (b"0", b"x"):
-            return bytes([int(digits.lstrip(b"x"), 16 if digits[:1] == b"x" else 8) & 255])
-        return LETTERS.get(digits, found[0])
-
-    return ESCAPE.sub(byte, text)
-
-
-def options_of(words):
-    """What the words ask the library for: a name, options, and the names of files; or None."""
-    name, options, files, rest = words[0], {}, [], list(words[1:])
-    while rest:
-        word = rest.pop(0)
-        if word in FLAGS:
-            options[{"-a": "ascii", "-s": "strip"}.get(word, word[2:].replace("-", "_"))] = True
-        elif word in ("--max-var", "--frames", "--bad") and rest and rest[0].isdigit():
-            options[word[2:].replace("-", "_")] = int(rest.pop(0))
-        elif word in ("--answer", "--refutation", "--invariant") and rest:
-            options[word[2:]] = rest.pop(0)
-        elif word.startswith("-") and word != "-":
-            return None
-        else:
-            files.append(word)
-    return name, options, files
 
 
 def judged(with_run, model, witness, options):
@@ -118,32 +86,6 @@ def answer(name, options, first, second, third=b""):
         return b"", str(refused), 1
 
 
-def rows(folder):
-    """The rows that have bytes in and bytes out: a name, the words, two inputs or three, and what is wanted."""
-    said = subprocess.run(["bash", "-c", ROWS, "rows", folder], cwd=TOP, stdout=subprocess.PIPE, check=True)
-    words = said.stdout.split(b"\0")
-    while len(words) > 1:
-        count = int(words[0])
-        row, words = words[1 : count + 1], words[count + 1 :]
-        name, given, output, errors, status = row[:5]
-        asked = options_of([word.decode("utf-8", "surrogateescape") for word in row[5:]]) if len(row) > 5 else None
-        if asked is None or status not in (b"0", b"1") or asked[0] not in ("aigtoaig", "aigunroll", "aigsim"):
-            continue
-        tool, options, files = asked
-        written = [options[it] for it in ("invariant", "answer", "refutation") if it in options]
-        if written:
-            files = [*(files or ["-"]), *written]
-        inputs = [meant(given) if it == "-" else Path(it).read_bytes() if os.path.isfile(it) else None for it in files]
-        if tool == "aigsim":
-            inputs += [meant(given)] * (len(inputs) == 1)
-            whole = "batch" in options or "witness" in options or status == b"0"
-        else:
-            inputs = (inputs or [meant(given)]) + [b""] * (not written)
-            whole = True
-        if whole and len(inputs) == 1 + (len(written) or 1) and None not in inputs:
-            yield name.decode(), tool, options, inputs, (meant(output), meant(errors).decode(), int(status)), files
-
-
 def check_rows():
     """Each row gets the same bytes, the same words and the same status."""
     with tempfile.TemporaryDirectory() as folder:
@@ -155,20 +97,6 @@ def check_rows():
             judge(name, holds, wanted, output, words, status)
             count += 1
         judge("most rows are there", count > 500, count)
-
-
-def mutated(chance, text):
-    """The text with up to three bytes changed, put in or left out."""
-    text = bytearray(text)
-    for _ in range(chance.randrange(4)):
-        at, how = chance.randrange(len(text) + 1), chance.randrange(3)
-        if how == 0:
-            text[at:at] = bytes([chance.choice(b"0123456789 \nabcx.")])
-        elif how == 1:
-            del text[at : at + 1]
-        elif at < len(text):
-            text[at] = chance.choice(b"0123456789 \n\x00\x80\xff")
-    return bytes(text)
 
 
 def mutants(folder, program):
@@ -242,6 +170,170 @@ def check_mutants(program):
         judge("some inputs are refused, and some are not", MUTANTS // 4 < refused < MUTANTS * 3 // 4, refused)
 
 
+def refusal(call, *inputs, **options):
+    """Why a call refuses, or None."""
+    try:
+        call(*inputs, **options)
+    except aigtools.Refused as told:
+        return told
+    return None
+
+
+def renumbered(circuit, numbers):
+    """The circuit as its new numbers make it, but for the order of its gates."""
+    defined = [*circuit.inputs, *(it.literal for it in circuit.latches), *(it.literal for it in circuit.gates)]
+    new = {0: 0, **dict(zip((it // 2 for it in defined), numbers))}
+
+    def of(literal):
+        return 2 * new[literal // 2] + literal % 2
+
+    fields = {name: [*map(of, getattr(circuit, name))] for name in "inputs outputs bad constraints justice_literals fairness".split()}
+    latches = [(of(it.literal), of(it.next), it.reset if it.reset < 2 else of(it.reset)) for it in circuit.latches]
+    gates = [(of(it.literal), *sorted((of(it.left), of(it.right)), reverse=True)) for it in circuit.gates]
+    others = {name: getattr(circuit, name) for name in ("justice_sizes", "symbols", "comment")}
+    return aigtools.Circuit(latches=latches, gates=sorted(gates), max_var=len(numbers), **fields, **others)
+
+
+def stepped(circuit, steps):
+    """The lines of a trace that a circuit makes of these inputs."""
+    state, lines = circuit.first_state(), []
+    for inputs in steps:
+        step = circuit.step(inputs, state)
+        columns = state, inputs, step.outputs, step.next, step.bad, step.constraints
+        lines.append(" ".join("".join("01x"[it] for it in column) for column in columns) + "\n")
+        state = step.next
+    return "".join(lines).encode() + b".\n"
+
+
+def check_circuit(chance, text):
+    """The circuit of a text: it is the one that is converted and simulated, or it is refused in the same words."""
+    why = refusal(aigtools.convert, text)
+    if why:
+        for ordered in (False, True):
+            same = refusal(aigtools.read, text, ordered=ordered)
+            judge("what is refused as arrays", same and vars(same) == vars(why), text, same, why)
+        return None
+    image, circuit = aigtools.convert(text), aigtools.read(text)
+    judge("a circuit", circuit.write() == image, text, circuit)
+    judge("a circuit in ASCII", circuit.write(ascii=True) == aigtools.convert(text, ascii=True), text, circuit)
+    judge("a circuit read again", aigtools.read(circuit.write(ascii=True)) == circuit, text, circuit)
+    ordered, of_image = circuit.ordered(), aigtools.read(image)
+    judge("a circuit in order", aigtools.read(text, ordered=True) == ordered, text, ordered)
+    numbers, ordered.numbers = ordered.numbers, None
+    judge("a circuit in order is its image", ordered == of_image, text, ordered)
+    judge("its numbers", renumbered(circuit, numbers) == ordered, text, numbers)
+    steps = [[chance.randrange(3) for _ in circuit.inputs] for _ in range(3)]
+    stimulus = "".join("".join("01x"[it] for it in step) + "\n" for step in steps).encode()
+    trace = aigtools.simulate(text, stimulus, properties=True)
+    columns = 6 if circuit.bad or circuit.constraints else 4
+    made = stepped(ordered, steps)
+    judge("its steps", made == trace or columns == 4 and made.replace(b"  \n", b"\n") == trace, text, made, trace)
+    return circuit
+
+
+def text_of(circuit):
+    """A circuit in ASCII, whatever it is, and the entry that stands in each line."""
+    counts = [len(getattr(circuit, it)) for it in "inputs latches outputs gates bad constraints justice_sizes fairness".split()]
+    lines, entries = [" ".join(map(str, ["aag", circuit.max_var, *counts]))], [None]
+    for name, width in aigtools._WIDTHS.items():
+        if width < 4 and name != "numbers":
+            for at, entry in enumerate(getattr(circuit, name)):
+                lines.append(" ".join(map(str, entry if width == 3 else [entry])))
+                entries.append((name, at))
+    for at, (kind, position, name) in enumerate(circuit.symbols):
+        lines.append(f"{kind}{position} {name.decode('latin-1')}")
+        entries.append(("symbols", at))
+    return "".join(f"{line}\n" for line in lines).encode("latin-1"), entries
+
+
+def check_mistakes(chance, circuit):
+    """A circuit with a number changed is refused as its text is, in the entry that stands in the line."""
+    above = 2 * circuit.max_var + 2
+    number = min(chance.choice([0, 1, 2, 3, chance.randrange(above), above, 2**32]), 2**32 - 1)
+    name = chance.choice([*aigtools._WIDTHS])
+    words = getattr(getattr(circuit, name), "words", getattr(circuit, name))
+    if name in ("justice_sizes", "numbers") or not words:
+        return
+    at = chance.randrange(len(words))
+    before = words[at]
+    words[at] = before._replace(position=number) if name == "symbols" else number
+    text, entries = text_of(circuit)
+    why, here = refusal(aigtools.convert, text), refusal(circuit.write, ascii=bool(chance.randrange(2)))
+    words[at] = before
+    if not why or not here:
+        judge("a changed number is right", not why and not here, text, here, why)
+    elif why.kind is not aigtools.Kind.BAD_HEADER:
+        entry = entries[why.line - 1] if why.line else None
+        wanted = (why.kind, why.subject, entry, why.message.partition(": ")[2] if entry else why.message)
+        came = here.message.partition(": ")[2] if entry else here.message
+        judge("a changed number", (here.kind, here.subject, here.entry, came) == wanted, text, here, why)
+
+
+def check_circuits(folder):
+    """Circuits as arrays, in the Python module: those of the rows, changed by chance too, and circuits that are wrong."""
+    chance = random.Random(SEED)
+    texts = [path.read_bytes() for path in sorted((TOP / "examples").glob("*.a[ai]g"))]
+    texts += [row[3][0] for row in rows(folder) if len(row[3][0]) < 2000]
+    texts += [mutated(chance, chance.choice(texts)) for _ in range(MUTANTS // 8)]
+    texts, right = [*dict.fromkeys(texts)], 0
+    for text in texts:
+        circuit = check_circuit(chance, text)
+        right += circuit is not None
+        for _ in range(4 if circuit else 0):
+            check_mistakes(chance, circuit)
+    judge("some circuits are right, and some are not", len(texts) // 4 < right < len(texts) * 3 // 4, right, len(texts))
+    # so many symbols that there is no room for their words at first
+    text = b"aag 9 9 0 0 0\n" + b"".join(b"%d\n" % (2 * at + 2) for at in range(9)) + b"".join(b"i%d \n" % at for at in range(9))
+    judge("many symbols", aigtools.read(text).write(ascii=True) == text)
+
+
+def wrong(told, kind, entry=None):
+    """Whether this was told of a circuit."""
+    return told is not None and (told.kind.name, told.entry) == (kind, entry)
+
+
+def check_wrong_circuits():
+    """What is told of circuits that no file can have, and of values; what the module takes, and what it does not."""
+    circuit = aigtools.Circuit
+    for given, kind, entry in (
+        ({"justice_sizes": [1]}, "BAD_COUNTS", None),
+        ({"justice_literals": [0]}, "BAD_COUNTS", None),
+        ({"justice_sizes": [2**32 - 1, 1]}, "BAD_COUNTS", None),
+        ({"latches": [(2, 2, 1), (4, 2, 2)]}, "BAD_RESET", ("latches", 1)),
+        ({"gates": [(2, 0, 0), (3, 0, 0)]}, "NOT_VARIABLE", ("gates", 1)),
+        ({"inputs": [2], "symbols": [("i", 0, b"a"), ("x", 0, b"")]}, "BAD_SYMBOL", ("symbols", 1)),
+        ({"inputs": [2], "symbols": [("i", 0, b"a\nb")]}, "BAD_SYMBOL", ("symbols", 0)),
+        ({"inputs": [2], "symbols": [("o", 0, b"a")]}, "SYMBOL_RANGE", ("symbols", 0)),
+        ({"inputs": [2], "symbols": [("i", 0, b"a"), ("i", 0, b"b")]}, "SYMBOL_TWICE", ("symbols", 1)),
+        ({"inputs": [2, 2]}, "REDEFINED", None),
+        ({"outputs": [2], "max_var": 1}, "UNDEFINED", None),
+        ({"gates": [(2, 4, 4), (4, 2, 2)]}, "CYCLIC", None),
+    ):
+        told = refusal(circuit(**given).write)
+        judge("a circuit that is wrong", wrong(told, kind, entry), given, told)
+    named = circuit(inputs=[2], symbols=[("i", 0, b"\0 \xff")], comment=b"a\nb")
+    judge("names and comment", named.write(ascii=True) == b"aag 1 1 0 0 0\n2\ni0 \0 \xff\nc\na\nb")
+    judge("an empty comment", circuit(comment=b"").write() == b"aig 0 0 0 0 0\nc\n" and circuit().write() == b"aig 0 0 0 0 0\n")
+    gate = circuit(inputs=[2, 4], latches=[(6, 8, 6)], outputs=[8], gates=array("I", [8, 6, 2]))
+    judge("a step from the first state", gate.step([1, 0]) == (b"\0\1\0\2\2", b"\2", b"", b"", b"\2"))
+    judge("a bad input", wrong(refusal(gate.step, [1, 3]), "BAD_VALUE", ("inputs", 1)))
+    judge("a bad state", wrong(refusal(gate.step, [1, 0], [255]), "BAD_VALUE", ("state", 0)))
+    for other in ({"inputs": [4, 2]}, {"max_var": 5}, {"gates": [(8, 8, 2)]}, {"gates": [(8, 2, 10)]}, {"outputs": [10]}):
+        told = refusal(dataclasses.replace(gate, **other).step, [0, 0])
+        judge("no circuit in order", wrong(told, "NOT_ORDERED"), other, told)
+    for words, call, *inputs in (
+        ("inputs has 1 values, and not 2", gate.step, [1]),
+        ("state has 0 values, and not 1", gate.step, [1, 1], []),
+        ("three for each Gate", circuit, 0, (), (), (), (), (), (), (), (), array("I", [2, 4])),
+        ("max_var is not from 0", circuit(aigtools.LARGEST + 1).write),
+    ):
+        judge("a wrong argument", refuses(ValueError, words, call, *inputs), words)
+    judge("a gate of two numbers", refuses(TypeError, "right", circuit, gates=[(2, 4)]))
+    judge("no literal", refuses(OverflowError, "unsigned", circuit, inputs=[-2]))
+    judge("a slice of gates", aigtools.Circuit(gates=[(2, 0, 0), (4, 2, 2)]).gates[-1:] == [(4, 2, 2)])
+    judge("what is told of a circuit", repr(gate) == "<Circuit: max_var 4, 2 inputs, 1 latches, 1 outputs, 1 gates>", repr(gate))
+
+
 class Sizes:
     """The library beside the program at inputs and texts of megabytes, where the contracts would allow that either says it
     is out of memory. What is wanted is made by rule in tests/lib/large.py."""
@@ -272,6 +364,8 @@ class Sizes:
         stripped = aigtools.convert(source, strip=True)
         self.alike("a stripped image", stripped, "aigtoaig --strip", source, image[:-end])
         mapped = self.alike("an image", aigtools.convert(source, keep_map=True), "aigtoaig --keep-map", source)
+        judge("arrays of megabytes", aigtools.read(source).write(ascii=True) == source)
+        judge("and in order", aigtools.read(source, ordered=True).write(ascii=True) == ordered)
         undone = aigtools.convert(mapped, undo_map=True, ascii=True)
         self.alike("an undone text", undone, "aigtoaig --undo-map --ascii", mapped, source)
         self.alike("an undone image", aigtools.convert(mapped, undo_map=True), "aigtoaig --undo-map", mapped, image)
@@ -382,19 +476,20 @@ def check_sizes(program):
         sizes.traces(FEWER, [values[at % 5 :][: 1 + at % 4] * 3 for at in range(RUNS)])
 
 
-WARNINGS = "-std=c99 -pedantic -Wall -Wextra -Werror".split()
+WARNINGS = "-pedantic -Wall -Wextra -Werror".split()
+C = ["gcc", "-std=c99", *WARNINGS]
 
 
-def compiled(name, made, *words):
-    """Whether gcc makes a program of the words, with the header and the archive, without a warning."""
-    words = ["gcc", *WARNINGS, f"-I{TOP}/include", "-o", made, *words]
+def compiled(name, made, *words, compiler=C):
+    """Whether the compiler makes a program of the words, with the header, without a warning."""
+    words = [*compiler, f"-I{TOP}/include", "-o", made, *words]
     ran = subprocess.run(words, capture_output=True, text=True, check=False)
     judge(f"{name} compiles", ran.returncode == 0, ran.stderr)
     return ran.returncode == 0
 
 
 def check_calls(folder):
-    """What only a C program can do: see tests/run/library.c. The header is also that of a C++ program."""
+    """What only a C program can do: see tests/run/library.c."""
     archive = Path(folder, "libaigtools.a")
     with tempfile.TemporaryDirectory() as work:
         made = Path(work, "made")
@@ -402,32 +497,17 @@ def check_calls(folder):
         if compiled("tests/run/library.c", made, *wrapped, TOP / "tests/run/library.c", archive, "-lpthread"):
             ran = subprocess.run([made], capture_output=True, text=True, check=False)
             judge("the calls of tests/run/library.c", ran.returncode == 0, ran.stdout)
-        if compiled("the example in C", made, TOP / "examples/c/aigconvert.c", archive):
-            circuit = (TOP / "examples/half_adder.aag").read_bytes()
-            ran = subprocess.run([made], input=circuit, capture_output=True, check=False)
-            judge("the example in C", ran.stdout == aigtools.convert(circuit, keep_map=True), ran)
-        check_search()
         check_other_library(archive, Path(work))
-        if shutil.which("g++"):
-            words = f"-std=c++11 -pedantic -Wall -Werror -fsyntax-only -x c++ {TOP}/include/aigtools.h".split()
-            judge("the header in C++", subprocess.run(["g++", *words], check=False).returncode == 0)
 
 
-# in the place of a solver: it knows that the clauses of one frame of the toggle have two variables
-SOLVER = ["sh", "-c", "read p cnf count rest; [ $count = 2 ] && echo s UNSATISFIABLE || printf 's SATISFIABLE\\nv 0\\n'"]
-
-
-def check_search():
-    """The example in Python: a search over more and more steps, which ends with a witness."""
-    words = [sys.executable, "-B", TOP / "examples/python/search.py"]
-    model = b"aag 1 0 1 0 0 1\n2 3\n2\n"
-    with tempfile.NamedTemporaryFile() as file:
-        file.write(model)
-        file.flush()
-        how = {"capture_output": True, "env": {**os.environ, "PYTHONPATH": str(TOP / "python")}, "check": False}
-        for most, *wanted in (("5", b"1\nb0\n0\n\n\n.\n", b"confirmed 1\n", 0), ("1", b"", b"no run of at most 1 steps\n", 1)):
-            ran = subprocess.run([*words, file.name, most, *SOLVER], **how)
-            judge("the example in Python", [ran.stdout, ran.stderr, ran.returncode] == wanted, ran)
+def check_examples(folder, program):
+    """The programs over the library, and the page that shows some of them."""
+    with tempfile.TemporaryDirectory() as work:
+        for name, holds, *details in examples.checks(aigtools, Path(folder).resolve(), Path(work)):
+            judge(name, holds, *details)
+    words = [sys.executable, TOP / "tests/run/readme.py", program, TOP / "examples/README.md"]
+    ran = subprocess.run(words, capture_output=True, text=True, check=False)
+    judge("examples/README.md, with nothing skipped", re.fullmatch(r"\d+ passed, 0 failed\n", ran.stdout), ran.stdout)
 
 
 # what a model checker carries of Biere's library: a header aiger.h, and a function of another type than ours had
@@ -462,7 +542,7 @@ def check_symbols(folder):
         ran = subprocess.run(["nm", "--format=posix", *options, path], stdout=subprocess.PIPE, text=True, check=True)
         return {line.split()[0] for line in ran.stdout.splitlines() if len(line.split()) > 1}
 
-    exports = set(re.findall(r"\b(aigtools_[a-z_]+)\(", (TOP / "include/aigtools.h").read_text()))
+    exports = set(re.findall(r"^\w+ (aigtools_[a-z_]+)\(", (TOP / "include/aigtools.h").read_text(), re.M))
     calls = {"malloc", "realloc", "free", "memcpy", "memmove", "memset", "memcmp", "bcmp"}
     made = symbols(Path(folder, "libaigtools.a"), "-g", "--defined-only")
     judge("the symbols of libaigtools.a", made == exports, sorted(made))
@@ -472,33 +552,80 @@ def check_symbols(folder):
     judge("the symbols of libaigtools.so", shared == exports, sorted(shared))
 
 
-# the size of an outcome, and the name, the offset and the size of each of its fields, as a C program sees them
+# What a C or a C++ program sees: the size of each struct, and the name, the offset and the size of each of its fields; then
+# of these counts, what the inline functions say.
 LAYOUT = """#include "aigtools.h"
 #include <stdio.h>
-#define FIELD(it) printf (#it " %zu %zu\\n", offsetof (aigtools_outcome, it), sizeof ((aigtools_outcome *) 0)->it)
+#define STRUCT(it) printf (#it " %zu\\n", sizeof (it))
+#define FIELD(of, it) printf (#it " %zu %zu\\n", offsetof (of, it), sizeof ((of *) 0)->it)
+#define COUNT(it) printf (#it " %zu\\n", aigtools_##it (&counts))
+#define SECTION(it) printf (#it " %td\\n", aigtools_##it (&counts, words) - words)
 int main (void) {
-    printf ("%zu\\n", sizeof (aigtools_outcome));
-FIELDS
+    static const uint32_t words[1000] = {0};
+    const aigtools_counts counts = {COUNTS};
+LINES
     return 0;
 }
 """
+STRUCTS = {
+    "outcome": ("crates/aig_library/src/outcome.rt", "_Outcome", "Outcome"),
+    "counts": ("crates/aig_arrays/src/counts.rt", "_Counts", "Counts"),
+}
+LANGUAGES = {"C99": C, "C++11": ["g++", "-std=c++11", *WARNINGS], "C++17": ["g++", "-std=c++17", *WARNINGS]}
+
+
+def fields_of(here):
+    """The name of each field of a struct of the Python module, with its offset and size."""
+    return [(name, getattr(here, name)) for name, _ in here._fields_]
+
+
+def layout(counts):
+    """The program that prints what it sees of these counts, and what it is to print."""
+    lines, wanted = [], []
+    for name, (_, here, _) in STRUCTS.items():
+        here = getattr(aigtools, here)
+        lines += [f"STRUCT (aigtools_{name});", *(f"FIELD (aigtools_{name}, {it});" for it, _ in fields_of(here))]
+        wanted += [f"aigtools_{name} {ctypes.sizeof(here)}", *(f"{it} {at.offset} {at.size}" for it, at in fields_of(here))]
+    there = aigtools._Counts(*counts)
+    lengths = [width * getattr(there, it, 0) for width, it in zip(aigtools._WIDTHS.values(), (*aigtools._COUNTED, ""))]
+    defined = there.inputs + there.latches + there.gates
+    values = 1 + there.max_var + there.outputs + there.bad + there.constraints + there.latches
+    for name, count in (
+        ("words", sum(lengths)),
+        ("bytes", there.name_bytes + there.comment_bytes),
+        ("defined", defined),
+        ("values_length", values),
+    ):
+        lines.append(f"COUNT ({name});")
+        wanted.append(f"{name} {count}")
+    if sum(lengths) < 1000:
+        for at, name in enumerate(aigtools._WIDTHS):
+            lines.append(f"SECTION ({name});")
+            wanted.append(f"{name} {sum(lengths[:at])}")
+    text = LAYOUT.replace("COUNTS", ", ".join(f"{count}u" for count in counts))
+    return text.replace("LINES", "\n".join(f"    {line}" for line in ["(void)words;", *lines])), wanted
 
 
 def check_layout():
-    """An outcome has the same form in the header, in the Python module and in the sources."""
-    outcome = aigtools._Outcome
-    fields = [(name, getattr(outcome, name)) for name, _ in outcome._fields_]
-    here = [f"{ctypes.sizeof(outcome)}", *(f"{name} {it.offset} {it.size}" for name, it in fields)]
-    with tempfile.TemporaryDirectory() as work:
-        program = LAYOUT.replace("FIELDS", "\n".join(f"    FIELD ({name});" for name, _ in fields))
-        Path(work, "layout.c").write_text(program)
-        if compiled("the form of an outcome", Path(work, "layout"), Path(work, "layout.c")):
-            there = subprocess.run([Path(work, "layout")], stdout=subprocess.PIPE, text=True, check=True).stdout
-            judge("the form of an outcome in the header", there.splitlines() == here, there, here)
-    source = (TOP / "crates/aig_library/src/outcome.rt").read_text()
-    struct = re.search(r"#\[repr\(C\)\]\n#\[derive[^\n]*\npub struct Outcome \{\n(.*?)\n\}", source, re.S)
-    there = re.findall(r"pub (\w+): u(\d+),", struct[1] if struct else "")
-    judge("the form of an outcome in the sources", there == [(name, str(8 * it.size)) for name, it in fields], there)
+    """Structs have the same form in the header, in the Python module and in the sources, and the header's functions find
+    the sections where the module does, of small counts and of the largest."""
+    for language, compiler in LANGUAGES.items():
+        for counts in ([*range(3, 17)], [1, 2, 0, 5, 0, 7, 0, 11, 0, 13, 0, 1, 17, 0], [2**32 - 1] * 12 + [2**40, 2**41]):
+            program, wanted = layout(counts)
+            if not shutil.which(compiler[0]):
+                continue
+            with tempfile.TemporaryDirectory() as work:
+                source = Path(work, "layout.c" if compiler is C else "layout.cc")
+                source.write_text(program)
+                if compiled(f"the header in {language}", Path(work, "layout"), source, compiler=compiler):
+                    said = subprocess.run([Path(work, "layout")], stdout=subprocess.PIPE, text=True, check=True).stdout
+                    judge(f"what the header says in {language}", said.splitlines() == wanted, said, wanted)
+    for path, here, name in STRUCTS.values():
+        source = (TOP / path).read_text()
+        struct = re.search(r"#\[repr\(C\)\]\n#\[derive[^\n]*\npub struct %s \{\n(.*?)\n\}" % name, source, re.S)
+        there = re.findall(r"pub (\w+): u(\d+),", struct[1] if struct else "")
+        wanted = [(it, str(8 * at.size)) for it, at in fields_of(getattr(aigtools, here))]
+        judge(f"the form of {name} in the sources", there == wanted, there)
 
 
 def check_numbers(program):
@@ -603,8 +730,12 @@ def main(folder, program):
     """All checks, and their sums."""
     check_rows()
     check_mutants(program)
+    with tempfile.TemporaryDirectory() as work:
+        check_circuits(work)
+    check_wrong_circuits()
     check_sizes(program)
     check_calls(folder)
+    check_examples(folder, program)
     check_symbols(folder)
     check_layout()
     check_numbers(program)

@@ -7,10 +7,10 @@ A wrong body is a file with a line 'file: src/F.rt' and pairs of lines 'old: TEX
 each old text stands in that file exactly once, and further pairs apply to what the earlier ones made. A line
 'in: Type::function' has the pairs after it look in that function alone.
 
-They are put into a copy of the repository, which takes over the work that earlier checks kept. Those of distinct
-functions are put in together, and each is judged by what 'rt check' says of its own function. One whose function only
-waits for another that is not proved is tried again when that one is right again. One that seems to be proved is tried
-again alone.
+They are put into a copy of the repository, which takes over the libraries that were built. Those of distinct
+functions are put in together, these functions alone are checked, and each body is judged by what is said of its own.
+One whose function only waits for another that is not proved is tried again when that one is right again. One that
+seems to be proved is tried again alone, over the whole crate.
 
 Three ways of refusing are told apart: the prover refutes a goal, with values at which it is false; it finds no proof; or all
 that fails is an answer that names what the wrong body took away, which says little of the contract, so these are listed.
@@ -31,11 +31,12 @@ sys.path[0] = str(Path(__file__).resolve().parent.parent)
 from lib.bodies import RT, TOP, Unfit, WrongBody, crates, functions_of, tell
 
 BODIES = TOP / "tests" / "wrong_bodies"
-# What the check says of a function with goals of its own that are open, and not of one that waits for another.
-OPEN = re.compile(r"not proved$|no proof: expected answers")
-# A goal with values at which it is false, and a proof file that names what is not there any more.
+# What the check says of a function with goals of its own that are open, and not of one that waits for another alone.
+OPEN = re.compile(r"not proved|no proof: expected answers")
+# A goal with values at which it is false, any other, and a proof file that names what is not there any more.
 REFUTED = "allow values at which this goal is false"
-MISSING_NAME = re.compile(r"has no field|is not in scope|has no `|was not admitted|has no goal")
+OPEN_GOAL = "it is not proved that"
+MISSING_NAME = re.compile(r"has no field|\(nearest: |is not in scope|has no `|was not admitted|has no goal")
 
 # The ways in which a wrong body is refused.
 WAYS = ("refuted", "without a proof", "for want of a name")
@@ -45,9 +46,9 @@ class Said:
     """What a check said: whether all is proved, None where there is no verdict, and of each function."""
 
     def __init__(self, text):
-        self.text = text
-        verdict = re.findall(r"^logic=(proved|not-proved)", text, re.M)
-        self.is_proved = verdict[-1] == "proved" if verdict else None
+        self.text = text = re.sub(r"^so far: .*\n", "", text, flags=re.M)
+        verdict = re.findall(r"^logic=(proved|not-proved)|^only=(\d+) proved=(\d+)", text, re.M)
+        self.is_proved = verdict[-1][0] == "proved" or verdict[-1][1] == verdict[-1][2] != "" if verdict else None
         self.functions = dict(re.findall(r"^fn (\S+): (.*)$", text, re.M))
 
     def of(self, function):
@@ -56,23 +57,23 @@ class Said:
         named = [it for it in self.functions if it == function or is_method and it.endswith(function)]
         return self.functions[named[0]] if len(named) == 1 else "proved"
 
-    def way(self):
-        """In which way this check refused: the strongest that one of its lines shows."""
-        errors = re.findall(r"^\./proofs/\S+: error: .*", self.text, re.M)
-        if REFUTED in self.text:
+    def way(self, function=None):
+        """In which way this check refused a function, or all that it says: the strongest that a line shows."""
+        notes, folder = self.text, ""
+        if function:
+            # (the notes on a function stand before its line)
+            line = re.search(rf"^fn \S*{re.escape(function)}: ", self.text, re.M)
+            notes = self.text[: line.start()].rpartition("\nfn ")[2] if line else self.text
+            folder = re.escape("/".join(function.split("::")[1:])) + "/"
+        if REFUTED in notes:
             return WAYS[0]
-        is_open = "no proof: expected answers" in self.text
-        return WAYS[1] if is_open or not all(MISSING_NAME.search(it) for it in errors) else WAYS[2]
+        errors = re.findall(rf"^\./proofs/(?:\S*/)?{folder}\S+: error: .*", self.text, re.M)
+        return WAYS[2] if errors and all(MISSING_NAME.search(it) for it in errors) and OPEN_GOAL not in notes else WAYS[1]
 
-    def way_of(self, function):
-        """The same of one function among several: by the notes before its line, and by the errors of its proof files."""
-        line = re.search(rf"^fn \S*{re.escape(function)}: .*$", self.text, re.M)
-        before = self.text[: line.start()].rpartition("\nfn ")[2] if line else self.text
-        if REFUTED in before:
-            return WAYS[0]
-        errors = re.findall(rf"^\./proofs/\S*/{function.rpartition('::')[2]}/\S+: error: .*", self.text, re.M)
-        is_open = line and "expected answers" in line[0]
-        return WAYS[1] if is_open or not errors or not all(MISSING_NAME.search(it) for it in errors) else WAYS[2]
+    def refuses(self, function):
+        """Whether goals of this function are open. Where it waits for another too, a missing name may be all that shows yet."""
+        line = self.of(function)
+        return OPEN.match(line) and not ("; it calls" in line and self.way(function) == WAYS[2])
 
     def start(self):
         lines = self.text.splitlines()
@@ -108,24 +109,34 @@ class Copy:
             fitting, texts = [*fitting, body], made
         return fitting, texts
 
-    def check(self, texts):
-        """What a check says with these texts in place of the files."""
+    def is_right(self):
+        """Whether the crate is proved as it is, which a library that was built tells without a check."""
+        command = "lib" if (self.folder / "out" / "rlib").is_dir() else "check"
+        how = {"stdin": subprocess.DEVNULL, "stdout": subprocess.DEVNULL, "stderr": subprocess.DEVNULL}
+        return subprocess.run([RT, command], cwd=self.folder, **how).returncode == 0
+
+    def check(self, texts, functions=()):
+        """What a check of these functions, or of all, says with these texts in place of the files."""
         self.checks += 1
         were = {it: (self.folder / it).read_text(encoding="utf-8") for it in texts}
         for file, text in texts.items():
             (self.folder / file).write_text(text, encoding="utf-8")
         how = {"stdin": subprocess.DEVNULL, "stdout": subprocess.PIPE, "stderr": subprocess.STDOUT}
-        ran = subprocess.run([RT, "check"], cwd=self.folder, text=True, errors="replace", **how)
+        only = [word for it in functions for word in ("--only", it.removeprefix("::"))]
+        ran = subprocess.run([RT, "check", *only], cwd=self.folder, text=True, errors="replace", **how)
         for file, text in were.items():
             (self.folder / file).write_text(text, encoding="utf-8")
         return Said(ran.stdout)
 
     def alone(self, body):
         """Why a body fails; None where the prover refuses it."""
-        said = self.check(self.with_bodies([body])[1])
+        texts = self.with_bodies([body])[1]
+        said = self.check(texts, body.functions) if body.function() else self.check(texts)
+        if said.is_proved and body.function():
+            said = self.check(texts)
         if said.is_proved is None:
             return f"it could not be judged: {said.start()}"
-        self.ways[body] = said.way()
+        self.ways[body] = said.way(body.function())
         return "NOT REFUSED: the crate is still proved with it" if said.is_proved else None
 
     def together(self, bodies):
@@ -133,14 +144,13 @@ class Copy:
         bodies, texts = self.with_bodies(bodies)
         if len(bodies) == 1:
             return {bodies[0]: self.alone(bodies[0])}
-        said = self.check(texts)
+        said = self.check(texts, [it.function() for it in bodies])
         if said.is_proved is None:
             half = len(bodies) // 2
             return {**self.together(bodies[:half]), **self.together(bodies[half:])}
-        lines = {it: said.of(it.function()) for it in bodies}
-        judged = {it: None for it, line in lines.items() if OPEN.match(line)}
-        self.ways.update({it: said.way_of(it.function()) for it in judged})
-        judged.update({it: self.alone(it) for it, line in lines.items() if line.startswith("proved")})
+        judged = {it: None for it in bodies if said.refuses(it.function())}
+        self.ways.update({it: said.way(it.function()) for it in judged})
+        judged.update({it: self.alone(it) for it in bodies if said.of(it.function()).startswith("proved")})
         return judged or {bodies[0]: self.alone(bodies[0])}
 
     def judge(self, bodies):
@@ -181,7 +191,7 @@ def try_crate(crate):
         return 0, failed
     with tempfile.TemporaryDirectory(prefix="wrong-bodies-") as room:
         copy = Copy(crate, room)
-        if not copy.check({}).is_proved:
+        if not copy.is_right():
             return 0, failed + tell([f"{crate} is not proved as it is, so nothing was tried"])
         judged = copy.judge(bodies)
     refused = [body for body, why in judged.items() if not why]
