@@ -6,19 +6,24 @@ use Rattle.std.proofs.lemmas.List.{append-nil}
 use Rattle.aig_circuit.specs.Wellformed.{IsWellFormed}
 use Rattle.aig_circuit.specs.declared.circuit.Circuit.{Circuit}
 use Rattle.aig_arrays.specs.Laws.{IsToldBy}
+use Rattle.aig_arrays.specs.Ordered.{IsNumberedImage}
 use Rattle.aig_arrays.specs.Told.{told}
-use Rattle.aig_arrays.specs.Words.{circuit_bytes, circuit_words, counts_of}
+use Rattle.aig_arrays.specs.Words.{HasWords, circuit_bytes, circuit_words, counts_of}
 use Rattle.aig_arrays.specs.declared.fault.ArrayFault.{ArrayFault}
 use Rattle.aig_arrays.proofs.Grammar.Tells.{is_told}
 use Rattle.aig_arrays.proofs.Grammar.Told.{told_has_words}
 use Rattle.aig_binary.proofs.Files.{one_circuit}
+use Rattle.aig_binary.specs.BinaryText.{binary_text}
 use Rattle.aig_command.specs.Aiger.{largest_index}
 use Rattle.aig_command.specs.declared.request.ToAig.{ToAig}
-use Rattle.aig_engines.proofs.Trips.{ascii_file}
+use Rattle.aig_engines.proofs.Trips.{ascii_file, binary_file}
 use Rattle.aig_engines.proofs.TripsExist.{well_formed_file}
 use Rattle.aig_engines.specs.Conversion.{IsConversionText, IsTextAs}
 use Rattle.aig_engines.specs.File.{IsFileOf}
-use Rattle.aig_library.specs.ArrayLaws.{ReadAndWrittenIsConverted, WrittenArraysAreReadAgain}
+use Rattle.aig_image.proofs.Imaging.Ordered.{image_is_one, image_is_ordered}
+use Rattle.aig_image.specs.Image.{IsBinaryImage}
+use Rattle.aig_library.specs.ArrayLaws.{OrderedArraysAreConverted, ReadAndWrittenIsConverted}
+use Rattle.aig_library.specs.ArrayLaws.{WrittenArraysAreReadAgain}
 use Rattle.aig_library.specs.Arrays.{Arrays, IsReadAs, IsShownAs, IsTextOf, arrays, arrays_of}
 use Rattle.aig_library.specs.Asked.{conversion, has}
 use Rattle.aig_library.specs.Numbers as numbers
@@ -130,4 +135,35 @@ read_again given made text symbols names is =
         is_shown = (refl, refl);
         is_made = equal ∙ same given text is;
       },
+    )
+
+-- an image has the symbols of its circuit
+image_has_words : (c image : Circuit) (new : List ℕ) → IsNumberedImage c image new → HasWords c → HasWords image
+image_has_words c image new is has = subst (λ d. HasWords d) (sym is.is_image) has
+
+pub ordered_are_converted : OrderedArraysAreConverted
+ordered_are_converted max_var input text made read written =
+    let is : IsNumberedImage read.found read.shown read.numbers = read.is_shown in
+    let image : IsBinaryImage read.found read.shown = (is.order, is.least, is.is_image) in
+    let good = well_formed_file input max_var read.found read.read in
+    let ordered = image_is_ordered read.found read.shown good image in
+    let plain = plain_conversion false max_var in
+    let is_text : IsTextAs false false read.found text =
+    converted (conversion 0 max_var) false plain input text read.found read.read written in
+    let one = image_is_one read.found in
+    let same : is_text.0 ≡ read.shown = one.2 is_text.0 is_text.1 ∙ sym (one.2 read.shown image) in (
+      arrays_of read.shown [],
+      read.numbers,
+      record {
+        found = read.shown;
+        shown = read.shown;
+        numbers = [];
+        read = binary_file read.shown text ordered.0 ordered.1 (is_text.2 ∙ ap binary_text same);
+        has_words = image_has_words read.found read.shown read.numbers is read.has_words;
+        is_shown = (refl, refl);
+        is_made = refl;
+      },
+      read.is_made
+          ∙ ap (λ w. arrays (w ++ read.numbers) (circuit_bytes read.shown) (counts_of read.shown))
+          (sym (append-nil (circuit_words read.shown))),
     )

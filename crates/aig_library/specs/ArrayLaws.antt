@@ -1,5 +1,5 @@
 -- What the definitions say of arrays that are read and written: the one undoes the other.
-use Rattle.std.specs.Prelude.{◌≡◌, ◌<◌, ◌^◌, ◌↔◌, ℕ, List, Bool, true, if◌then◌else◌}
+use Rattle.std.specs.Prelude.{◌≡◌, ◌++◌, ◌<◌, ◌^◌, ◌↔◌, ℕ, List, Bool, true, if◌then◌else◌}
 use Rattle.aig_circuit.specs.declared.circuit.Circuit.{Circuit}
 use Rattle.aig_image.specs.Image.{IsBinaryImage}
 use Rattle.aig_arrays.specs.Told.{told}
@@ -7,7 +7,7 @@ use Rattle.aig_array_steps.specs.Step.{HasSections, TellsNumbered}
 use Rattle.aig_command.specs.Aiger.{largest_index}
 use Rattle.aig_engines.specs.Conversion.{IsConversionText, stripped}
 use Rattle.aig_engines.specs.File.{IsFileOf}
-use Rattle.aig_library.specs.Arrays.{Arrays, IsReadAs, IsTextOf}
+use Rattle.aig_library.specs.Arrays.{Arrays, IsReadAs, IsTextOf, arrays}
 use Rattle.aig_library.specs.Asked.{conversion}
 use Rattle.aig_library.specs.Numbers as numbers
 
@@ -26,6 +26,15 @@ ReadAndWrittenIsConverted =
     (is_ascii : Bool) (max_var : ℕ) (input text : List ℕ) (made : Arrays) → IsReadAs 0 max_var input made
     → IsTextOf is_ascii (told made.counts made.words made.bytes) text
     ↔ IsConversionText (conversion (if is_ascii then numbers.ascii else 0) max_var) input text
+
+-- Arrays that are read in order are those that are read again of what the conversion to binary writes of the file, with
+-- the new numbers behind the words.
+abbrev pub OrderedArraysAreConverted : Type 0
+OrderedArraysAreConverted =
+    (max_var : ℕ) (input text : List ℕ) (made : Arrays) → IsReadAs numbers.ordered max_var input made
+    → IsConversionText (conversion 0 max_var) input text
+    → (again : Arrays) × (new : List ℕ) × IsReadAs 0 largest_index text again
+    × (made ≡ arrays (again.words ++ new) again.bytes again.counts)
 
 -- Arrays that are read in order can be stepped: the words are those of the binary image, which is in order.
 abbrev pub OrderedArraysCanBeStepped : Type 0

@@ -1,6 +1,6 @@
 -- What the calls answer that read a circuit into arrays, write the circuit of arrays, and step it (this project's
 -- interface for C).
-use Rattle.std.specs.Prelude.{◌≡◌, ◌<◌, ◌≤◌, ◌⊎◌, ◌++◌, ℕ, List, [], Bool, true, false, Result, Ok, Err, drop, length}
+use Rattle.std.specs.Prelude.{◌≡◌, ◌≤◌, ◌⊎◌, ◌++◌, ℕ, List, [], Bool, true, false, Result, Ok, Err, drop, length}
 use Rattle.aig_circuit.specs.declared.circuit.Circuit.{Circuit}
 use Rattle.aig_rows.specs.declared.fault.Place.TheVariants.{Whole}
 use Rattle.aig_rows.specs.declared.fault.ReadKind.TheVariants.{TooLarge}

@@ -1,5 +1,6 @@
 //! What the numbers of outcomes say, and arrays that are read and written. Each law is a function
 //! that does nothing.
+ghost use Rattle.aig_library.specs.ArrayLaws.{OrderedArraysAreConverted};
 ghost use Rattle.aig_library.specs.ArrayLaws.{OrderedArraysCanBeStepped};
 ghost use Rattle.aig_library.specs.ArrayLaws.{ReadAndWrittenIsConverted};
 ghost use Rattle.aig_library.specs.ArrayLaws.{WrittenArraysAreReadAgain};
@@ -24,6 +25,11 @@ pub fn written_arrays_are_read_again()
 /// What is written of the arrays of a file is exactly what `convert` writes of that file.
 pub fn read_and_written_is_converted()
     ensures { ReadAndWrittenIsConverted }
+{}
+
+/// Arrays that are read in order are those of the image that `convert` writes.
+pub fn ordered_arrays_are_converted()
+    ensures { OrderedArraysAreConverted }
 {}
 
 /// Arrays that are read in order can be stepped.
