@@ -1,6 +1,7 @@
 -- Symbols, sections and the whole circuit: what is left tells what all of it tells.
 use Rattle.std.proofs.Common.{◌≡◌, ◌<◌, ◌≤◌, ◌∷◌, ◌∙◌, ◌+◌, ◌-◌, ◌⊎◌, ℕ, suc, true, false, List, [], length, drop}
-use Rattle.std.proofs.Common.{get_or, drop-cons, slice_range, None, Some, Result, Ok, Err, refl, ap, sym, arith, inl, inr}
+use Rattle.std.proofs.Common.{get_or, drop-cons, slice_range, None, Some, Result, Ok, Err, refl, ap, sym, arith, inl}
+use Rattle.std.proofs.Common.{inr}
 use Rattle.aig_circuit.specs.declared.circuit.Circuit.{Circuit}
 use Rattle.aig_circuit.specs.declared.circuit.Symbol.{Symbol}
 use Rattle.aig_core.specs.Fault.{IsFault, first_structural_fault}
@@ -39,7 +40,8 @@ module _ (h : Header) (names : List ℕ) (before : Names) (start at : ℕ) (ws :
   unfolding checked_symbol
   symbol_none none =
       ap (λ (us : List ℕ). next_symbol h names before start (ahead at us)) (split_four ws some)
-      ∙ wrong_first 4 tell at row (slice_range ws 4 (length ws)) kinds.BadSymbol refl (ap (checked_symbol h before) none)
+      ∙ wrong_first 4 tell at row (slice_range ws 4 (length ws)) kinds.BadSymbol refl
+      (ap (checked_symbol h before) none)
 
   pub symbol_wrong : (s : Symbol) (kind : ReadKind) → symbol_told names start row ≡ Some s
       → Some kind ≡ fault_in_symbol h before s
@@ -80,7 +82,8 @@ module _ (h : Header) (names : List ℕ) (before : Names) (start left : ℕ) (a 
       let one : suc next_left ≡ left = omega arith in
       ap (λ (b : Names). symbols_told h names b end next_left after d) named
       ∙ ap (λ (e : Circuit). symbols_told h names (with_name before s.kind s.position) end next_left after e) added
-      ∙ ap (λ (k : ℕ). symbols_told h names (with_name before s.kind s.position) k next_left after (with_symbol c s)) ends
+      ∙ ap (λ (k : ℕ). symbols_told h names (with_name before s.kind s.position) k next_left after (with_symbol c s))
+      ends
       ∙ sym (one_symbol next_left s after is)
       ∙ ap (λ (k : ℕ). symbols_told h names before start k a c) one ∙ tells
 

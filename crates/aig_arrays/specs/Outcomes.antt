@@ -16,7 +16,8 @@ GivesOrMemory view (Ok x) told = told ≡ Ok (view x)
 GivesOrMemory view (Err e) told = (e ≡ want_of_memory) ⊎ (told ≡ Err e)
 
 -- what the next row means, and what is ahead behind it
-abbrev pub entry_meant : {A : Type 0} → (List ℕ → A) → Result (List ℕ × Ahead) ArrayFault → Result (A × Ahead) ArrayFault
+abbrev pub entry_meant : {A : Type 0} → (List ℕ → A) → Result (List ℕ × Ahead) ArrayFault
+    → Result (A × Ahead) ArrayFault
 entry_meant tell (Ok x) = Ok (tell x.0, x.1)
 entry_meant tell (Err e) = Err e
 

@@ -1,8 +1,8 @@
 -- What words and bytes tell: the circuit that has them, or their first fault (this project's interface for C). Counts
 -- that do not fit come first, then the first entry that is not right, with the kinds of an ASCII file, and then the
 -- first structural fault of the circuit.
-use Rattle.std.specs.Prelude.{◌≡◌, ◌⊎◌, ◌+◌, ◌*◌, ◌==◌, ◌&&◌, ◌||◌, not, ℕ, zero, suc, List, [], ◌∷◌, length, take, drop}
-use Rattle.std.specs.Prelude.{Bool, nat_le, nat_lt, Option, None, Some, Result, Ok, Err, slice_index, slice_range}
+use Rattle.std.specs.Prelude.{◌≡◌, ◌⊎◌, ◌+◌, ◌*◌, ◌==◌, ◌&&◌, ◌||◌, not, ℕ, zero, suc, List, [], ◌∷◌, length, take}
+use Rattle.std.specs.Prelude.{drop, Bool, nat_le, nat_lt, Option, None, Some, Result, Ok, Err, slice_index, slice_range}
 use Rattle.std.specs.Prelude.{if◌then◌else◌}
 use Rattle.std.specs.List.{list_all, list_any, sum}
 use Rattle.std.specs.Option.{option_map}
@@ -53,7 +53,8 @@ words_told count tell a =
 
 -- the next row of a form
 abbrev pub row_told : Form → (bound carried : ℕ) → Ahead → Result (List ℕ × Ahead) ArrayFault
-row_told form bound carried a = words_told (width form) (λ row. unless_wrong row (fault_in_row form bound carried row)) a
+row_told form bound carried a =
+    words_told (width form) (λ row. unless_wrong row (fault_in_row form bound carried row)) a
 
 -- so many rows of a form, with what is carried from each to the next
 unfoldable pub rows_told : Form → (bound carried count : ℕ) → Ahead → Result (List (List ℕ) × Ahead) ArrayFault

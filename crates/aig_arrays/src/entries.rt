@@ -1,5 +1,6 @@
 //! Entries of a circuit, each of so many words.
-ghost use Rattle.std.specs.Prelude.{◌≡◌, ◌+◌, ◌*◌, ◌<◌, ◌≤◌, ◌^◌, List, ℕ, [], ◌∷◌, nat_lt, slice_index};
+ghost use Rattle.std.specs.Prelude.{◌≡◌, ◌+◌, ◌*◌, ◌<◌, ◌≤◌, ◌^◌};
+ghost use Rattle.std.specs.Prelude.{List, ℕ, [], ◌∷◌, nat_lt, slice_index};
 ghost use Rattle.aig_arrays.specs.Outcomes.{entry_meant};
 ghost use Rattle.aig_arrays.specs.Told.{row_told};
 ghost use Rattle.aig_circuit.specs.Wellformed.{largest_index};

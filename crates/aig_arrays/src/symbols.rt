@@ -1,5 +1,6 @@
 //! The symbols of arrays: four words each, with names that stand end to end.
-ghost use Rattle.std.specs.Prelude.{◌≡◌, ◌+◌, ◌<◌, ◌≤◌, [], ◌∷◌, IfOk, IfErr, IfSome, None, OnOk, length, not};
+ghost use Rattle.std.specs.Prelude.{◌≡◌, ◌+◌, ◌<◌, ◌≤◌, [], ◌∷◌};
+ghost use Rattle.std.specs.Prelude.{IfOk, IfErr, IfSome, None, OnOk, length, not};
 ghost use Rattle.std.specs.List.{list_any};
 ghost use Rattle.aig_arrays.specs.Outcomes.{GivesOrMemory, want_of_memory};
 ghost use Rattle.aig_arrays.specs.Told.{header_of, kind_told, next_symbol};

@@ -71,14 +71,16 @@ module _ {A : Type 0} (count : ℕ) (tell : List ℕ → Result A ReadKind) (at 
       → words_told count tell (ahead at (first ++ rest)) ≡ Ok (x, ahead (at + count) rest)
   tells_first x long h =
       there long
-      ∙ ap (λ (r : Result A ReadKind). ◌>>=◌ {B = A × Ahead} (at_word at r) (λ found. Ok (found, ahead (at + count) rest)))
+      ∙ ap (λ (r : Result A ReadKind).
+      ◌>>=◌ {B = A × Ahead} (at_word at r) (λ found. Ok (found, ahead (at + count) rest)))
       h
 
   pub wrong_first : (kind : ReadKind) → length first ≡ count → tell first ≡ Err kind
       → words_told count tell (ahead at (first ++ rest)) ≡ Err (BadEntry at kind)
   wrong_first kind long h =
       there long
-      ∙ ap (λ (r : Result A ReadKind). ◌>>=◌ {B = A × Ahead} (at_word at r) (λ found. Ok (found, ahead (at + count) rest)))
+      ∙ ap (λ (r : Result A ReadKind).
+      ◌>>=◌ {B = A × Ahead} (at_word at r) (λ found. Ok (found, ahead (at + count) rest)))
       h
 
 -- one row

@@ -1,8 +1,8 @@
 -- Symbols that words tell, and the other way round.
 use Rattle.std.proofs.Common.{◌≡◌, ◌≤◌, ◌<◌, ◌∷◌, ◌++◌, ◌∙◌, ◌+◌, ◌-◌, ◌&&◌, ◌==◌, ℕ, zero, suc, true, false}
 use Rattle.std.proofs.Common.{List, [], length, take, drop, Bool, cond, not, Option, None, Some, Result, Ok, refl, ap}
-use Rattle.std.proofs.Common.{sym, arith, inl, inr, rules, subst, append_assoc, append-nil, flat_map, slice_range, nat_le}
-use Rattle.std.proofs.Common.{eqb-true, eq-eqb, leb-true, le-leb}
+use Rattle.std.proofs.Common.{sym, arith, inl, inr, rules, subst, append_assoc, append-nil, flat_map, slice_range}
+use Rattle.std.proofs.Common.{nat_le, eqb-true, eq-eqb, leb-true, le-leb}
 use Rattle.std.specs.List.{AllByRecursion, list_any}
 use Rattle.std.specs.Option.{option_map}
 use Rattle.std.proofs.Math.Seq.{take-append_seam, drop-append_seam}
@@ -60,7 +60,8 @@ none_passed : {A : Type 0} (b : Bool) (o : Option A) (x : A) → cond b o None �
 none_passed true o x h = (refl, h)
 none_passed false o x h = cc
 
-mapped : {A B : Type 0} (f : A → B) (o : Option A) (y : B) → option_map f o ≡ Some y → (x : A) × (o ≡ Some x) × (f x ≡ y)
+mapped : {A B : Type 0} (f : A → B) (o : Option A) (y : B) → option_map f o ≡ Some y
+    → (x : A) × (o ≡ Some x) × (f x ≡ y)
 mapped f None y h = cc
 mapped f (Some x) y h = (x, refl, cc)
 

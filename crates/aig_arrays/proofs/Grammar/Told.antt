@@ -145,7 +145,8 @@ module _ (n : Counts) (words bytes : List ℕ) (c : Circuit) (t : TellEntries n 
   -- the circuit is that of the sections, with the symbols and the comment
   pub made : with_tail t.numbered t.symbols.symbols (comment_in n (drop n.name_bytes bytes)) ≡ c
   made =
-      ap (λ (ss : List Symbol). with_tail t.numbered (ss ++ t.symbols.symbols) (comment_in n (drop n.name_bytes bytes))) (sym no_symbols)
+      ap (λ (ss : List Symbol). with_tail t.numbered (ss ++ t.symbols.symbols) (comment_in n (drop n.name_bytes bytes)))
+      (sym no_symbols)
       ∙ ap (λ (d : Circuit). with_comment_told n bytes d) t.symbols.circuit ∙ t.circuit
 
   pub counted : HasCounts h c
@@ -223,7 +224,8 @@ module _ (n : Counts) (words bytes : List ℕ) (c : Circuit) (t : TellEntries n 
   entries_good : HasEntriesInRange c
   entries_good =
       subst HasEntriesInRange made
-      (subst (λ (d : Circuit). HasEntriesInRange (with_tail d t.symbols.symbols (comment_in n (drop n.name_bytes bytes))))
+      (subst (λ (d : Circuit).
+      HasEntriesInRange (with_tail d t.symbols.symbols (comment_in n (drop n.name_bytes bytes))))
       t.sections.circuit (tail_in_range _ _ _ (entries_in_range h t.numbered t.sections.fit)))
 
   -- it is in form

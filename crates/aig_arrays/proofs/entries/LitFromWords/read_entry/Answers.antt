@@ -6,8 +6,8 @@ use Rattle.aig_arrays.proofs.entries.LitFromWords.read_entry.Goals as goal
 pub returns-in-Some : goal.returns-in-Some
 returns-in-Some c =
     rw (← c.from.view_is)
-    (one_wrong literal_in literal_form c.args.bound c.args._carried c.from.inside.at c.from.inside.rest.now c.in-Some.kind
-    c.in-len1-up.len_at_least refl (c.in-Some.ensures c.args._carried))
+    (one_wrong literal_in literal_form c.args.bound c.args._carried c.from.inside.at c.from.inside.rest.now
+    c.in-Some.kind c.in-len1-up.len_at_least refl (c.in-Some.ensures c.args._carried))
 
 pub returns : goal.returns
 returns c =
