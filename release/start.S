@@ -8,7 +8,7 @@
 
         .data
 asked:  .ascii  "GLIBC_TUNABLES=glibc.malloc.hugetlb=1:glibc.malloc.mmap_threshold=33554432"
-        .asciz  ":glibc.malloc.trim_threshold=1073741824:glibc.malloc.top_pad=67108864"
+        .asciz  ":glibc.malloc.trim_threshold=1073741824:glibc.malloc.top_pad=4194304"
         .set    name_length, 15                 # with the =
         .balign 8
 ignored:

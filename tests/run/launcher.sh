@@ -534,7 +534,7 @@ asked() { ( export GLIBC_TUNABLES=glibc.malloc.check=0 && "$@" ); }
 printf '#!/bin/sh\nprintf "%%s\\n" "$GLIBC_TUNABLES"\n' > "$work/program"
 chmod +x "$work/program"
 edit
-heap=glibc.malloc.mmap_threshold=33554432:glibc.malloc.trim_threshold=1073741824:glibc.malloc.top_pad=67108864
+heap=glibc.malloc.mmap_threshold=33554432:glibc.malloc.trim_threshold=1073741824:glibc.malloc.top_pad=4194304
 wants "glibc.malloc.hugetlb=1:$heap\n" "$proves" 0
 check 'large pages are asked for' unasked launch
 wants 'glibc.malloc.check=0\n' '' 0
