@@ -77,7 +77,7 @@ class Change:
 
 
 class WrongBody:
-    """The changes of a file NAME.edit, and the functions that they are in; None among these is another place."""
+    """The changes of a file NAME.edit, their lines, and the functions that they are in; None is another place."""
 
     def __init__(self, crate, path):
         self.label = f"{crate}/{path.stem}"
@@ -97,6 +97,7 @@ class WrongBody:
                 old = None
         if not self.changes:
             raise Unfit("it has no pair of lines 'old:' and 'new:'")
+        self.lines = set()
         self.functions = {it for it in self.changed(crate) if it != "use"}
 
     def changed(self, crate):
@@ -107,6 +108,7 @@ class WrongBody:
                 raise Unfit(f"there is no {change.file} below src/")
             text = texts.get(change.file) or path.read_text(encoding="utf-8")
             middle = change.place(text) + len(change.old) // 2
+            self.lines.add((change.file, text.count("\n", 0, middle) + 1))
             inside = [it for it in functions_of(text) if it.start <= middle <= it.end]
             yield inside[-1].path(crate, change.file) if inside else "use" if change.old.startswith("use ") else None
             texts[change.file] = change.made(text)

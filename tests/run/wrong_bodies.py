@@ -12,8 +12,9 @@ functions are put in together, these functions alone are checked, and each body 
 One whose function only waits for another that is not proved is tried again when that one is right again. One that
 seems to be proved is tried again alone, over the whole crate.
 
-Three ways of refusing are told apart: the prover refutes a goal, with values at which it is false; it finds no proof; or all
-that fails is an answer that names what the wrong body took away, which says little of the contract, so these are listed.
+Three ways of refusing are told apart: the prover refutes a goal, with values at which it is false; it finds no proof;
+or all that fails is an answer that names what the wrong body took away, which says little of the contract, so these are
+listed.
 
 Each public function that has a body wants a wrong one, here or in must-fail/, but for those of the file WITHOUT.
 
@@ -43,13 +44,14 @@ WAYS = ("refuted", "without a proof", "for want of a name")
 
 
 class Said:
-    """What a check said: whether all is proved, None where there is no verdict, and of each function."""
+    """What a check said: whether all is proved, or None with no verdict; of each function; which lines have errors."""
 
     def __init__(self, text):
         self.text = text = re.sub(r"^so far: .*\n", "", text, flags=re.M)
         verdict = re.findall(r"^logic=(proved|not-proved)|^only=(\d+) proved=(\d+)", text, re.M)
         self.is_proved = verdict[-1][0] == "proved" or verdict[-1][1] == verdict[-1][2] != "" if verdict else None
         self.functions = dict(re.findall(r"^fn (\S+): (.*)$", text, re.M))
+        self.faults = {(file, int(line)) for file, line in re.findall(r"^(src/\S+?):(\d+):\d+: error", text, re.M)}
 
     def of(self, function):
         """Of the function whose name ends so; "proved" where that is not one function, so that it is tried alone."""
@@ -68,10 +70,11 @@ class Said:
         if REFUTED in notes:
             return WAYS[0]
         errors = re.findall(rf"^\./proofs/(?:\S*/)?{folder}\S+: error: .*", self.text, re.M)
-        return WAYS[2] if errors and all(MISSING_NAME.search(it) for it in errors) and OPEN_GOAL not in notes else WAYS[1]
+        lacks_names = errors and all(MISSING_NAME.search(it) for it in errors) and OPEN_GOAL not in notes
+        return WAYS[2] if lacks_names else WAYS[1]
 
     def refuses(self, function):
-        """Whether goals of this function are open. Where it waits for another too, a missing name may be all that shows yet."""
+        """Whether goals of it are open. Where it waits for others too, a missing name may be all that shows yet."""
         line = self.of(function)
         return OPEN.match(line) and not ("; it calls" in line and self.way(function) == WAYS[2])
 
@@ -146,8 +149,9 @@ class Copy:
             return {bodies[0]: self.alone(bodies[0])}
         said = self.check(texts, [it.function() for it in bodies])
         if said.is_proved is None:
-            half = len(bodies) // 2
-            return {**self.together(bodies[:half]), **self.together(bodies[half:])}
+            bad = [it for it in bodies if it.lines & said.faults]
+            bad = bad if 0 < len(bad) < len(bodies) else bodies[: len(bodies) // 2]
+            return {**self.together(bad), **self.together([it for it in bodies if it not in bad])}
         judged = {it: None for it in bodies if said.refuses(it.function())}
         self.ways.update({it: said.way(it.function()) for it in judged})
         judged.update({it: self.alone(it) for it in bodies if said.of(it.function()).startswith("proved")})
@@ -196,7 +200,8 @@ def try_crate(crate):
         judged = copy.judge(bodies)
     refused = [body for body, why in judged.items() if not why]
     counts = ", ".join(f"{sum(copy.ways[it] == way for it in refused)} {way}" for way in WAYS)
-    print(f"{crate}: {len(refused)} of {len(bodies)} wrong bodies are refused ({counts}), after {copy.checks} checks", flush=True)
+    told = f"{len(refused)} of {len(bodies)} wrong bodies are refused ({counts})"
+    print(f"{crate}: {told}, after {copy.checks} checks", flush=True)
     for body in refused:
         if copy.ways[body] == WAYS[2]:
             print(f"    {body.label}: {WAYS[2]}")
