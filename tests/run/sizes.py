@@ -27,7 +27,7 @@ from lib import answers, counts, waves
 from lib.large import claim, conjunctions, dump, inputs, trace, wide, write
 
 # bytes: a large file, and what a run may take; seconds that a run may take
-MANY, MEMORY, PATIENCE = 70_000_000, 1_500_000_000, 100
+MANY, MEMORY, PATIENCE = 70_000_000, 1_500_000_000, 300
 # lines of each section; gates of a chain; runs
 LINES, GATES, RUNS = 500_000, 4_000_000, 20_000
 # latches and inputs to simulate; inputs of a long stimulus; frames, and gates in each
