@@ -216,7 +216,10 @@ def _load() -> ctypes.CDLL:
         ("aigtools_message", (outcome, *room), size),
         ("aigtools_version", (), number),
     ):
-        function = getattr(library, name)
+        try:
+            function = getattr(library, name)
+        except AttributeError as why:
+            raise ImportError(f"{_NAME} has no {name}: it is older than this module") from why
         function.argtypes, function.restype = arguments, result
     return library
 
