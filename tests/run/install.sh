@@ -116,6 +116,8 @@ check 'the module in a clone' same "$module_says" in_clone
 check 'it leaves no library behind' same '' left_behind
 check 'a library that is named and not there' fails 1 "ImportError: $work/none" env LIBAIGTOOLS="$work/none" \
     PYTHONPATH="$tree/python" python3 -Bc "$module"
+check 'a library without its calls' fails 1 'has no aigtools_convert: it is older than this module' \
+    env LIBAIGTOOLS=libc.so.6 PYTHONPATH="$tree/python" python3 -Bc "$module"
 
 # a released file that is broken or missing
 mv "$tree/release/libaigtools.so.1.gz" "$work/kept.gz"
