@@ -1,16 +1,12 @@
 //! The words of a circuit, cut into its sections.
-ghost use Rattle.std.specs.Prelude.{◌≡◌, ◌≤◌, length, nat_le, None};
-ghost use Rattle.std.specs.List.{list_all};
+ghost use Rattle.std.specs.Prelude.{◌≡◌, ◌≤◌, length, None};
 ghost use Rattle.std.specs.Option.{IfSome};
-ghost use Rattle.aig_arrays.specs.Told.{are_in_range as range_test};
-ghost use Rattle.aig_arrays.specs.Words.{section_length as words_of_sections};
-ghost use Rattle.aig_circuit.specs.Wellformed.{largest_index};
+ghost use Rattle.aig_arrays.specs.Words.{section_length};
 ghost use Rattle.aig_array_steps.specs.Step.{HasSections};
-ghost use Rattle.aig_array_steps.specs.Parts.Words.{AreFew, AreSections, counted, shown_count};
+ghost use Rattle.aig_array_steps.specs.Parts.Words.{AreFew, AreSections, shown_count};
 ghost use Rattle.aig_array_steps.specs.Parts.Words.{unshown_count};
 
 use aig_arrays::Counts;
-use aig_circuit::LARGEST;
 use std::marker::Model;
 
 /// The words of each section, where those of one kind that follow one another are one.
@@ -45,34 +41,6 @@ impl<'a> Model for Sections<'a> {
     } };
 }
 
-/// Whether no count of entries is above the largest index, nor that itself.
-fn are_low(counts: &Counts) -> bool
-    ensures { result ≡ list_all (λ count. nat_le count largest_index) (counted counts.now) }
-{
-    [
-        counts.max_var,
-        counts.inputs,
-        counts.latches,
-        counts.outputs,
-        counts.bad,
-        counts.constraints,
-        counts.justice,
-        counts.justice_literals,
-        counts.fairness,
-        counts.gates,
-    ]
-    .iter()
-    .all(|count| *count <= LARGEST)
-}
-
-fn are_in_range(counts: &Counts) -> bool
-    ensures { result ≡ range_test counts.now }
-{
-    are_low(counts)
-        && counts.has_comment <= 1
-        && (counts.has_comment >= 1 || counts.comment_bytes == 0)
-}
-
 /// How many words the literals of outputs, bad states and constraints are.
 pub(crate) fn shown_length(counts: &Counts) -> usize
     ensures { result ≡ shown_count counts.now }
@@ -86,19 +54,8 @@ fn unshown_length(counts: &Counts) -> usize
     counts.justice_literals as usize + counts.fairness as usize
 }
 
-fn section_length(counts: &Counts) -> usize
-    ensures { result ≡ words_of_sections counts.now }
-{
-    counts.inputs as usize
-        + 3 * counts.latches as usize
-        + shown_length(counts)
-        + counts.justice as usize
-        + unshown_length(counts)
-        + 3 * counts.gates as usize
-}
-
 fn cut<'a>(counts: &Counts, words: &'a [u32]) -> Sections<'a>
-    requires { words_of_sections counts.now ≤ length words.now }
+    requires { section_length counts.now ≤ length words.now }
     ensures sections { AreSections counts.now words.now result }
     ensures few { AreFew result }
 {
@@ -125,7 +82,7 @@ pub(crate) fn sections_of<'a>(counts: &Counts, words: &'a [u32]) -> Option<Secti
     ensures fit { IfSome result (λ _. HasSections counts.now words.now) }
     ensures none { result ≡ None → ¬ HasSections counts.now words.now }
 {
-    if are_in_range(counts) && section_length(counts) <= words.len() {
+    if counts.is_in_range() && counts.section_words() <= words.len() as u64 {
         Some(cut(counts, words))
     } else {
         None

@@ -1,8 +1,10 @@
 //! How many of each kind a circuit has, as its header in an AIGER file has it, and how many words
 //! and bytes hold it.
-ghost use Rattle.std.specs.Prelude.{◌≡◌, ◌^◌, ◌<◌, ◌≤◌, None};
-ghost use Rattle.std.specs.Option.{IfSome};
-ghost use Rattle.aig_arrays.specs.Words.{bytes_length, section_length, words_length};
+ghost use Rattle.std.specs.Prelude.{◌≡◌, ◌^◌, ◌<◌};
+ghost use Rattle.aig_arrays.specs.Told.{are_in_range};
+ghost use Rattle.aig_arrays.specs.Words.{section_length, words_length};
+
+use aig_core::LARGEST;
 
 /// What a circuit has, counted. C has the same struct.
 #[repr(C)]
@@ -63,11 +65,21 @@ impl Counts {
         self.section_words() + 4 * u64::from(self.symbols)
     }
 
-    /// How many bytes hold the names and the comment, `None` where there are more than can be.
-    pub fn bytes(&self) -> Option<u64>
-        ensures some { IfSome result (λ n. n ≡ bytes_length self.now) }
-        ensures none { result ≡ None → 2 ^ 64 ≤ bytes_length self.now }
+    /// Whether none is above the largest index, and only a comment has bytes of a comment.
+    pub fn is_in_range(&self) -> bool
+        ensures { result ≡ are_in_range self.now }
     {
-        self.name_bytes.checked_add(self.comment_bytes)
+        self.max_var <= LARGEST
+            && self.inputs <= LARGEST
+            && self.latches <= LARGEST
+            && self.outputs <= LARGEST
+            && self.bad <= LARGEST
+            && self.constraints <= LARGEST
+            && self.justice <= LARGEST
+            && self.justice_literals <= LARGEST
+            && self.fairness <= LARGEST
+            && self.gates <= LARGEST
+            && self.has_comment <= 1
+            && (self.has_comment == 1 || self.comment_bytes == 0)
     }
 }

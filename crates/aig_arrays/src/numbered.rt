@@ -46,7 +46,11 @@ fn by_numbers(renumbering: Renumbering, checked: Checked, numbers: &mut [u32]) -
     renumbering.image(checked.into_circuit())
 }
 
-fn renumbered(alloc: Global, checked: Checked, numbers: &mut [u32]) -> Result<Ordered, OutOfMemory>
+fn with_new_numbers(
+    alloc: Global,
+    checked: Checked,
+    numbers: &mut [u32],
+) -> Result<Ordered, OutOfMemory>
     requires { length (defined_variables checked) ≤ length numbers.old }
     ensures ok { IfOk result (λ image. IsNumberedImageIn checked image numbers.old numbers.new) }
     ensures err { OnErr result (numbers.new ≡ numbers.old) }
@@ -97,6 +101,6 @@ pub fn numbered_image(
     if is_numbered_in_order(&checked) {
         with_first_numbers(alloc, checked, numbers)
     } else {
-        renumbered(alloc, checked, numbers)
+        with_new_numbers(alloc, checked, numbers)
     }
 }

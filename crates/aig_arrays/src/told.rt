@@ -3,7 +3,7 @@ ghost use Rattle.std.specs.Prelude.{◌≡◌, ◌+◌, ◌*◌, ◌≤◌, ◌=
 ghost use Rattle.std.specs.Prelude.{length};
 ghost use Rattle.aig_circuit.specs.declared.circuit.Circuit.{Circuit as CircuitRecord};
 ghost use Rattle.aig_arrays.specs.Outcomes.{GivesOrMemory, want_of_memory};
-ghost use Rattle.aig_arrays.specs.Told.{IsFirstFault, are_in_range, counts_fit, entries_told, told};
+ghost use Rattle.aig_arrays.specs.Told.{IsFirstFault, counts_fit, entries_told, told};
 ghost use Rattle.aig_arrays.specs.Told.{comment_in, with_entries};
 ghost use Rattle.aig_circuit.specs.Wellformed.{largest_index};
 ghost use Rattle.std.specs.List.{sum};
@@ -14,7 +14,7 @@ use crate::entries::WordCursor;
 use crate::fault::ArrayFault;
 use crate::sections::read_sections;
 use crate::symbols::read_symbols;
-use aig_core::{CheckFault, Checked, Circuit, Keep, LARGEST, Listing, Steps, check_keeping};
+use aig_core::{CheckFault, Checked, Circuit, Keep, Listing, Steps, check_keeping};
 use aig_text::empty_circuit;
 use std::alloc::{AllocError, AllocFailed, Global};
 
@@ -32,24 +32,6 @@ impl<T: Drop> From<AllocFailed<T>> for ArrayFault {
     fn from(_refused: AllocFailed<T>) -> ArrayFault {
         ArrayFault::Structure(CheckFault::OutOfMemory)
     }
-}
-
-/// None is above the largest index, and only a comment has bytes of a comment.
-fn are_in_range(n: &Counts) -> bool
-    ensures { result ≡ are_in_range n.now }
-{
-    n.max_var <= LARGEST
-        && n.inputs <= LARGEST
-        && n.latches <= LARGEST
-        && n.outputs <= LARGEST
-        && n.bad <= LARGEST
-        && n.constraints <= LARGEST
-        && n.justice <= LARGEST
-        && n.justice_literals <= LARGEST
-        && n.fairness <= LARGEST
-        && n.gates <= LARGEST
-        && n.has_comment <= 1
-        && (n.has_comment == 1 || n.comment_bytes == 0)
 }
 
 /// How many words stand before the sizes of the justice properties.
@@ -90,7 +72,7 @@ fn add_up(numbers: &[u32], wanted: u32) -> bool
 fn counts_fit(n: &Counts, words: &[u32], bytes: &[u8]) -> bool
     ensures { result ≡ counts_fit n.now words.now bytes.now }
 {
-    if !are_in_range(n) || !bytes_fit(n, bytes) {
+    if !n.is_in_range() || !bytes_fit(n, bytes) {
         return false;
     }
     if n.words() != words.len() as u64 {

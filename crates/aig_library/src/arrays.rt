@@ -27,7 +27,7 @@ use aig_text::{Limits, Place, ReadFault, ReadKind, write_ascii};
 use std::alloc::Global;
 
 /// What is kept of the check of a circuit: the order of its gates, where its image is made.
-fn kept(is_imaged: bool) -> Keep {
+fn what_to_keep(is_imaged: bool) -> Keep {
     if is_imaged {
         Keep::Order
     } else {
@@ -45,7 +45,7 @@ fn circuit_read(
     ensures ok { IfOk result (λ found. IsFileOf input.now max_var found) }
     ensures err { IfErr result (λ fault. IsUnreadable max_var fault input.now) }
 {
-    let keep = kept(has(options, ORDERED));
+    let keep = what_to_keep(has(options, ORDERED));
     Ok(read_file_keeping(alloc, input, Limits { max_var }, keep)?)
 }
 
@@ -267,7 +267,7 @@ pub fn write(
         return ending(BAD_OPTIONS, 0, 0);
     }
     let is_ascii = has(options, ASCII);
-    match read_arrays(alloc, counts, words, bytes, kept(!is_ascii)) {
+    match read_arrays(alloc, counts, words, bytes, what_to_keep(!is_ascii)) {
         Ok(circuit) => answer(text_of(alloc, is_ascii, circuit), output),
         Err(fault) => array_outcome(&fault),
     }

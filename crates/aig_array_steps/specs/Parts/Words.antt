@@ -21,12 +21,6 @@ pub record SectionWords : Type 0 where
   pub unshown : List ℕ
   pub gates : List ℕ
 
--- the largest variable and the counts of entries
-abbrev pub counted : Counts → List ℕ
-counted n =
-    n.max_var ∷ n.inputs ∷ n.latches ∷ n.outputs ∷ n.bad ∷ n.constraints ∷ n.justice ∷ n.justice_literals ∷ n.fairness
-    ∷ n.gates ∷ []
-
 -- how many literals of outputs, bad states and constraints there are, and of justice properties and fairness
 abbrev pub shown_count : Counts → ℕ
 shown_count n = n.outputs + n.bad + n.constraints
