@@ -1,7 +1,7 @@
 -- Texts that are put, and go out through a block, one after another. A writer of several texts joins their contracts
 -- by these.
 use Rattle.std.proofs.Common.{◌≡◌, ◌+◌, ◌-◌, ◌%◌, ◌<◌, ◌≤◌, ◌++◌, ◌∙◌, ℕ, List, [], arith, length, min, take, rules}
-use Rattle.std.proofs.Common.{refl, sym, ap, append_assoc, Bool, true, false, drop, get_or, take-add, ap₂, subst}
+use Rattle.std.proofs.Common.{refl, sym, ap, append_assoc, Bool, true, false, drop, get_or, take-add, ap₂, subst, length-append}
 use Rattle.std.specs.List.{flat_map}
 use Rattle.std.proofs.lemmas.Grind.{common_steps}
 use Rattle.std.proofs.lemmas.List.{append-nil, take_min, take-append-le, take-append-drop}
@@ -16,6 +16,21 @@ use Rattle.aig_io.proofs.Took.{took_twice}
 pub left_behind : (held count n left : ℕ) → held ≤ ROOM → count ≡ min (ROOM - held) n → count < n
     → left ≡ (n - count - 1) % ROOM + 1 → left ≡ (held + n - 1) % ROOM + 1
 left_behind held count n left short filled more is = omega arith
+
+-- a text was put behind what is held, where a block has room for both
+pub left_within : (held filled text : List ℕ) → filled ≡ held ++ text → 0 < length text → length filled ≤ ROOM
+    → length filled ≡ (length held + length text - 1) % ROOM + 1
+left_within held filled text e some within = grind (arith, common_steps)
+
+-- a text has more bytes with another behind it
+pub some_first : (t u : List ℕ) → 0 < length t → 0 < length (t ++ u)
+some_first t u some = omega (arith, length-append t u)
+
+-- a text was put, and then another
+pub left_twice : (h0 h1 h2 t u : List ℕ) → 0 < length t → 0 < length u
+    → length h1 ≡ (length h0 + length t - 1) % ROOM + 1 → length h2 ≡ (length h1 + length u - 1) % ROOM + 1
+    → length h2 ≡ (length h0 + length (t ++ u) - 1) % ROOM + 1
+left_twice h0 h1 h2 t u some more p q = rw length-append (omega arith)
 
 -- all of a text is taken where an empty block has room for it
 pub all_filled : (block text rest filled : List ℕ) (count : ℕ) → filled ≡ block ++ take count text
@@ -77,6 +92,11 @@ kept a h xs = record {
 text_of_more : {X : Type 0} (f : X → List ℕ) (xs : List X) (i : ℕ) (d : X) → i < length xs
     → flat_map f (take i xs) ++ f (get_or xs i d) ≡ flat_map f (take (i + 1) xs)
 text_of_more f xs i d low = grind (arith, common_steps)
+
+-- a line of numbers with one more
+pub row_of_more : (front : List ℕ) (f : ℕ → List ℕ) (xs : List ℕ) (i : ℕ) → i < length xs
+    → (front ++ flat_map f (take i xs)) ++ f (get_or xs i 0) ≡ front ++ flat_map f (take (i + 1) xs)
+row_of_more front f xs i low = append_assoc front _ _ ∙ ap (λ (text : List ℕ). front ++ text) (text_of_more f xs i 0 low)
 
 module _ {W : Type 0} where
   begun_twice : (a b c : Out W) (t u : List ℕ) (failed : Bool) → b.failed ≡ failed → Put a b t → Put b c u

@@ -83,7 +83,8 @@ impl Block {
     #[inline]
     pub(crate) fn fill_number(&mut self, number: u64)
         requires { length self.old + MOST_DIGITS ≤ ROOM }
-        ensures { self.new ≡ self.old ++ decimal number }
+        ensures value { self.new ≡ self.old ++ decimal number }
+        ensures short { length self.new ≤ ROOM }
     {
         self.len = write_number(&mut self.bytes, self.len, number);
     }
@@ -92,7 +93,8 @@ impl Block {
     #[inline(always)]
     pub(crate) fn fill_row(&mut self, first: u64, others: &[u64])
         requires { length self.old + (length others.now + 1) * (MOST_DIGITS + 1) ≤ ROOM }
-        ensures { self.new ≡ self.old ++ row_text first others.now }
+        ensures value { self.new ≡ self.old ++ row_text first others.now }
+        ensures short { length self.new ≤ ROOM }
     {
         self.len = write_row(&mut self.bytes, self.len, first, others);
     }
@@ -103,6 +105,7 @@ impl Block {
         requires whole { L.is_whole line.now state.old }
         requires room { length self.old + L.size line.now state.old ≤ ROOM }
         ensures added { self.new ≡ self.old ++ L.text line.now state.old }
+        ensures short { length self.new ≤ ROOM }
         ensures state { L.leads line.now state.old state.new }
     {
         self.len = line.write(state, &mut self.bytes, self.len);

@@ -1,6 +1,6 @@
 //! Output in blocks.
 ghost use Rattle.std.specs.Prelude.{◌≡◌, ◌+◌, ◌-◌, ◌*◌, ◌%◌, ◌<◌, ◌≤◌, [], ◌++◌};
-ghost use Rattle.std.specs.Prelude.{length, take, false, decimal};
+ghost use Rattle.std.specs.Prelude.{length, take, false, decimal, codes};
 ghost use Rattle.std.specs.Prelude.{is_err};
 ghost use Rattle.aig_io.specs.Devices.{CanFail};
 ghost use Rattle.aig_io.specs.Output.{output_to, Put, row_text};
@@ -9,7 +9,7 @@ ghost use Rattle.aig_io.specs.declared.digits.TheConstants.{MOST_DIGITS};
 
 use crate::block::{Block, ROOM};
 use crate::device::{DeviceFault, Sink};
-use crate::digits::MOST_DIGITS;
+use crate::digits::{MOST_DIGITS, write_number};
 use crate::line::Line;
 use crate::transfer::send_all;
 use std::marker::Model;
@@ -104,21 +104,6 @@ impl<'a, W: Sink> Output<'a, W> {
         sink
     }
 
-    /// Sends what is held where fewer bytes than these fit, and nothing where they fit.
-    #[inline(always)]
-    fn make_room(&mut self, room: usize)
-        requires { room ≤ ROOM }
-        ensures put { Put self.old self.new [] }
-        ensures short { length self.old.held ≤ ROOM }
-        ensures room { length self.new.held + room ≤ ROOM }
-        ensures kept { length self.old.held + room ≤ ROOM → self.new ≡ self.old }
-        ensures emptied { ROOM < length self.old.held + room → self.new.held ≡ [] }
-    {
-        if !self.block.has_room(room) {
-            self.send_held();
-        }
-    }
-
     /// Sends a text from where it stands, unless the sink failed before. Nothing is held.
     fn send_straight(&mut self, bytes: &[u8])
         requires empty { self.old.held ≡ [] }
@@ -189,28 +174,61 @@ impl<'a, W: Sink> Output<'a, W> {
         }
     }
 
-    /// Adds a number in decimal. What is held is sent first where the longest one would not fit.
+    /// Adds a number in decimal.
     pub fn put_number(&mut self, number: u64)
         ensures put { Put self.old self.new (decimal number) }
         ensures kept { length self.old.held + MOST_DIGITS ≤ ROOM → self.new.sink ≡ self.old.sink }
-        ensures left { ROOM < length self.old.held + MOST_DIGITS → self.new.held ≡ decimal number }
+        ensures left { length self.new.held
+            ≡ (length self.old.held + length (decimal number) - 1) % ROOM + 1 }
     {
-        self.make_room(MOST_DIGITS);
-        self.block.fill_number(number);
+        if self.block.has_room(MOST_DIGITS) {
+            self.block.fill_number(number);
+        } else {
+            let mut room = [0; MOST_DIGITS];
+            let end = write_number(&mut room, 0, number);
+            self.put(&room[..end]);
+        }
     }
 
-    /// Adds a line of few numbers. What is held is sent first where the longest would not all fit.
+    /// Adds a space and a number.
+    fn put_spaced_number(&mut self, number: u64)
+        ensures put { Put self.old self.new (codes " " ++ decimal number) }
+        ensures left { length self.new.held
+            ≡ (length self.old.held + length (codes " " ++ decimal number) - 1) % ROOM + 1 }
+    {
+        self.put(b" ");
+        self.put_number(number);
+    }
+
+    /// Adds a line of numbers, where the block may have no room for the longest.
+    #[inline(never)]
+    fn put_row_past(&mut self, first: u64, others: &[u64])
+        ensures put { Put self.old self.new (row_text first others.now) }
+        ensures left { length self.new.held
+            ≡ (length self.old.held + length (row_text first others.now) - 1) % ROOM + 1 }
+    {
+        self.put_number(first);
+        for number in others {
+            self.put_spaced_number(*number);
+        }
+        self.put(b"\n");
+    }
+
+    /// Adds a line of few numbers.
     #[inline(always)]
     pub fn put_row(&mut self, first: u64, others: &[u64])
         requires { (length others.now + 1) * (MOST_DIGITS + 1) ≤ ROOM }
         ensures put { Put self.old self.new (row_text first others.now) }
         ensures kept { length self.old.held + (length others.now + 1) * (MOST_DIGITS + 1) ≤ ROOM
             → self.new ≡ record self.old { held = self.old.held ++ row_text first others.now } }
-        ensures left { ROOM < length self.old.held + (length others.now + 1) * (MOST_DIGITS + 1)
-            → self.new.held ≡ row_text first others.now }
+        ensures left { length self.new.held
+            ≡ (length self.old.held + length (row_text first others.now) - 1) % ROOM + 1 }
     {
-        self.make_room((others.len() + 1) * (MOST_DIGITS + 1));
-        self.block.fill_row(first, others);
+        if self.block.has_room((others.len() + 1) * (MOST_DIGITS + 1)) {
+            self.block.fill_row(first, others);
+        } else {
+            self.put_row_past(first, others);
+        }
     }
 
     /// Adds a line, which is written here first.
@@ -219,6 +237,8 @@ impl<'a, W: Sink> Output<'a, W> {
         requires whole { L.is_whole line.now state.old }
         requires room { L.size line.now state.old ≤ length room.old }
         ensures put { Put self.old self.new (L.text line.now state.old) }
+        ensures left { 0 < length (L.text line.now state.old) → length self.new.held
+            ≡ (length self.old.held + length (L.text line.now state.old) - 1) % ROOM + 1 }
         ensures state { L.leads line.now state.old state.new }
     {
         let end = line.write(state, room, 0);
@@ -233,13 +253,14 @@ impl<'a, W: Sink> Output<'a, W> {
         requires whole { L.is_whole line.now state.old }
         requires room { L.size line.now state.old ≤ length room.old }
         ensures put { Put self.old self.new (L.text line.now state.old) }
+        ensures left { 0 < length (L.text line.now state.old) → length self.new.held
+            ≡ (length self.old.held + length (L.text line.now state.old) - 1) % ROOM + 1 }
         ensures state { L.leads line.now state.old state.new }
     {
-        if room.len() > ROOM {
+        if self.block.has_room(room.len()) {
+            self.block.fill_line(line, state);
+        } else {
             self.put_long_line(room, line, state);
-            return;
         }
-        self.make_room(room.len());
-        self.block.fill_line(line, state);
     }
 }

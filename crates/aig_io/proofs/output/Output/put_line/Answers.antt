@@ -1,5 +1,6 @@
-use Rattle.aig_io.proofs.Puts.{put_filled}
+use Rattle.aig_io.proofs.Puts.{left_within}
 use Rattle.aig_io.proofs.output.Output.put_line.Goals as goal
 
-pub returns-clause-put : goal.returns-clause-put
-returns-clause-put g c = put_filled _ _ _ _ _ c.self.view_is c.make_room.ensures.put c.fill_line.ensures.added
+pub returns-then-has_room-clause-left : goal.returns-then-has_room-clause-left
+returns-then-has_room-clause-left g c = λ some.
+    rw (← c.self.view_is) (left_within _ _ _ c.fill_line.ensures.added some c.fill_line.ensures.short)

@@ -1,5 +1,9 @@
-use Rattle.aig_io.proofs.Puts.{put_filled}
+use Rattle.std.proofs.lemmas.Fmt.{decimal_nonempty}
+use Rattle.aig_io.proofs.Puts.{left_within, some_first}
 use Rattle.aig_io.proofs.output.Output.put_row.Goals as goal
 
-pub returns-clause-put : goal.returns-clause-put
-returns-clause-put g c = put_filled _ _ _ _ _ c.self.view_is c.make_room.ensures.put c.fill_row.ensures
+pub returns-then-has_room-clause-left : goal.returns-then-has_room-clause-left
+returns-then-has_room-clause-left g c =
+    rw (← c.self.view_is)
+    (left_within _ _ _ c.fill_row.ensures.value
+    (some_first _ _ (decimal_nonempty c.args.first c.ranges.first.fits)) c.fill_row.ensures.short)
