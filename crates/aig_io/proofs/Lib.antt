@@ -1,5 +1,6 @@
 pub mod Took
 pub mod Runs
 pub mod DigitCounts
+pub mod FourDigits
 pub mod LeadingDigits
 pub mod Puts

@@ -63,30 +63,29 @@ fn decimal_len(number: u64) -> usize
     }
 }
 
-/// Two numbers below 10^4, one in each half of a word, as four below 100, one in each quarter.
-#[inline(always)]
-fn quarters(halves: u64) -> u64
-    ensures { (a b : ℕ) → a < 10 ^ 4 → b < 10 ^ 4 → halves ≡ a + 2 ^ 32 * b
-        → result ≡ number_l (2 ^ 16) (a / 100 ∷ a % 100 ∷ b / 100 ∷ b % 100 ∷ []) }
-{
-    // 10_486 / 2^20 is a little above a hundredth
-    let hundreds = (halves.wrapping_mul(10_486) >> 20) & 0x0000_007f_0000_007f;
-    // the hundreds, and above them what is left: halves - 100 * hundreds
-    (halves << 16).wrapping_sub(hundreds.wrapping_mul((100 << 16) - 1))
+/// The words of all lists of four digits that begin with one of these, in order.
+macro_rules! words_of_four {
+    ($([$first:tt $second:tt $third:tt $fourth:tt])*) => {
+        [$($first + 0x100 * $second + 0x1_0000 * $third + 0x100_0000 * $fourth),*]
+    };
+    ($([$($digit:tt)*])*) => {
+        words_of_four!($(
+            [$($digit)* 0] [$($digit)* 1] [$($digit)* 2] [$($digit)* 3] [$($digit)* 4]
+            [$($digit)* 5] [$($digit)* 6] [$($digit)* 7] [$($digit)* 8] [$($digit)* 9]
+        )*)
+    };
 }
 
-/// Four numbers below 100, one in each quarter of a word, as eight digits, one in each byte.
+/// The four digits of each number below 10^4, one in each byte of a word, the first in the lowest.
+static FOUR_DIGITS: [u32; 10_000] = words_of_four!([]);
+
+/// The four digits of a number below 10^4.
 #[inline(always)]
-fn eighths(quarters: u64) -> u64
-    ensures { (a b c d : ℕ) → a < 100 → b < 100 → c < 100 → d < 100
-        → quarters ≡ number_l (2 ^ 16) (a ∷ b ∷ c ∷ d ∷ [])
-        → result ≡ number_l 256
-        (a / 10 ∷ a % 10 ∷ b / 10 ∷ b % 10 ∷ c / 10 ∷ c % 10 ∷ d / 10 ∷ d % 10 ∷ []) }
+fn four_digits(number: u32) -> u32
+    requires { number < 10 ^ 4 }
+    ensures { result ≡ number_l 256 (last_digits 4 number) }
 {
-    // 103 / 2^10 is a little above a tenth
-    let tens = (quarters.wrapping_mul(103) >> 10) & 0x000f_000f_000f_000f;
-    // the tens, and above them what is left: quarters - 10 * tens
-    (quarters << 8).wrapping_sub(tens.wrapping_mul((10 << 8) - 1))
+    FOUR_DIGITS[number as usize]
 }
 
 /// The eight digits of a number below 10^8, one in each byte of a word, the first in the lowest.
@@ -95,7 +94,8 @@ fn eight_digits(number: u32) -> u64
     requires { number < 10 ^ 8 }
     ensures { result ≡ number_l 256 (last_digits 8 number) }
 {
-    eighths(quarters(u64::from(number / 10_000) + (u64::from(number % 10_000) << 32)))
+    let (first, last) = (four_digits(number / 10_000), four_digits(number % 10_000));
+    u64::from(first) + (u64::from(last) << 32)
 }
 
 /// How many zeros stand before a number in its eight digits.
