@@ -1,3 +1,4 @@
 -- What tables of variables hold.
 pub mod Maps
 pub mod Ranks
+pub mod Slots

@@ -14,9 +14,9 @@ use std::alloc::{AllocError, Global};
 use std::marker::Model;
 
 mod bits;
-mod bucket;
 mod places;
 mod ranks;
+mod slot;
 mod spread;
 mod table;
 

@@ -1,27 +1,24 @@
 -- Finite maps of indices, by what a function gives to each, and what is read as one.
-use Rattle.std.proofs.Common.{◌≡◌, ◌<◌, ◌≤◌, ◌^◌, ◌∙◌, ◌*◌, ◌/◌, ◌%◌, ◌≢◌, ◌==◌, ◌+◌, ◌∷◌, ◌++◌, ◌||◌, ℕ, Bool, true}
+use Rattle.std.proofs.Common.{◌≡◌, ◌<◌, ◌≤◌, ◌^◌, ◌∙◌, ◌*◌, ◌/◌, ◌%◌, ◌||◌, ℕ, Bool, true}
 use Rattle.std.proofs.Common.{false, zero, suc, cond, eqb, Option, None, Some, refl, sym, ap, ⊎_elim, arith, ap₂, List}
-use Rattle.std.proofs.Common.{length, get_or, take, [], drop, true≢false, is_some, nat_cmp, w64, BTreeMap, replicate}
-use Rattle.std.proofs.Common.{get_or-set_same, get_or-set_other, length-set}
+use Rattle.std.proofs.Common.{length, get_or, is_some, nat_cmp, w64}
+use Rattle.std.proofs.Common.{get_or-set_same, get_or-set_other}
 use Rattle.std.specs.Option.{option_or}
-use Rattle.std.specs.Cmp.{unsigned_tied, eq_by_cmp_equiv}
+use Rattle.std.specs.Cmp.{unsigned_tied}
 use Rattle.std.specs.FinMap.{FinMap, get, insert, find, empty, get-from_entries, get-insert, get-empty, same_map}
 use Rattle.std.specs.FinMap.{nat_cmp-IsAntisymmetric, contains_key, contains_key-keys}
 use Rattle.std.specs.FinMap as map
 use Rattle.std.specs.FinSet as set
 use Rattle.std.specs.FinSet.{contains-from_list, contains-insert, contains-empty, same_set}
 use Rattle.std.specs.Int.Bits.{bit_or}
-use Rattle.std.specs.BTreeMap.{get as tree_get, Updates}
-use Rattle.std.specs.List.{position_or_len}
 use Rattle.std.proofs.lemmas.Bool.{cases_lt}
 use Rattle.std.proofs.lemmas.Cmp.{nat_cmp_total}
 use Rattle.std.proofs.lemmas.Grind.{common_steps}
 use Rattle.std.proofs.Math.ListN.{set as put}
-use Rattle.std.proofs.lemmas.List.{get_or_default, drop_more}
+use Rattle.std.proofs.lemmas.List.{get_or_default}
 use Rattle.std.proofs.lemmas.Nat.Bits.{bit_at_set_same, bit_at_set_other}
 use Rattle.aig_tables.specs.VarMap.{with_new, keys_of}
-use Rattle.aig_tables.specs.Parts.Places.{entries_below, map_of, kept_at, mark_of, bucket_of, spread_at, IsSpread}
-use Rattle.aig_tables.specs.declared.var_map.bucket.TheConstants.{ROOM}
+use Rattle.aig_tables.specs.Parts.Places.{entries_below, map_of, kept_at, mark_of}
 
 -- a function that has a value at one more index, unless it had one there
 abbrev pub HasNew : {T : Type 0} → (ℕ → Option T) → (ℕ → Option T) → ℕ → T → Type 0
@@ -137,84 +134,3 @@ more_marks words k word below is i =
     let here = get_or-set_same words (k / 64) (with_bit word (k % 64)) 0 below in
     let elsewhere = get_or-set_other words (k / 64) (i / 64) (with_bit word (k % 64)) 0 in
     grind (arith, common_steps, was, set, kept, one, here, elsewhere)
-
--- Buckets and trees, read as what they have of indices.
-
--- the first place of an index, told from one entry further to the front
-module _ {T : Type 0} (es : List (ℕ × T)) (q i : ℕ) (e : ℕ × T) (below : i < length es) (is : e ≡ get_or es i e) where
-  more : drop i es ≡ e ∷ drop (i + 1) es
-  more = drop_more es i e below ∙ ap (λ x. x ∷ drop (i + 1) es) (sym is)
-
-  pub first_here : e.0 ≡ q → i ≡ i + position_or_len (λ (e : ℕ × T). e.0 == q) (drop i es)
-  first_here here = grind (arith, common_steps, more)
-
-  pub first_later : e.0 ≢ q → (i + 1) + position_or_len (λ (e : ℕ × T). e.0 == q) (drop (i + 1) es)
-      ≡ i + position_or_len (λ (e : ℕ × T). e.0 == q) (drop i es)
-  first_later other = grind (arith, common_steps, more)
-
--- what the first entry with an index has is found, if it is one of so many
-pub found_first : {T : Type 0} (es : List (ℕ × T)) (n q : ℕ) (d : ℕ × T)
-    → position_or_len (λ (e : ℕ × T). e.0 == q) es < n → n ≤ length es
-    → find nat_cmp q (take n es) ≡ Some (get_or es (position_or_len (λ (e : ℕ × T). e.0 == q) es) d).1
-found_first [] n q d below few = absurd (omega (arith, below, few))
-found_first (x ∷ es) zero q d below few = absurd (omega (arith, below))
-found_first (x ∷ es) (suc n) q d below few = grind (arith, common_steps, found_first es n q d, unsigned_tied q x.0)
-
--- and nothing is, if none of so many has it
-pub found_nowhere : {T : Type 0} (es : List (ℕ × T)) (n q : ℕ) → n ≤ position_or_len (λ (e : ℕ × T). e.0 == q) es
-    → find nat_cmp q (take n es) ≡ None
-found_nowhere [] zero q past = refl
-found_nowhere [] (suc n) q past = refl
-found_nowhere (x ∷ es) zero q past = refl
-found_nowhere (x ∷ es) (suc n) q past = grind (arith, common_steps, found_nowhere es n q, unsigned_tied q x.0)
-
--- what is found in a list with one more entry at its end
-find_push : {T : Type 0} (es : List (ℕ × T)) (k q : ℕ) (v : T)
-    → find nat_cmp q (es ++ (k, v) ∷ []) ≡ option_or (find nat_cmp q es) (cond (eqb q k) (Some v) None)
-find_push [] k q v = ap (λ b. cond b (Some v) None) (unsigned_tied q k)
-find_push (e ∷ es) k q v = grind (arith, common_steps, find_push es k q v)
-
-pub none_of : {T : Type 0} (o : Option T) → is_some o ≡ false → o ≡ None
-none_of None e = refl
-none_of (Some x) e = absurd (true≢false e)
-
--- one more entry in the bucket of its index, as the code finds it, or in the tree
-module _ {T : Type 0} (buckets : List (List (ℕ × T))) (others : BTreeMap ℕ T) (k : ℕ) (v : T) (at n : ℕ)
-    (b : List (ℕ × T)) (many : n ≡ length buckets) (below : at < n) (is : b ≡ get_or buckets at b) where
-  module _ (more : List (ℕ × T)) (more_is : more ≡ b ++ (k, v) ∷ []) where
-    pub more_in_bucket : at ≡ bucket_of n k → spread_at buckets others k ≡ None
-        → HasNew (spread_at buckets others) (spread_at (put buckets at more) others) k v
-    more_in_bucket at_is none q = grind (arith, common_steps, find_push)
-
-    pub still_spread : IsSpread buckets others → IsSpread (put buckets at more) others
-    still_spread before = record {
-      some = rw (length-set buckets at more) before.some;
-      few = rw (length-set buckets at more) before.few;
-      full = λ q has.
-          let was = before.full q has in
-          grind (arith, common_steps, was);
-    }
-
-  module _ (tree : BTreeMap ℕ T) (more : Updates nat_cmp others tree k (Some v)) where
-    has : (q : ℕ) → tree_get nat_cmp tree q ≡ cond (eqb q k) (Some v) (tree_get nat_cmp others q)
-    has q =
-        let tied = (eq_by_cmp_equiv nat_cmp_total).symm k q ∙ unsigned_tied q k in
-        more.0 q ∙ ap (λ b. cond b (Some v) (tree_get nat_cmp others q)) tied
-
-    pub more_in_tree : spread_at buckets others k ≡ None
-        → HasNew (spread_at buckets others) (spread_at buckets tree) k v
-    more_in_tree none q = grind (arith, common_steps, has)
-
-    pub spread_in_tree : at ≡ bucket_of n k → ROOM ≤ length b → IsSpread buckets others → IsSpread buckets tree
-    spread_in_tree at_is full before = record {
-      some = before.some;
-      few = before.few;
-      full = λ q there.
-          let was = before.full q in
-          grind (arith, common_steps, has, was);
-    }
-
--- nothing is found in empty buckets and an empty tree
-pub none_spread : {T : Type 0} (n : ℕ) (buckets : List (List (ℕ × T))) (others : BTreeMap ℕ T)
-    → buckets ≡ replicate n [] → others.entries ≡ [] → (q : ℕ) → spread_at buckets others q ≡ None
-none_spread n buckets others same none q = grind (arith, common_steps)

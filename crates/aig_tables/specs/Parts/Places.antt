@@ -1,12 +1,14 @@
--- Where the values of variables are kept: in places by their indices, in buckets, and in trees.
-use Rattle.std.specs.Prelude.{ℕ, zero, suc, ◌≡◌, ◌==◌, ◌*◌, ◌-◌, ◌/◌, ◌%◌, ◌^◌, ◌<◌, ◌≤◌, List, [], ◌∷◌, true}
-use Rattle.std.specs.Prelude.{Bool, Option, None, Some, length, slice_index_or, nat_lt, if◌then◌else◌}
-use Rattle.std.specs.Option.{is_some, option_or}
+-- Where the values of variables are kept: in places by their indices, in slots near one that an index chooses, and in
+-- trees.
+use Rattle.std.specs.Prelude.{ℕ, zero, suc, ◌≡◌, ◌==◌, ◌+◌, ◌*◌, ◌-◌, ◌/◌, ◌%◌, ◌^◌, ◌<◌, ◌&&◌, ◌||◌, List, [], ◌∷◌}
+use Rattle.std.specs.Prelude.{Bool, Option, None, Some, All, length, take, drop, slice_index_or, nat_lt}
+use Rattle.std.specs.Prelude.{if◌then◌else◌}
+use Rattle.std.specs.Option.{option_or}
 use Rattle.std.specs.Ordering.{nat_cmp}
 use Rattle.std.specs.BTreeMap.{BTreeMap, get}
 use Rattle.std.specs.FinMap as map
-use Rattle.aig_tables.specs.declared.var_map.bucket.TheConstants.{ROOM}
-use Rattle.aig_tables.specs.declared.var_map.spread.TheConstants.{MULTIPLIER}
+use Rattle.aig_tables.specs.declared.var_map.slot.Slot.{Slot}
+use Rattle.aig_tables.specs.declared.var_map.spread.TheConstants.{MULTIPLIER, WINDOW}
 use Rattle.aig_tables.specs.declared.var_map.ranks.Word.{Word}
 use Rattle.aig_tables.specs.Parts.Marks.{is_marked}
 use Rattle.aig_tables.specs.Parts.Ranks.{is_announced, rank_of}
@@ -33,23 +35,43 @@ abbrev pub number_of : List Word → List ℕ → ℕ → Option ℕ
 number_of words places index =
     if has_place words places index then number_at_place (slice_index_or places (place_of words index) 0) else None
 
--- which of so many buckets an index belongs to: multiples of this odd number spread over all of them
-abbrev pub bucket_of : ℕ → ℕ → ℕ
-bucket_of count index = index * MULTIPLIER % 2 ^ 32 * count / 2 ^ 32
+-- where the window of an index starts, of so many slots: multiples of this odd number spread over all of them
+abbrev pub start_of : ℕ → ℕ → ℕ
+start_of starts index = index * MULTIPLIER % 2 ^ 32 * starts / 2 ^ 32
 
--- the bucket that an index belongs to
-abbrev pub bucket_at : {T : Type 0} → List (List (ℕ × T)) → ℕ → List (ℕ × T)
-bucket_at buckets index = slice_index_or buckets (bucket_of (length buckets) index) []
+-- the slots in which an index may stand
+abbrev pub window_of : {T : Type 0} → ℕ → List (Slot T) → ℕ → List (Slot T)
+window_of starts slots index =
+    if nat_lt 0 index && nat_lt index (2 ^ 31) then take WINDOW (drop (start_of starts index) slots) else []
 
--- what an index's bucket has for it, or the tree
-abbrev pub spread_at : {T : Type 0} → List (List (ℕ × T)) → BTreeMap ℕ T → ℕ → Option T
-spread_at buckets others index = option_or (map.find nat_cmp index (bucket_at buckets index)) (get nat_cmp others index)
+-- whether a slot has the index or is empty
+abbrev pub ends_search : {T : Type 0} → ℕ → Slot T → Bool
+ends_search index slot = slot.index == index || slot.index == 0
 
--- there are buckets, and the tree has only indices whose bucket is full
-pub record IsSpread {T : Type 0} (buckets : List (List (ℕ × T))) (others : BTreeMap ℕ T) : Type 0 where
-  pub some : 0 < length buckets
-  pub few : length buckets < 2 ^ 32
-  pub full : (index : ℕ) → is_some (get nat_cmp others index) ≡ true → ROOM ≤ length (bucket_at buckets index)
+-- what the first slot with an index has
+abbrev pub stored : {T : Type 0} → ℕ → List (Slot T) → Option T
+stored index [] = None
+stored index (slot ∷ slots) = if slot.index == index then Some slot.value else stored index slots
+
+-- what is seen of an index up to the first empty slot, or else what the tree has
+abbrev pub seen : {T : Type 0} → ℕ → List (Slot T) → Option T → Option T
+seen index [] other = other
+seen index (slot ∷ slots) other =
+    if slot.index == index then Some slot.value else if slot.index == 0 then None else seen index slots other
+
+-- what a slot has for an index, or the tree
+abbrev pub spread_at : {T : Type 0} → ℕ → List (Slot T) → BTreeMap ℕ T → ℕ → Option T
+spread_at starts slots others index =
+    option_or (stored index (window_of starts slots index)) (get nat_cmp others index)
+
+-- there are slots for each window, and none of its index is behind an empty one
+pub record IsSpread {T : Type 0} (starts : ℕ) (slots : List (Slot T)) (others : BTreeMap ℕ T) : Type 0 where
+  pub some : 0 < starts
+  pub few : starts < 2 ^ 32
+  pub room : length slots ≡ starts + WINDOW
+  pub small : All (λ slot. slot.index < 2 ^ 31) slots
+  pub in_sight : (index : ℕ) → spread_at starts slots others index
+      ≡ seen index (window_of starts slots index) (get nat_cmp others index)
 
 -- what the place of an index holds where it has one, and else what the others have
 abbrev pub kept_at : {T : Type 0} → (ℕ → Bool) → (ℕ → Option T) → map.FinMap nat_cmp T → ℕ → Option T

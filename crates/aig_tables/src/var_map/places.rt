@@ -4,7 +4,7 @@ ghost use Rattle.std.specs.Prelude.{None, Some, not, is_some, IfOk};
 ghost use Rattle.std.specs.Prelude.{if◌then◌else◌};
 ghost use Rattle.std.specs.Option.{option_or};
 ghost use Rattle.std.specs.Mem.{FitsInMemory};
-ghost use Rattle.aig_tables.specs.contracts.var_map.bucket.Bucket.{the_row as bucket_row};
+ghost use Rattle.aig_tables.specs.contracts.var_map.slot.Slot.{the_row as slot_row};
 
 use aig_circuit::Circuit;
 use std::alloc::{AllocError, Global};
@@ -58,6 +58,6 @@ pub trait MapValue: Copy + Default {
     /// How many places there are at most for each variable that is expected.
     const PLACES_PER_VARIABLE: usize;
 
-    /// A bucket of values is not too large to be in memory.
-    ghost is_small: { FitsInMemory (bucket_row Self.row) };
+    /// A slot with a value is not too large to be in memory.
+    ghost is_small: { FitsInMemory (slot_row Self.row) };
 }

@@ -1,33 +1,42 @@
 //! Maps from variables of large indices.
-ghost use Rattle.std.specs.Prelude.{◌≡◌, ◌^◌, ◌<◌, ◌≤◌, ℕ, List, [], length};
-ghost use Rattle.std.specs.Prelude.{IfOk, OnOk, OnErr, not, false};
+ghost use Rattle.std.specs.Prelude.{◌≡◌, ◌≢◌, ◌==◌, ◌+◌, ◌^◌, ◌<◌, ◌≤◌, ℕ, List, None};
+ghost use Rattle.std.specs.Prelude.{Some, length};
+ghost use Rattle.std.specs.Prelude.{IfOk, OnOk, OnErr, not, is_some, false, if◌then◌else◌};
 ghost use Rattle.std.proofs.Math.ListN.{replicate};
+ghost use Rattle.std.specs.Option.{option_or};
 ghost use Rattle.std.specs.Ordering.{nat_cmp};
+ghost use Rattle.std.specs.BTreeMap.{get as tree_get, IsUnchanged};
 ghost use Rattle.std.specs.FinMap as map;
 ghost use Rattle.std.specs.Coded.{coded_ℕ};
 ghost use Rattle.aig_tables.specs.VarMap.{with_new};
-ghost use Rattle.aig_tables.specs.Parts.Places.{bucket_of, map_of, spread_at, IsSpread};
+ghost use Rattle.aig_tables.specs.Parts.Places.{start_of, window_of, map_of, spread_at, IsSpread};
 
-use crate::var_map::bucket::Bucket;
 use crate::var_map::places::MapValue;
-use aig_circuit::Var;
+use crate::var_map::slot::{Slot, first_end};
+use aig_circuit::{LARGEST, Var};
 use std::alloc::{AllocError, Global};
 use std::collections::BTreeMap;
 use std::marker::Model;
 
-/// How many variables there are in a bucket on average.
-const VARIABLES_PER_BUCKET: usize = 4;
+/// So half of the slots are empty, and most variables stand in their first slot or near it.
+const SLOTS_PER_VARIABLE: usize = 2;
 
-const MOST_BUCKETS: usize = u32::MAX as usize;
+const MOST_STARTS: usize = u32::MAX as usize;
+
+/// In how many slots an index may stand.
+const WINDOW: usize = 16;
 
 /// An odd number whose multiples spread over the numbers of 32 bits.
 const MULTIPLIER: u32 = 2_654_435_769;
 
-/// Values of variables in buckets by a fixed multiplier, and in a tree where a bucket has no room.
-/// So indices that are chosen against the multiplier take the time of the tree.
+/// Values of variables in slots, each in the first that was empty from a start on that a fixed
+/// multiplier gives, and in a tree where none of its window was. So indices that are chosen against
+/// the multiplier take the time of the tree.
 #[derive(Drop)]
 pub(super) struct Spread<T: MapValue> {
-    buckets: Vec<Bucket<T>>,
+    /// In how many slots a window starts.
+    starts: usize,
+    slots: Vec<Slot<T>>,
     others: BTreeMap<Var, T>,
 }
 
@@ -36,30 +45,73 @@ impl<T: MapValue> Model for Spread<T> {
 
     ghost coded = { map.code coded_ℕ T.code };
 
-    ghost view = { λ a. map_of (spread_at a.buckets.items a.others) };
+    ghost view = { λ a. map_of (spread_at a.starts a.slots.items a.others) };
 
-    ghost invariant = { λ a. IsSpread a.buckets.items a.others };
+    ghost invariant = { λ a. IsSpread a.starts a.slots.items a.others };
 }
 
-fn bucket_of(count: usize, index: u32) -> usize
-    requires some { 0 < count }
-    requires few { count < 2 ^ 32 }
-    ensures value { result ≡ bucket_of count index }
-    ensures below { result < count }
+#[inline(always)]
+fn start_of(starts: usize, index: u32) -> usize
+    requires some { 0 < starts }
+    requires few { starts < 2 ^ 32 }
+    ensures value { result ≡ start_of starts index }
+    ensures below { result < starts }
 {
     let hash = u64::from(index.wrapping_mul(MULTIPLIER));
-    (hash * count as u64 >> 32) as usize
+    (hash * starts as u64 >> 32) as usize
 }
 
-fn empty_buckets<T: MapValue>(alloc: Global, count: usize) -> Result<Vec<Bucket<T>>, AllocError>
-    ensures { IfOk result (λ buckets. buckets.items ≡ replicate count []) }
+/// The slots in which an index may stand. Index 0, by which a slot is empty, has none, nor has one
+/// past the largest.
+#[inline(always)]
+fn window_of<T: Copy>(slots: &[Slot<T>], starts: usize, index: u32) -> &[Slot<T>]
+    requires some { 0 < starts }
+    requires few { starts < 2 ^ 32 }
+    requires room { length slots.now ≡ starts + WINDOW }
+    ensures { result.now ≡ window_of starts slots.now index }
 {
-    let any = T::default();
-    let mut buckets = Vec::with_capacity(alloc, count)?;
-    for _ in 0..count {
-        buckets.push(Bucket::new(any))?;
+    if index > 0 && index <= LARGEST {
+        let start = start_of(starts, index);
+        &slots[start..start + WINDOW]
+    } else {
+        &[]
     }
-    Ok(buckets)
+}
+
+/// Gives a variable its value in a tree, unless it has one there, and answers whether it had none.
+fn insert_new<T: Copy + Drop>(
+    tree: &mut BTreeMap<Var, T>,
+    var: Var,
+    value: T,
+) -> Result<bool, AllocError>
+    ensures added { IfOk result (λ added.
+        added ≡ not (is_some (tree_get nat_cmp tree.old var))) }
+    ensures ok { OnOk result ((i : ℕ) → tree_get nat_cmp tree.new i
+        ≡ option_or (tree_get nat_cmp tree.old i) (if i == var then Some value else None)) }
+    ensures err { OnErr result (IsUnchanged tree.old tree.new) }
+    ensures others { (i : ℕ) → i ≢ var → tree_get nat_cmp tree.new i ≡ tree_get nat_cmp tree.old i }
+{
+    if tree.contains_key(&var) {
+        return Ok(false);
+    }
+    tree.insert(var, value)?;
+    Ok(true)
+}
+
+/// So many empty slots. Their values are never read.
+fn empty_slots<T: MapValue>(alloc: Global, count: usize, any: T) -> Result<Vec<Slot<T>>, AllocError>
+    ensures { IfOk result (λ slots.
+        slots.items ≡ replicate count (record { index = 0; value = any })) }
+{
+    let empty = Slot {
+        index: 0,
+        value: any,
+    };
+    let mut slots = Vec::with_capacity(alloc, count)?;
+    for _ in 0..count {
+        slots.push(empty)?;
+    }
+    Ok(slots)
 }
 
 impl<T: MapValue> Spread<T> {
@@ -67,36 +119,40 @@ impl<T: MapValue> Spread<T> {
     pub(super) fn new(alloc: Global, expected: usize) -> Result<Self, AllocError>
         ensures { IfOk result (λ values. values ≡ map.empty) }
     {
-        let count = (expected / VARIABLES_PER_BUCKET + 1).min(MOST_BUCKETS);
+        let starts = expected
+            .saturating_mul(SLOTS_PER_VARIABLE)
+            .clamp(1, MOST_STARTS);
+        let any = T::default();
         Ok(Spread {
-            buckets: empty_buckets(alloc, count)?,
+            starts,
+            slots: empty_slots(alloc, starts + WINDOW, any)?,
             others: BTreeMap::new(alloc),
         })
     }
 
-    #[tactic(auto, using(crate::proofs::Tables::Maps::map_has))]
     #[inline(never)]
     pub(super) fn get(&self, var: Var) -> Option<T>
         ensures { result ≡ map.get self.now var }
     {
-        let bucket = &self.buckets[bucket_of(self.buckets.len(), var.0)];
-        let found = bucket.get(var.0);
-        if found.is_some() {
-            return found;
+        let window = window_of(&self.slots, self.starts, var.0);
+        let place = first_end(window, var.0);
+        if place == window.len() {
+            return self.others.get(&var).copied();
         }
-        if bucket.is_full() {
-            self.others.get(&var).copied()
+        let slot = window[place];
+        if slot.index == var.0 {
+            Some(slot.value)
         } else {
             None
         }
     }
 
-    /// Whether the bucket of a variable is overfull, which none is.
+    /// Whether the slot of a variable is overfull, which none is.
     #[inline(always)]
     pub(super) fn is_overfull(&self, var: Var) -> bool
         ensures { result ≡ false }
     {
-        self.buckets[bucket_of(self.buckets.len(), var.0)].is_overfull()
+        self.slots[start_of(self.starts, var.0)].index > LARGEST
     }
 
     #[inline(never)]
@@ -105,15 +161,20 @@ impl<T: MapValue> Spread<T> {
         ensures ok { OnOk result (self.new ≡ with_new self.old var value) }
         ensures err { OnErr result (self.new ≡ self.old) }
     {
-        if self.get(var).is_some() {
+        let window = window_of(&self.slots, self.starts, var.0);
+        let place = first_end(window, var.0);
+        if place == window.len() {
+            return insert_new(&mut self.others, var, value);
+        }
+        let slot = window[place];
+        if slot.index == var.0 {
             return Ok(false);
         }
-        let at = bucket_of(self.buckets.len(), var.0);
-        if self.buckets[at].is_full() {
-            self.others.insert(var, value)?;
-        } else {
-            self.buckets[at].put(var.0, value);
-        }
+        let at = start_of(self.starts, var.0) + place;
+        self.slots[at] = Slot {
+            index: var.0,
+            value,
+        };
         Ok(true)
     }
 }

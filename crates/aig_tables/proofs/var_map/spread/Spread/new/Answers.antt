@@ -1,6 +1,17 @@
-use Rattle.aig_tables.proofs.Tables.Maps.{nothing, none_spread}
+use Rattle.std.proofs.Common.{◌+◌, refl, arith}
+use Rattle.aig_tables.specs.declared.var_map.spread.TheConstants.{WINDOW}
+use Rattle.aig_tables.proofs.Tables.Maps.{nothing}
+use Rattle.aig_tables.proofs.Tables.Slots.{none_spread, bare_spread}
 use Rattle.aig_tables.proofs.var_map.spread.Spread.new.Goals as goal
 
+pub invariant_of-result : goal.invariant_of-result
+invariant_of-result g c =
+    let starts = c.clamp-starts.result in
+    bare_spread c.default-any.result starts (starts + WINDOW) c.in_ok-empty_slots.field-0.items c.new.result
+    c.in_ok-empty_slots.ensures c.new.ensures.empty (omega arith) (omega arith) refl
+
 pub returns : goal.returns
-returns g c = nothing _ (none_spread c.min-count.result c.in_ok-empty_buckets.field-0.items c.new.result
-    c.in_ok-empty_buckets.ensures c.new.ensures.empty)
+returns g c =
+    let starts = c.clamp-starts.result in
+    nothing _ (none_spread c.default-any.result starts (starts + WINDOW) c.in_ok-empty_slots.field-0.items c.new.result
+    c.in_ok-empty_slots.ensures c.new.ensures.empty)
