@@ -169,6 +169,26 @@ two_end bytes behind rest n k m o = record {
       o;
 }
 
+-- the same where the first may be left out: no number, and one
+pub none_ends : (rest : List ℕ) → EndsPlainly 0 (10 ∷ rest) (0 ∷ []) rest
+none_ends rest = record {
+  written = [];
+  left_out = 1;
+  are = refl;
+  enough = omega arith;
+  begins = record { text = []; are = refl; spelled = refl; one_line = tt };
+}
+
+pub alone_ends : (bytes rest : List ℕ) (n : ℕ) → BeginsWithNumber bytes n (10 ∷ rest)
+    → EndsPlainly 0 (32 ∷ bytes) (n ∷ []) rest
+alone_ends bytes rest n m = record {
+  written = n ∷ [];
+  left_out = 0;
+  are = refl;
+  enough = omega arith;
+  begins = with_one bytes (10 ∷ rest) n m;
+}
+
 -- what follows a row is shorter
 pub shorter : (least : ℕ) (bytes rest after more : List ℕ) (first : ℕ) → BeginsWithNumber bytes first rest
     → EndsPlainly least rest more after → length after < length bytes

@@ -508,6 +508,23 @@ impl FromRow for Latch {
     }
 }
 
+/// What a latch becomes and starts at by these numbers, where they are right.
+#[inline(always)]
+fn right_state(bound: u32, carried: u64, next: u64, reset: u64) -> Option<NextState>
+    requires { bound ≤ largest_index }
+    ensures right { IfSome result (λ _.
+        fault_in_row next_form bound carried (next ∷ reset ∷ []) ≡ None) }
+    ensures state { IfSome result (λ state. state ≡ next_of (next ∷ reset ∷ [])) }
+{
+    if !is_right_row::<1>(NEXT, bound, carried, next, &[reset]) {
+        return None;
+    }
+    Some(NextState {
+        next: Lit(next as u32),
+        reset: reset_of(reset),
+    })
+}
+
 impl FromRow for NextState {
     ghost form = { next_form };
 
@@ -515,12 +532,14 @@ impl FromRow for NextState {
 
     #[inline(always)]
     fn read_short(bytes: &[u8], bound: u32, carried: u64) -> Option<(NextState, &[u8])> {
-        let (found, rest) = plain_row::<1>(NEXT, bytes, bound, carried, true)?;
-        let [reset] = found.1;
-        let state = NextState {
-            next: Lit(found.0 as u32),
-            reset: reset_of(reset),
-        };
+        // most files have no resets, and this path none of their tests
+        if let Some((next, rest)) = short_number_before(bytes, b'\n') {
+            let state = right_state(bound, carried, next, 0)?;
+            return Some((state, rest));
+        }
+        let (next, behind) = short_number_before(bytes, b' ')?;
+        let (reset, rest) = short_number_before(behind, b'\n')?;
+        let state = right_state(bound, carried, next, reset)?;
         Some((state, rest))
     }
 
