@@ -2,9 +2,11 @@
 use Rattle.std.proofs.Common.{◌≡◌, ◌≢◌, ◌≤◌, ◌⊎◌, ◌&&◌, ◌∷◌, ◌++◌, ◌∙◌, ◌^◌, ◌-◌, ◌+◌, ◌<◌, inl, inr, ℕ, zero, suc}
 use Rattle.std.proofs.Common.{List, [], length, Bool, true, false, Option, None, Some, Result, Ok, Err, refl, sym, ap}
 use Rattle.std.proofs.Common.{subst, arith, append_assoc, length-append, nat_lt, nat_le, cond, rules, append-nil}
+use Rattle.std.proofs.Common.{drop, take, take-append-drop}
 use Rattle.std.specs.List.{list_all}
 use Rattle.std.proofs.lemmas.Bool.{cases_lt, lt-ltb, le-leb, le-ltb}
 use Rattle.std.proofs.Math.Bool.{and-false}
+use Rattle.std.proofs.lemmas.List.{drop_at}
 use Rattle.std.proofs.lemmas.List.Folds.{list_all-append}
 use mathlib.Core.Bool.{◌||◌}
 use Rattle.aig_circuit.specs.declared.circuit.Gate.{Gate}
@@ -225,6 +227,21 @@ gates_done : (v i count : ℕ) (bytes : List ℕ) (found : List Gate) (whole : R
     → count ≤ i
     → gates_behind found (gates_at (v + i) (i + 1) (count - i) bytes) ≡ whole → whole ≡ Ok (found, bytes)
 gates_done v i count bytes found whole l w = search (rules, none_left, append-nil)
+
+-- bytes that were taken, and so many more
+pub rest_taken : (bytes text rest : List ℕ) (used : ℕ) → bytes ≡ text ++ rest
+    → (all : List ℕ) × (bytes ≡ all ++ drop used rest)
+rest_taken bytes text rest used cut = (
+  text ++ take used rest,
+  cut ∙ ap (λ (t : List ℕ). text ++ t) (sym (take-append-drop used rest))
+      ∙ sym (append_assoc text (take used rest) (drop used rest)),
+)
+
+-- what follows them is told by its length
+pub rest_is : (bytes text rest : List ℕ) → bytes ≡ text ++ rest → drop (length bytes - length rest) bytes ≡ rest
+rest_is bytes text rest cut =
+    let n = length bytes - length rest in
+    ap (drop n) cut ∙ drop_at text rest n (omega (arith, ap length cut, length-append text rest))
 
 -- gates that were read, whatever comes behind the bytes
 module _ (v count : ℕ) (before found : List Gate) (bytes rest : List ℕ) (l : length found < count)

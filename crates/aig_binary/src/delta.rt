@@ -111,13 +111,14 @@ fn small_only(value: u64, count: usize) -> Option<(u32, usize)>
     Some((value, count))
 }
 
-/// Most numbers of a file have one to three bytes, and are read without a loop.
+/// Nearly all numbers of a file have one to four bytes, and are read without a loop.
 #[inline(always)]
 #[tactic(auto, using(crate::proofs::Deltas::Reading::short_deltas))]
-fn get_short_delta(bytes: &[u8]) -> Option<(u32, usize)>
-    requires { 3 ≤ length bytes.now }
+pub(crate) fn get_short_delta(bytes: &[u8]) -> Option<(u32, usize)>
+    requires { 4 ≤ length bytes.now }
     ensures delta { IfSome result (λ x. delta_at bytes.now ≡ Some (x.0, drop x.1 bytes.now)) }
     ensures within { IfSome result (λ x. x.1 ≤ length bytes.now) }
+    ensures few { IfSome result (λ x. x.1 ≤ 4) }
 {
     let first = u32::from(bytes[0]);
     if first < 128 {
@@ -130,6 +131,11 @@ fn get_short_delta(bytes: &[u8]) -> Option<(u32, usize)>
     let third = u32::from(bytes[2]);
     if third < 128 {
         return Some((first % 128 + 128 * (second % 128 + 128 * third), 3));
+    }
+    let fourth = u32::from(bytes[3]);
+    if fourth < 128 {
+        let upper = second % 128 + 128 * (third % 128 + 128 * fourth);
+        return Some((first % 128 + 128 * upper, 4));
     }
     None
 }
@@ -165,7 +171,7 @@ pub fn get_delta(bytes: &[u8]) -> Option<(u32, usize)>
     ensures spelled { (value count : ℕ) → (result ≡ Some (value, count))
         ↔ BeginsWithDelta bytes.now value count }
 {
-    if bytes.len() >= 3 {
+    if bytes.len() >= 4 {
         if let Some(short) = get_short_delta(bytes) {
             return Some(short);
         }

@@ -155,7 +155,7 @@ delta_of_one (b ∷ bytes) byte some e low =
     delta_small (b ∷ bytes) bytes byte (read_last 4 b bytes (omega arith) ∙ ap (λ (n : ℕ). Some (n, bytes)) (sym e))
     (omega arith)
 
--- the same of two bytes, and of three
+-- the same of two bytes, of three, and of four
 pub delta_of_two : (bytes : List ℕ) (a b : ℕ) → 3 ≤ length bytes → a ≡ get_or bytes 0 0 → b ≡ get_or bytes 1 0
     → 128 ≤ a → a < 256 → b < 128 → delta_at bytes ≡ Some (a % 128 + 128 * b, drop 2 bytes)
 delta_of_two [] a b some ea eb high byte low = absurd (omega arith)
@@ -178,7 +178,24 @@ delta_of_three (x ∷ y ∷ z ∷ bytes) a b c some ea eb ec high byte high_too 
     ∙ ap (put_low a) (read_more 3 b (c ∷ bytes) high_too byte_too ∙ ap (put_low b) (read_last 2 c bytes low))))
     (omega arith)
 
-pub ruleset short_deltas = (delta_of_one, delta_of_two, delta_of_three)
+pub delta_of_four : (bytes : List ℕ) (a b c d : ℕ) → 4 ≤ length bytes → a ≡ get_or bytes 0 0 → b ≡ get_or bytes 1 0
+    → c ≡ get_or bytes 2 0 → d ≡ get_or bytes 3 0 → 128 ≤ a → a < 256 → 128 ≤ b → b < 256 → 128 ≤ c → c < 256
+    → d < 128
+    → delta_at bytes ≡ Some (a % 128 + 128 * (b % 128 + 128 * (c % 128 + 128 * d)), drop 4 bytes)
+delta_of_four [] a b c d some ea eb ec ed h1 l1 h2 l2 h3 l3 low = absurd (omega arith)
+delta_of_four (x ∷ []) a b c d some ea eb ec ed h1 l1 h2 l2 h3 l3 low = absurd (omega arith)
+delta_of_four (x ∷ y ∷ []) a b c d some ea eb ec ed h1 l1 h2 l2 h3 l3 low = absurd (omega arith)
+delta_of_four (x ∷ y ∷ z ∷ []) a b c d some ea eb ec ed h1 l1 h2 l2 h3 l3 low = absurd (omega arith)
+delta_of_four (x ∷ y ∷ z ∷ w ∷ bytes) a b c d some ea eb ec ed h1 l1 h2 l2 h3 l3 low =
+    delta_small (x ∷ y ∷ z ∷ w ∷ bytes) bytes (a % 128 + 128 * (b % 128 + 128 * (c % 128 + 128 * d)))
+    (rw (sym ea, sym eb, sym ec, sym ed)
+    (read_more 4 a (b ∷ c ∷ d ∷ bytes) h1 l1
+    ∙ ap (put_low a)
+    (read_more 3 b (c ∷ d ∷ bytes) h2 l2
+    ∙ ap (put_low b) (read_more 2 c (d ∷ bytes) h3 l3 ∙ ap (put_low c) (read_last 1 d bytes low)))))
+    (omega arith)
+
+pub ruleset short_deltas = (delta_of_one, delta_of_two, delta_of_three, delta_of_four)
 
 -- What is answered of a front is exactly the number that it spells, and how long it is.
 front_is : (bytes : List ℕ) (value count : ℕ) → delta_at bytes ≡ Some (value, drop count bytes)
