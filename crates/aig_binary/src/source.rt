@@ -16,9 +16,13 @@ use crate::piecewise::{fetch_all, fetch_piece, read_rest};
 use crate::reader::BINARY_WORD;
 use crate::source_fault::SourceFault;
 use aig_core::{Checked, Keep, Ordered, ReadError, Source, Window};
-use aig_lines::ended_lines;
-use aig_text::{AsciiReader, Limits, ReadKind, check_read, first_word_is};
+use aig_lines::{Cursor, ended_lines};
+use aig_text::{AsciiReader, Limits, ReadKind, check_read, first_word_is, header};
 use std::alloc::Global;
+
+/// How many times what is held there may be before the lines in front of the gates are read anew: a
+/// header may promise lines that never come.
+const MOST_TIMES: usize = 64;
 
 /// Lets go of the room that bytes do not fill, and answers whether no memory was refused. Room
 /// grows by doubling, so it may be twice what is filled. Where a block of up to 32 MB is let go,
@@ -50,8 +54,29 @@ fn fetch_first<R: Source>(alloc: Global, source: &mut R) -> Result<(Window, bool
     Ok((window, more))
 }
 
+/// How many bytes the lines in front of the gates take at most, as their header tells, if latches
+/// have no resets and justice properties no literals; and no more than `MOST_TIMES` allows.
+fn front_len(held: &[u8], limits: Limits) -> usize {
+    let mut at = Cursor::new(held);
+    let Ok(header) = header(BINARY_WORD, &mut at, limits) else {
+        return 0;
+    };
+    let lines = header.latches as usize
+        + header.outputs as usize
+        + header.bad as usize
+        + header.constraints as usize
+        + header.justice as usize
+        + header.fairness as usize;
+    let largest = 2 * u64::from(header.max_var) + 1;
+    let longest = largest.ilog10() as usize + 2;
+    lines
+        .saturating_mul(longest)
+        .min(held.len().saturating_mul(MOST_TIMES))
+}
+
 /// There is no reader where the lines are not right. Answers whether the source goes on. Lines that
-/// are not there yet are read anew when twice as much is held, so on the whole no more than twice.
+/// are not there yet are read anew when as much is held as the header lets expect, and at least
+/// twice as much: mostly once, and on the whole no more than twice.
 fn begin_reader<R: Source>(
     alloc: Global,
     source: &mut R,
@@ -82,8 +107,9 @@ fn begin_reader<R: Source>(
                 _ => return Ok((None, true)),
             },
         }
-        let twice = 2 * window.as_slice().len();
-        if !fetch_piece::<R, BinaryReader>(source, window, twice)? {
+        let held = window.as_slice();
+        let least = front_len(held, limits).max(2 * held.len());
+        if !fetch_piece::<R, BinaryReader>(source, window, least)? {
             return Ok((None, false));
         }
     }
