@@ -158,7 +158,7 @@ gave_fetched into (suc n) a = rw (lt-ltb 0 (suc n) (omega arith)) refl
 filled_none : (u : List ℕ) (a : Past) → Filled u u true a a
 filled_none u a = record { given = []; held = sym (append-nil u); gave = took_none a }
 
-filled_then : (u v w : List ℕ) (more : Bool) (a b c : Past) → Filled u v true a b → Filled v w more b c
+pub filled_then : (u v w : List ℕ) (more : Bool) (a b c : Past) → Filled u v true a b → Filled v w more b c
     → Filled u w more a c
 filled_then u v w more a b c f g = record {
   given = f.given ++ g.given;

@@ -17,6 +17,7 @@ mod line;
 mod memory;
 mod output;
 mod record;
+mod room;
 mod streams;
 mod transfer;
 mod window;

@@ -9,6 +9,7 @@ ghost use Rattle.aig_io.specs.declared.transfer.ReadError.TheVariants.{OutOfMemo
 ghost use Rattle.aig_io.specs.declared.transfer.ReadError.TheVariants.{Source as SourceFault};
 
 use crate::device::{DeviceFault, Sink, Source};
+use crate::room::make_room;
 use std::alloc::{AllocError, Global};
 use std::error::Error;
 use std::fmt;
@@ -59,13 +60,15 @@ pub fn read_to_end<R: Source>(source: &mut R, bytes: &mut Vec<u8>) -> Result<(),
     ensures bound { OnOk result (vec_len bytes.new ≤ R.bound source.old + vec_len bytes.old) }
     ensures err { IfErr result (λ error. GaveSome error (R.past source.old) (R.past source.new)) }
 {
-    let mut block = [0u8; 8192];
+    let mut len = bytes.len();
     loop {
-        let count = source.fetch(&mut block)?;
+        make_room(bytes, len)?;
+        let count = source.fetch(&mut bytes[len..])?;
+        len += count;
         if count == 0 {
+            bytes.truncate(len);
             return Ok(());
         }
-        bytes.extend_from_slice(&block[..count])?;
     }
 }
 

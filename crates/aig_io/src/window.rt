@@ -1,20 +1,16 @@
 //! A window over the bytes of a source.
 ghost use Rattle.std.specs.Prelude.{◌≡◌, ◌+◌, ◌^◌, ◌<◌, ◌≤◌, ◌++◌, []};
-ghost use Rattle.std.specs.Prelude.{drop, length, take, IfErr, IfOk, IsTrue, OnOk};
-ghost use Rattle.std.specs.Prelude.{vec_len};
+ghost use Rattle.std.specs.Prelude.{drop, length, IfErr, IfOk, IsTrue, OnOk};
 ghost use Rattle.aig_io.specs.Devices.{CanFail, GaveSome};
 ghost use Rattle.aig_io.specs.Windows.{Filled};
 
 use crate::device::Source;
+use crate::room::{PIECE, make_room};
 use crate::transfer::ReadError;
 use std::alloc::{AllocError, Global};
 use std::marker::Model;
 
-/// How many bytes there is room for at first, and how much room is added where there is little.
-const PIECE: usize = 65536;
-
-/// Bytes that a source gave, not let go yet. Room behind them is cleared, so it grows by pieces:
-/// one is still in the cache when bytes come, and what a file does not fill is not cleared.
+/// Bytes that a source gave, not let go yet, and room behind them.
 #[derive(Drop)]
 pub struct Window {
     bytes: Vec<u8>,
@@ -29,21 +25,6 @@ impl Model for Window {
     ghost view = { λ w. take w.len w.bytes.items };
 
     ghost invariant = { λ w. (w.len ≤ vec_len w.bytes) × (1 < vec_len w.bytes) };
-}
-
-/// Makes room behind so many bytes, where there is little.
-fn make_room(bytes: &mut Vec<u8>, len: usize) -> Result<(), AllocError>
-    requires some { 1 < vec_len bytes.old }
-    requires within { len ≤ vec_len bytes.old }
-    ensures same { take len bytes.new.items ≡ take len bytes.old.items }
-    ensures room { OnOk result (len < vec_len bytes.new) }
-    ensures grown { vec_len bytes.old ≤ vec_len bytes.new }
-{
-    let room = bytes.len();
-    if room - len < PIECE / 2 {
-        bytes.resize(room + PIECE, 0)?;
-    }
-    Ok(())
 }
 
 impl Window {
