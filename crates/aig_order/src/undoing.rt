@@ -90,25 +90,35 @@ fn confirm_source(
     }
 }
 
+/// The variables are let go once the source is made, since the check of the order takes a table of
+/// its own.
 fn source_by_places(
     alloc: Global,
     image: &Checked,
     recorded: &Recorded,
-    variables: &SourceVariables,
+    variables: SourceVariables,
     places: &[u32],
     comment: &[u8],
 ) -> Result<Circuit, MapFault>
     requires block { IsBlockOf image.now recorded.now places.now comment.now }
-    requires variables { variables.now.variables.items ≡ source_variables (block_read image.now) }
+    requires variables { variables.variables.items ≡ source_variables (block_read image.now) }
     ensures ok { IfOk result (λ c. c ≡ source_read image.now comment.now) }
     ensures formed { IfOk result (λ c. AreDistinct (defined_variables c) → IsWellFormed c) }
     ensures image { IfOk result (λ c. IsWellFormed c → IsMappedImage c image.now) }
     ensures fault { IfErr result (λ e. IsMapFault image.now e) }
 {
-    let source = match make_undone(alloc, variables, places, recorded, comment, image.circuit()) {
+    let source = match make_undone(
+        alloc,
+        &variables,
+        places,
+        recorded,
+        comment,
+        image.circuit(),
+    ) {
         Ok(source) => source,
         Err(fault) => return Err(fault),
     };
+    drop(variables);
     confirm_source(alloc, source, image, recorded, places, comment)
 }
 
@@ -140,7 +150,7 @@ fn source_by_block(
             alloc,
             image,
             &recorded,
-            &variables,
+            variables,
             places.as_slice(),
             comment,
         ),
