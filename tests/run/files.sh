@@ -187,19 +187,25 @@ else
     skip 1 'a full disk: nothing can be mounted here'
 fi
 
-# what a file system says only when it is to keep a file is not lost
-if compile_preload fail_sync; then
-    closing() { LD_PRELOAD=$work/fail_sync.so "$program" aigtoaig "$@"; }
+# what a file system says only when it is to keep a file is not lost where it is on no disk
+if compile_preload fail_sync && compile_preload device_major; then
+    failing() { MAJOR=$1 LD_PRELOAD="$work/fail_sync.so $work/device_major.so" "$program" "${@:2}"; }
+    disk=8 no_disk=0
     wants '' "aiger: $files/closed.aig: cannot write\n" 1
-    check 'a destination that is not kept' closing "$source" "$files/closed.aig"
-    check 'and from standard input' closing - "$files/closed.aig" < "$source"
+    check 'a destination that is not kept where there is no disk' failing $no_disk aigtoaig "$source" "$files/closed.aig"
+    check 'and from standard input' failing $no_disk aigtoaig - "$files/closed.aig" < "$source"
     wants '' "aiger: $files/short.aag: line 2: file ends too early\n" 1
-    check 'a refused source is reported, and nothing is to be kept' closing "$files/short.aag" "$files/closed.aig"
+    check 'a refused source is reported, and nothing is to be kept' \
+        failing $no_disk aigtoaig "$files/short.aag" "$files/closed.aig"
     wants '' '' 0
+    cp "$work/binary" "$work/want_file"
+    made 'a disk is not waited for' "$files/closed.aig" failing $disk aigtoaig "$source" "$files/closed.aig"
     cp "$work/binary" "$work/want_out"
-    check 'standard output is not waited for' closing "$source"
+    check 'standard output is not waited for' failing $no_disk aigtoaig "$source"
+    wants '' '' 0
+    check 'nor is a device' failing $no_disk aigtoaig "$source" /dev/null
 else
-    fail 'tests/preload/fail_sync.c compiles' "came   $(cat "$work/compile" 2> /dev/null)"
+    fail 'tests/preload/fail_sync.c and device_major.c compile' "came   $(cat "$work/compile" 2> /dev/null)"
 fi
 
 # --- streams beside files ---
@@ -354,9 +360,9 @@ unroll 5000 --ascii "$held" > "$work/long_frames"
 if [ -s "$files/limited.aag" ] && cmp -s -n "$(stat -c %s "$files/limited.aag")" "$files/limited.aag" "$work/long_frames"; then pass; else
     fail 'what was written of an unrolled file is a beginning'
 fi
-if [ -e "$work/fail_sync.so" ]; then
+if [ -e "$work/device_major.so" ]; then
     wants '' "aiger: $files/u.aig: cannot write\n" 1
-    check 'an unrolled file that is not kept' eval 'LD_PRELOAD=$work/fail_sync.so unroll 2 "$held" "$files/u.aig"'
+    check 'an unrolled file that is not kept' failing $no_disk aigunroll --frames 2 "$held" "$files/u.aig"
 fi
 cp "$work/binary_frames" "$work/want_file"
 made 'all streams closed, and two files to unroll' "$files/u.aig" streams_closed unroll 2 "$held" "$files/u.aig"
@@ -456,10 +462,10 @@ cannot_write_both() {
 cannot_write_both 'a folder' "$files"
 cannot_write_both 'an empty name' ''
 cannot_write_both 'a full device' /dev/full
-if [ -e "$work/fail_sync.so" ]; then
+if [ -e "$work/device_major.so" ]; then
     wants '' "aiger: $files/w: cannot write\n" 1
-    check 'clauses that are not kept' eval 'LD_PRELOAD=$work/fail_sync.so clauses "$answered" "$files/w"'
-    check 'a witness that is not kept' eval 'LD_PRELOAD=$work/fail_sync.so witness "$files/answer" "$answered" "$files/w"'
+    check 'clauses that are not kept' failing $no_disk aigunroll --frames 2 --cnf "$answered" "$files/w"
+    check 'a witness that is not kept' failing $no_disk aigunroll --frames 2 --answer "$files/answer" "$answered" "$files/w"
 fi
 
 # --- pipes with names ---

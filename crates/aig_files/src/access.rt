@@ -40,8 +40,12 @@ pub trait FileAccess {
         ensures moves { IfOk result (λ n. 0 < n) }
         ensures files { files self.new ≡ after_write bytes.now result (files self.old) };
 
-    /// Closes the file that was written, once the system keeps what it took. An error may only show
-    /// now, as on a network's file system, and then not all that was written is kept.
+    /// From now on a file that was written is closed only once the disk has it.
+    fn sync_before_close(&mut self)
+        ensures { files self.new ≡ files self.old };
+
+    /// Closes the file that was written. An error may only show now, as on a network's file system,
+    /// and then not all that was written is kept.
     fn close(&mut self) -> Result<(), DeviceFault>
         requires { is_written (files self.old).current ≡ true }
         ensures { files self.new ≡ after_close result (files self.old) };

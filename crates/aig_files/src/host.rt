@@ -4,8 +4,9 @@ ghost use Rattle.aig_files.specs.Notes.{files_of};
 
 use crate::access::FileAccess;
 use aig_io::{DeviceFault, Record};
-use std::fs::OpenFile;
+use std::fs::{Metadata, OpenFile};
 use std::io::{Read, Write};
+use std::os::unix::fs::MetadataExt;
 use std::rt::Files;
 use std::{fs, io};
 
@@ -36,6 +37,7 @@ pub(crate) const NOT_CLOSED: u64 = 10;
 pub struct HostFiles<'a, T: Files> {
     files: &'a T,
     file: Option<T::File>,
+    syncs: bool,
     log: Record,
     ghost closed: { is_some file ≡ is_some (files_of log.notes).current },
 }
@@ -48,6 +50,7 @@ impl<'a, T: Files> HostFiles<'a, T> {
         HostFiles {
             files,
             file: None,
+            syncs: false,
             log: Record::new(),
         }
     }
@@ -75,13 +78,21 @@ fn write<F: Write>(file: &mut Option<F>, bytes: &[u8]) -> usize
     }
 }
 
-/// Waits until the system keeps what was written. Closing a file of std loses its error, and this
-/// reports it. A pipe or a device keeps nothing, and would refuse this.
-fn sync<F: OpenFile>(file: &Option<F>) -> io::Result<()> {
-    match file {
-        Some(file) if file.metadata()?.is_file() => file.sync_data(),
-        _ => Ok(()),
+/// Whether the file lies on a disk of this machine. Where the file system has none, the number of
+/// its device has no major part, as Linux packs it.
+fn is_on_disk(metadata: &Metadata) -> bool {
+    metadata.dev() & 0xffff_f000_000f_ff00 != 0
+}
+
+/// Where that is asked for, waits until the disk has what was written. Where there is no disk this
+/// is done unasked: such a file system may wait and fail only as the file is closed, and std loses
+/// the error of that. A pipe or a device keeps nothing, and would refuse this.
+fn sync<F: OpenFile>(file: &F, is_asked: bool) -> io::Result<()> {
+    let metadata = file.metadata()?;
+    if metadata.is_file() && (is_asked || !is_on_disk(&metadata)) {
+        file.sync_data()?;
     }
+    Ok(())
 }
 
 /// Started with its standard input closed, a program gets that one's number for the first file that
@@ -144,8 +155,15 @@ impl<T: Files> FileAccess for HostFiles<'_, T> {
         Ok(count)
     }
 
+    fn sync_before_close(&mut self) {
+        self.syncs = true;
+    }
+
     fn close(&mut self) -> Result<(), DeviceFault> {
-        let kept = sync(&self.file);
+        let kept = match &self.file {
+            Some(file) => sync(file, self.syncs),
+            None => Ok(()),
+        };
         self.file = None;
         if kept.is_err() {
             self.log.note(&[NOT_CLOSED], &[]);

@@ -7,6 +7,7 @@ use crate::streams::NEVER;
 use std::alloc::Global;
 use std::fs;
 use std::fs::Metadata;
+use std::os::unix::fs::MetadataExt;
 use std::rt::Files;
 use std::test::Fail;
 
@@ -123,10 +124,11 @@ fn unwritten(words: &str) -> &'static str {
     }
 }
 
-/// The files hold what is wanted. One is opened, one made and synced; nothing else is done.
+/// The files hold what is wanted. One is opened, one made and, where there is no disk, synced;
+/// nothing else is done.
 #[test]
 fn files_in_pieces(rt: HostRuntime) -> Result<(), Fail> {
-    let metadata = on_disk(&rt)?;
+    let metadata = Metadata::of_file(0);
     for row in ROWS.split('#') {
         for piece in [1, 7, 30_000] {
             let calls = Calls::none();
@@ -140,7 +142,21 @@ fn files_in_pieces(rt: HostRuntime) -> Result<(), Fail> {
     Ok(())
 }
 
-/// What is not a file on a disk is not synced.
+/// On a disk it is not synced.
+#[test]
+fn files_on_a_disk(rt: HostRuntime) -> Result<(), Fail> {
+    let metadata = on_disk(&rt)?;
+    let synced = u32::from(metadata.dev() & 0x000f_ff00 == 0);
+    for row in ROWS.split('#') {
+        let calls = Calls::none();
+        let (words, mut files) = row_of(row, &calls);
+        files.metadata = Some(&metadata);
+        assert!(rt; is_reported(rt.alloc(), &files, words, 0, "") && calls.are(1, 1, synced));
+    }
+    Ok(())
+}
+
+/// What is not a file is not synced.
 #[test]
 fn unsynced_files(rt: HostRuntime) -> Result<(), Fail> {
     let metadata = fs::metadata(&rt, ".")?;
