@@ -52,7 +52,7 @@ def time_of(program, words, given, output):
 
 def main(program):
     program, wrong, passed = counts.need_program(program), [], 0
-    lines = list(generate.gates(GATES, times=generate.LARGEST))
+    lines = list(generate.lines(generate.far_gates(GATES), generate.LARGEST))
     shuffled = lines[:-GATES] + random.Random(1).sample(lines[-GATES:], GATES)
     with tempfile.TemporaryDirectory() as folder:
         times = {}
