@@ -64,6 +64,7 @@ model and refutation are both standard input
 --invariant needs --cnf or --refutation
 model and invariant are both standard input
 invariant and refutation are both standard input
+--sync needs the name of a destination
 an argument is not UTF-8 text""".split("\n")
 BY_CLAP = "error: .."
 ALL = [*NAMED, OF_MEMORY, *OF_ARGUMENTS, BY_CLAP]

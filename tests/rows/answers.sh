@@ -303,6 +303,7 @@ rows_clause_words() {
     unwanted 'an answer in ASCII, by standard input' "$alone" aigunroll --frames 2 --ascii --answer - - x.gz
     unwanted 'a bad state alone' "$needs" aigunroll --frames 2 --bad 0 "$none"
     unwanted 'a bad state in ASCII' "$needs" aigunroll --frames 2 --bad 0 --ascii - x.gz
+    unwanted 'a witness to standard output on a disk' '--sync needs the name of a destination' aigunroll --frames 2 --sync --answer -
     unwanted 'model and answer by standard input' "$both" aigunroll --frames 2 --answer -
     unwanted 'model and answer by -' "$both" aigunroll --frames 2 --bad 0 --answer - - x.gz
     unwanted 'a compressed witness' "$gz" aigunroll --frames 2 --answer "$none" "$none" x.gz

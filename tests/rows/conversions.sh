@@ -1015,6 +1015,9 @@ rows_words() {
     unwanted 'a map kept and undone' '--keep-map excludes --undo-map' aigtoaig --keep-map --undo-map
     unwanted 'a map kept of outputs as bad states' '--outputs-as-bad excludes --keep-map' aigtoaig --outputs-as-bad --keep-map
     unwanted 'a map undone to outputs as bad states' '--outputs-as-bad excludes --undo-map' aigtoaig --undo-map --outputs-as-bad
+    unwanted 'standard output on a disk' '--sync needs the name of a destination' aigtoaig --sync none/x
+    unwanted 'standard output on a disk, by -' '--sync needs the name of a destination' aigtoaig none/x --sync -
+    misused 'a disk twice' "the argument '--sync' cannot be used multiple times$every" aigtoaig --sync none/x none/y --sync
     misused 'outputs as bad states twice' "the argument '--outputs-as-bad' cannot be used multiple times$every" \
         aigtoaig --outputs-as-bad --outputs-as-bad
     unwanted 'a compressed destination' 'compressed output is not supported' aigtoaig - none/x.aig.gz

@@ -187,23 +187,24 @@ else
     skip 1 'a full disk: nothing can be mounted here'
 fi
 
-# what a file system says only when it is to keep a file is not lost where it is on no disk
+# what a file system says only when it is to keep a file is not lost: unasked where it is on no disk, else with --sync
 if compile_preload fail_sync && compile_preload device_major; then
-    failing() { MAJOR=$1 LD_PRELOAD="$work/fail_sync.so $work/device_major.so" "$program" "${@:2}"; }
+    closing() { MAJOR=$1 LD_PRELOAD="$work/fail_sync.so $work/device_major.so" "$program" aigtoaig "${@:2}"; }
     disk=8 no_disk=0
     wants '' "aiger: $files/closed.aig: cannot write\n" 1
-    check 'a destination that is not kept where there is no disk' failing $no_disk aigtoaig "$source" "$files/closed.aig"
-    check 'and from standard input' failing $no_disk aigtoaig - "$files/closed.aig" < "$source"
+    check 'a destination that a disk does not keep' closing $disk --sync "$source" "$files/closed.aig"
+    check 'and from standard input' closing $disk - "$files/closed.aig" --sync < "$source"
+    check 'a destination that is not kept where there is no disk' closing $no_disk "$source" "$files/closed.aig"
+    check 'nor if that is asked for' closing $no_disk --sync "$source" "$files/closed.aig"
     wants '' "aiger: $files/short.aag: line 2: file ends too early\n" 1
-    check 'a refused source is reported, and nothing is to be kept' \
-        failing $no_disk aigtoaig "$files/short.aag" "$files/closed.aig"
+    check 'a refused source is reported, and nothing is to be kept' closing $disk --sync "$files/short.aag" "$files/closed.aig"
     wants '' '' 0
     cp "$work/binary" "$work/want_file"
-    made 'a disk is not waited for' "$files/closed.aig" failing $disk aigtoaig "$source" "$files/closed.aig"
+    made 'a disk is not waited for unasked' "$files/closed.aig" closing $disk "$source" "$files/closed.aig"
     cp "$work/binary" "$work/want_out"
-    check 'standard output is not waited for' failing $no_disk aigtoaig "$source"
+    check 'standard output is not waited for' closing $no_disk "$source"
     wants '' '' 0
-    check 'nor is a device' failing $no_disk aigtoaig "$source" /dev/null
+    check 'nor is a device, if that is asked for' closing $disk --sync "$source" /dev/null
 else
     fail 'tests/preload/fail_sync.c and device_major.c compile' "came   $(cat "$work/compile" 2> /dev/null)"
 fi
@@ -360,9 +361,9 @@ unroll 5000 --ascii "$held" > "$work/long_frames"
 if [ -s "$files/limited.aag" ] && cmp -s -n "$(stat -c %s "$files/limited.aag")" "$files/limited.aag" "$work/long_frames"; then pass; else
     fail 'what was written of an unrolled file is a beginning'
 fi
-if [ -e "$work/device_major.so" ]; then
+if [ -e "$work/fail_sync.so" ]; then
     wants '' "aiger: $files/u.aig: cannot write\n" 1
-    check 'an unrolled file that is not kept' failing $no_disk aigunroll --frames 2 "$held" "$files/u.aig"
+    check 'an unrolled file that is not kept' eval 'LD_PRELOAD=$work/fail_sync.so unroll 2 --sync "$held" "$files/u.aig"'
 fi
 cp "$work/binary_frames" "$work/want_file"
 made 'all streams closed, and two files to unroll' "$files/u.aig" streams_closed unroll 2 "$held" "$files/u.aig"
@@ -462,10 +463,10 @@ cannot_write_both() {
 cannot_write_both 'a folder' "$files"
 cannot_write_both 'an empty name' ''
 cannot_write_both 'a full device' /dev/full
-if [ -e "$work/device_major.so" ]; then
+if [ -e "$work/fail_sync.so" ]; then
     wants '' "aiger: $files/w: cannot write\n" 1
-    check 'clauses that are not kept' failing $no_disk aigunroll --frames 2 --cnf "$answered" "$files/w"
-    check 'a witness that is not kept' failing $no_disk aigunroll --frames 2 --answer "$files/answer" "$answered" "$files/w"
+    check 'clauses that are not kept' eval 'LD_PRELOAD=$work/fail_sync.so clauses --sync "$answered" "$files/w"'
+    check 'a witness that is not kept' eval 'LD_PRELOAD=$work/fail_sync.so witness "$files/answer" --sync "$answered" "$files/w"'
 fi
 
 # --- pipes with names ---
@@ -568,6 +569,8 @@ refused 'a map of a stripped circuit' 'aiger: --keep-map excludes --strip' aigto
 refused 'a map kept and undone' 'aiger: --keep-map excludes --undo-map' aigtoaig --keep-map --undo-map
 refused 'a map of outputs as bad states' 'aiger: --outputs-as-bad excludes --keep-map' aigtoaig --outputs-as-bad --keep-map
 refused 'a map undone to outputs as bad states' 'aiger: --outputs-as-bad excludes --undo-map' aigtoaig --undo-map --outputs-as-bad
+refused 'standard output on a disk' 'aiger: --sync needs the name of a destination' aigtoaig --sync a
+refused 'an unrolled standard output on a disk' 'aiger: --sync needs the name of a destination' aigunroll --frames 2 --sync a -
 refused 'one stream for model and stimulus' 'aiger: model and stimulus are both standard input' aigsim -
 refused 'a compressed destination' 'aiger: compressed output is not supported' aigtoaig - x.aig.gz
 refused 'a compressed destination to unroll to' 'aiger: compressed output is not supported' aigunroll --frames 1 - x.aag.gz

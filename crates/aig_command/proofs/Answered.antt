@@ -72,6 +72,7 @@ is_usage words (Some asked) (Err usage.InvariantAlone) is some h = is ∙ ap Som
 is_usage words (Some asked) (Err usage.InvariantNeedsClauses) is some h = is ∙ ap Some h
 is_usage words (Some asked) (Err usage.InvariantIsModel) is some h = is ∙ ap Some h
 is_usage words (Some asked) (Err usage.RefutationIsInvariant) is some h = is ∙ ap Some h
+is_usage words (Some asked) (Err usage.SyncNeedsDestination) is some h = is ∙ ap Some h
 
 module _ (words : List Text) (m : ArgMatches) (h : HasMatchesOf aiger words m) (e : faults words ≡ []) where
   pub rows_known : is_some (option_and_then asked_by (subcommand_rows_of m)) ≡ true
@@ -154,6 +155,7 @@ module _ (words : List Text) (kind : ErrorKind) (passes : takes aiger words ≡ 
   refused_usage (Err usage.InvariantNeedsClauses) h = absurd h
   refused_usage (Err usage.InvariantIsModel) h = absurd h
   refused_usage (Err usage.RefutationIsInvariant) h = absurd h
+  refused_usage (Err usage.SyncNeedsDestination) h = absurd h
 
 -- ---- an argument that asks for a text
 

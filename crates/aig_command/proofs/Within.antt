@@ -1,7 +1,7 @@
 -- Where `clap` finds nothing wrong with the arguments, the numbers that are read of them are within their limits.
 use Rattle.std.proofs.Common.{◌≡◌, ◌∙◌, ◌&&◌, ◌∷◌, ◌<◌, ◌≤◌, ◌==◌, ◌^◌, rules, ℕ, Bool, Option, Some, None, Result}
 use Rattle.std.proofs.Common.{List, [], ap, cond, false, length, refl, sym, true, true≢false, option_map, IfSome, arith}
-use Rattle.std.proofs.Common.{drop, codes, nat_lt, option_and_then, unwrap_or, pos, slice_get, Bor, find, bytes_eq}
+use Rattle.std.proofs.Common.{drop, codes, nat_lt, not, option_and_then, unwrap_or, pos, slice_get, Bor, find, bytes_eq}
 use Rattle.std.proofs.Common.{is_some, lt-ltb, ltb-true, ne_eqb}
 use Rattle.std.specs.Prelude.{⊤}
 use Rattle.std.specs.List.{list_all, AllByRecursion}
@@ -30,7 +30,7 @@ use Rattle.clap.proofs.ValueTestLemmas.{accepts-Accepts}
 use Rattle.aig_command.specs.Asked.{file, number_in, Asked, AsksWithinLimits, asked_by, command_of, conversion}
 use Rattle.aig_command.specs.Asked.{converts, faults, frames, limit, number, refused, simulates, simulation}
 use Rattle.aig_command.specs.Asked.{aigunroll, asked_reaching, is_given, options_refusal, proves, proving, reaches}
-use Rattle.aig_command.specs.Asked.{reaching, unrolling, unrolls}
+use Rattle.aig_command.specs.Asked.{reaching, refusal, sync_refusal, to_aig, unrolling, unrolls}
 use Rattle.aig_command.specs.Aiger.{aiger, largest_index, max_var, most_frames, frames as frames_rule}
 use Rattle.aig_command.specs.declared.request.SolverFile.{SolverFile}
 use Rattle.aig_command.specs.declared.request.SolverFile.TheVariants as files
@@ -128,6 +128,16 @@ module _ (m : ArgMatches) (place : Text) (o : Option (Bor Text))
       let first : Some name.now ≡ from_first (Some name.now) = rw other refl in
       first ∙ (ap (λ o. from_first (option_map (λ s. s.now) o)) (sym some) ∙ file_is)
 
+  pub is_named : (name : Bor Text) → o ≡ Some name
+      → not (bytes_eq name.now (codes "-")) ≡ is_some (file place (rows_of (found_of m)))
+  is_named name some =
+      unlike (bytes_eq name.now (codes "-")) name.now
+      ∙ ap is_some (ap (λ o. from_first (option_map (λ s. s.now) o)) (sym some) ∙ file_is)
+    where
+      unlike : (same : Bool) (text : Text) → not same ≡ is_some (cond same None (Some text))
+      unlike true text = refl
+      unlike false text = refl
+
 -- Where `clap` finds nothing wrong with the arguments, the numbers that they ask for are within their limits.
 
 -- ---- a number that passes
@@ -205,6 +215,11 @@ unless_refused : (reason : Option Usage) (asked : Asked) → AsksWithinLimits as
 unless_refused None asked h = h
 unless_refused (Some reason) asked h = tt
 
+unless_one_refused : (first second : Option Usage) (asked : Asked) → AsksWithinLimits asked
+    → AsksWithinLimits (option_map_or refused first (option_map_or refused second asked))
+unless_one_refused first second asked h =
+    unless_refused first (option_map_or refused second asked) (unless_refused second asked h)
+
 -- the values of the rows pass, as a record, from which the rules are known
 record AreGood (c : List Rule) (rows : List Row) : Type 0 where
   all : AllPass c rows
@@ -230,7 +245,7 @@ frames_are_in c a is p rows h =
 aigunroll_is_in : (rows : List Row) → (1 ≤ frames rows) × (frames rows ≤ most_frames) → limit rows ≤ largest_index
     → AsksWithinLimits (aigunroll rows)
 aigunroll_is_in rows few low =
-    unless_refused (options_refusal rows) _
+    unless_one_refused (options_refusal rows) (sync_refusal rows) _
     (either (is_given (codes "invariant") rows) _ _ (unless_refused _ (proves (proving rows)) low)
     (either (is_given (codes "answer") rows) _ _ (reach files.Answer)
     (either (is_given (codes "refutation") rows) _ _ (reach files.Refutation)
@@ -243,9 +258,12 @@ aigunroll_is_in rows few low =
     either true x y hx hy = hx
     either false x y hx hy = hy
 
+to_aig_is_in : (rows : List Row) → (conversion rows).max_var ≤ largest_index → AsksWithinLimits (to_aig rows)
+to_aig_is_in rows = unless_one_refused (refusal (conversion rows)) (sync_refusal rows) (converts (conversion rows))
+
 subcommands_are_bounded : AllByRecursion IsBounded (built aiger).subs
 subcommands_are_bounded = (
-  (search rules, λ rows h. unless_refused _ (converts (conversion rows)) (limit_is_in _ _ refl refl rows h)),
+  (search rules, λ rows h. to_aig_is_in rows (limit_is_in _ _ refl refl rows h)),
   (
     (search rules, λ rows h. unless_refused _ (simulates (simulation rows)) (limit_is_in _ _ refl refl rows h)),
     (

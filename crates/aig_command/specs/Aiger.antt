@@ -36,7 +36,8 @@ with_rules = fold with_rule
 abbrev pub to_aig : App
 to_aig = with_rules (new_app (codes "aigtoaig"))
     (flag (codes "ascii") ∷ flag (codes "strip") ∷ flag (codes "keep-map") ∷ flag (codes "undo-map")
-    ∷ flag (codes "outputs-as-bad") ∷ max_var ∷ new_rule (codes "source") ∷ new_rule (codes "destination") ∷ [])
+    ∷ flag (codes "outputs-as-bad") ∷ flag (codes "sync") ∷ max_var ∷ new_rule (codes "source")
+    ∷ new_rule (codes "destination") ∷ [])
 
 -- the name of a file that has to be given
 abbrev pub required_file : Text → Rule
@@ -74,8 +75,8 @@ solver_file name = record (new_rule name) { long = Some name; action = Some Set;
 abbrev pub aigunroll : App
 aigunroll = with_rules (new_app (codes "aigunroll"))
     (frames ∷ flag (codes "ascii") ∷ flag (codes "cnf") ∷ solver_file (codes "answer")
-    ∷ solver_file (codes "refutation") ∷ solver_file (codes "invariant") ∷ bad ∷ max_var
-    ∷ new_rule (codes "source") ∷ new_rule (codes "destination") ∷ [])
+    ∷ solver_file (codes "refutation") ∷ solver_file (codes "invariant") ∷ bad ∷ flag (codes "sync")
+    ∷ max_var ∷ new_rule (codes "source") ∷ new_rule (codes "destination") ∷ [])
 
 -- a command that has to be given a subcommand, has none for help, and has a version, as its subcommands have
 abbrev pub above : App → App

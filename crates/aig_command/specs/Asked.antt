@@ -65,6 +65,12 @@ abbrev pub destination_refusal : Option Text → Option Usage
 destination_refusal destination =
     if ends_in (codes ".gz") destination then Some usage.CompressedOutput else None
 
+-- the reason to refuse to wait for the disk: there is no file to wait for
+abbrev pub sync_refusal : List Row → Option Usage
+sync_refusal rows =
+    if is_set (codes "sync") rows && is_none (file (codes "destination") rows)
+    then Some usage.SyncNeedsDestination else None
+
 -- a conversion: from which file to which, and how
 pub record Conversion : Type 0 where
   pub ascii : Bool
@@ -264,7 +270,9 @@ AsksWithinLimits (refused reason) = ⊤
 
 -- what the arguments of `aigtoaig` ask for
 abbrev pub to_aig : List Row → Asked
-to_aig rows = option_map_or refused (refusal (conversion rows)) (converts (conversion rows))
+to_aig rows =
+    option_map_or refused (refusal (conversion rows))
+    (option_map_or refused (sync_refusal rows) (converts (conversion rows)))
 
 -- what the arguments of `aigsim` ask for
 abbrev pub aigsim : List Row → Asked
@@ -288,10 +296,11 @@ asked_proving rows = option_map_or refused (proving_refusal (proving rows)) (pro
 abbrev pub aigunroll : List Row → Asked
 aigunroll rows =
     option_map_or refused (options_refusal rows)
+    (option_map_or refused (sync_refusal rows)
     (if is_given (codes "invariant") rows then asked_proving rows
     else if is_given (codes "answer") rows then asked_reaching files.Answer rows
     else if is_given (codes "refutation") rows then asked_reaching files.Refutation rows
-    else asked_unrolling rows)
+    else asked_unrolling rows))
 
 -- each subcommand: its name, and what its arguments ask for
 abbrev pub subcommands : List (Text × (List Row → Asked))
@@ -308,3 +317,9 @@ faults = fault_of aiger
 -- what the arguments ask for, the program's name first, where `clap` takes them
 abbrev pub command_of : List Text → Option Asked
 command_of words = if length (faults words) == 0 then option_and_then asked_by (subcommand_of aiger words) else None
+
+-- The disk is to have the destination before the program ends. No text depends on it.
+abbrev pub asks_sync : List Text → Bool
+asks_sync words =
+    if length (faults words) == 0
+    then option_map_or (λ met. is_set (codes "sync") met.1) (subcommand_of aiger words) false else false

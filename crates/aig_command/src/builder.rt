@@ -205,6 +205,10 @@ const OUTPUTS_AS_BAD_HELP: &str = "\
 Write the outputs as bad states; not with --keep-map or
 --undo-map";
 
+const SYNC_HELP: &str = "\
+End only once the disk has the destination; not for
+the standard output";
+
 const ASCII_HELP: &str = "Write ASCII, whatever the destination is named";
 
 const SOURCE_HELP: &str = "The file to read; - or none is the standard input";
@@ -323,6 +327,7 @@ fn to_aig<'a>(alloc: Global) -> Result<Command<'a>, AllocError>
     let command = with_argument(command, flag(alloc, "keep-map", KEEP_MAP_HELP));
     let command = with_argument(command, flag(alloc, "undo-map", UNDO_MAP_HELP));
     let command = with_argument(command, flag(alloc, "outputs-as-bad", OUTPUTS_AS_BAD_HELP));
+    let command = with_argument(command, flag(alloc, "sync", SYNC_HELP));
     let command = with_argument(command, max_var(alloc));
     let command = with_argument(command, file(alloc, "source", SOURCE_HELP));
     with_argument(command, file(alloc, "destination", DESTINATION_HELP))
@@ -352,6 +357,7 @@ fn aigunroll<'a>(alloc: Global) -> Result<Command<'a>, AllocError>
     let command = with_argument(command, solver_file(alloc, "refutation", REFUTATION_HELP));
     let command = with_argument(command, solver_file(alloc, "invariant", INVARIANT_HELP));
     let command = with_argument(command, bad(alloc));
+    let command = with_argument(command, flag(alloc, "sync", SYNC_HELP));
     let command = with_argument(command, max_var(alloc));
     let command = with_argument(command, file(alloc, "source", SOURCE_HELP));
     with_argument(command, file(alloc, "destination", DESTINATION_HELP))

@@ -1,11 +1,11 @@
-//! What the name of a destination says of what is written there.
+//! What a destination's name says of what is written there, and whether the disk is to have it.
 ghost use Rattle.std.specs.Prelude.{◌≡◌, IfErr, None, nat_eq, OnOk, Some};
 ghost use Rattle.std.specs.List.{ends_with};
 ghost use Rattle.clap.specs.Words.{found_of, rows_of};
 ghost use Rattle.aig_command.specs.Answer.{IsReason, name_of};
-ghost use Rattle.aig_command.specs.Asked.{destination_refusal, ends_in, wants_ascii};
+ghost use Rattle.aig_command.specs.Asked.{destination_refusal, ends_in, sync_refusal, wants_ascii};
 
-use crate::options::is_set;
+use crate::options::{is_named, is_set};
 use crate::usage::Usage;
 use clap::ArgMatches;
 
@@ -37,6 +37,17 @@ pub(crate) fn check_destination(destination: &Option<String>) -> Result<(), Usag
 {
     if ends_in(destination, ".gz") {
         return Err(Usage::CompressedOutput);
+    }
+    Ok(())
+}
+
+pub(crate) fn check_sync(matches: &ArgMatches<'_>) -> Result<(), Usage>
+    ensures ok { OnOk result (sync_refusal (rows_of (found_of matches.now)) ≡ None) }
+    ensures err { IfErr result (λ reason. IsReason reason
+        × (sync_refusal (rows_of (found_of matches.now)) ≡ Some reason)) }
+{
+    if is_set(matches, "sync") && !is_named(matches, "destination") {
+        return Err(Usage::SyncNeedsDestination);
     }
     Ok(())
 }

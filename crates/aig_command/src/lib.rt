@@ -1,7 +1,7 @@
 //! The command line: how it is read, and what it asks for.
 //!
-//! Others call `command`, which makes a `Command` of the arguments, or a `Usage` that says why they
-//! are refused. No other library knows `clap`.
+//! Others call `command`, which makes a `CommandLine` of the arguments, or a `Usage` that says why
+//! they are refused. No other library knows `clap`.
 //!
 //! The definitions that matter most are `command_of`, `IsCommand` and `IsUsage`.
 #![tactic(auto)]
@@ -21,5 +21,7 @@ mod usage;
 
 pub use crate::builder::VERSION;
 pub use crate::reader::command;
-pub use crate::request::{Command, Invariant, Reach, Sim, SolverFile, ToAig, Unroll, UnrolledForm};
+pub use crate::request::{
+    Command, CommandLine, Invariant, Reach, Sim, SolverFile, ToAig, Unroll, UnrolledForm,
+};
 pub use crate::usage::Usage;

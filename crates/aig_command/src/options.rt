@@ -1,5 +1,5 @@
 //! Options and names of files that several requests have.
-ghost use Rattle.std.specs.Prelude.{◌≡◌, IfOk};
+ghost use Rattle.std.specs.Prelude.{◌≡◌, IfOk, is_some};
 ghost use Rattle.clap.specs.Words.{found_of, rows_of};
 ghost use Rattle.aig_command.specs.Answer.{name_of};
 ghost use Rattle.aig_command.specs.Asked.{bad_number, file, frames, is_given};
@@ -48,6 +48,16 @@ pub(crate) fn is_given(matches: &ArgMatches<'_>, name: &str) -> bool
     ensures { result ≡ is_given name.now (rows_of (found_of matches.now)) }
 {
     matches.get_str(name).is_some()
+}
+
+/// Whether a file is named at this place.
+pub(crate) fn is_named(matches: &ArgMatches<'_>, place: &str) -> bool
+    ensures { result ≡ is_some (file place.now (rows_of (found_of matches.now))) }
+{
+    match matches.get_str(place) {
+        Some(name) => name != "-",
+        None => false,
+    }
 }
 
 /// The file that is named at this place; no name, or `-`, is the standard stream.

@@ -1,16 +1,18 @@
 //! What a command line asks for.
-ghost use Rattle.std.specs.Prelude.{◌≡◌, ◌<◌, IfErr, IfOk, IfSome, is_some};
+ghost use Rattle.std.specs.Prelude.{◌≡◌, ◌<◌, codes, false, IfErr, IfOk, IfSome, is_some};
 ghost use Rattle.std.specs.Prelude.{option_and_then, string_bytes, string_len, true};
 ghost use Rattle.std.specs.List.{list_any};
+ghost use Rattle.std.specs.Option.{option_map_or};
 ghost use Rattle.clap.specs.Words.{FailsBy, HasMatchesOf, kind_of, subcommand_rows_of, takes};
 ghost use Rattle.clap.specs.declared.error.kind.ErrorKind.TheVariants.{OutOfMemory};
 ghost use Rattle.aig_command.specs.Aiger.{aiger};
 ghost use Rattle.aig_command.specs.Answer.{asks_for, CanDo, is_option, texts};
 ghost use Rattle.aig_command.specs.Answer.{IsAnswer, IsCommand, IsErrorAnswer, IsUsage};
-ghost use Rattle.aig_command.specs.Asked.{asked_by, faults, AsksWithinLimits};
+ghost use Rattle.aig_command.specs.Asked.{asked_by, asks_sync, AsksWithinLimits, faults, is_set};
 
 use crate::builder::aiger;
-use crate::request::Command;
+use crate::options::is_set;
+use crate::request::{Command, CommandLine};
 use crate::sim::aigsim;
 use crate::to_aig::to_aig;
 use crate::unroll::aigunroll;
@@ -44,6 +46,17 @@ fn read_matches(alloc: Global, matches: &ArgMatches<'_>) -> Result<Command, Usag
         "aigsim" => aigsim(alloc, words),
         "aigunroll" => aigunroll(alloc, words),
         _ => unreachable!(),
+    }
+}
+
+/// Whether the options of the command have `--sync`.
+fn asks_sync(matches: &ArgMatches<'_>) -> bool
+    ensures { result ≡ option_map_or (λ met. is_set (codes "sync") met.1)
+        (subcommand_rows_of matches.now) false }
+{
+    match matches.subcommand() {
+        Some((_, words)) => is_set(words, "sync"),
+        None => false,
     }
 }
 
@@ -108,13 +121,20 @@ fn error_answer(alloc: Global, words: &[String], error: &Error) -> Result<Comman
 /// What a command line asks for, given as its arguments, the program's name first. It is refused
 /// where it has not the form of a command, and where what it asks for cannot be done. No file is
 /// looked at.
-pub fn command(alloc: Global, words: &[String]) -> Result<Command, Usage>
-    ensures ok { IfOk result (IsCommand (texts words.now)) }
-    ensures can_do { IfOk result CanDo }
+pub fn command(alloc: Global, words: &[String]) -> Result<CommandLine, Usage>
+    ensures ok { IfOk result (λ line. IsCommand (texts words.now) line.command) }
+    ensures can_do { IfOk result (λ line. CanDo line.command) }
+    ensures sync { IfOk result (λ line. line.sync ≡ asks_sync (texts words.now)) }
     ensures err { IfErr result (IsUsage (texts words.now)) }
 {
     match parse(alloc, words) {
-        Ok(matches) => read_matches(alloc, &matches),
-        Err(error) => error_answer(alloc, words, &error),
+        Ok(matches) => Ok(CommandLine {
+            command: read_matches(alloc, &matches)?,
+            sync: asks_sync(&matches),
+        }),
+        Err(error) => Ok(CommandLine {
+            command: error_answer(alloc, words, &error)?,
+            sync: false,
+        }),
     }
 }

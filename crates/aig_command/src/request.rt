@@ -141,3 +141,13 @@ pub enum Command {
     /// The program's version; this is its text.
     Version(String),
 }
+
+/// What a command line asks for, and how its destination is left.
+#[derive(Drop)]
+pub struct CommandLine {
+    /// What is done.
+    pub command: Command,
+    /// Whether the disk is to have the destination before the program ends. This stands only where
+    /// the destination has a name.
+    pub sync: bool,
+}

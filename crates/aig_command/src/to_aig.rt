@@ -5,7 +5,7 @@ ghost use Rattle.aig_command.specs.Answer.{CanDo, conversion_of, IsAnswer, IsKep
 ghost use Rattle.aig_command.specs.Answer.{IsWithoutMap};
 ghost use Rattle.aig_command.specs.Asked.{conversion, refusal, to_aig};
 
-use crate::destination::{check_destination, wants_ascii};
+use crate::destination::{check_destination, check_sync, wants_ascii};
 use crate::options::{is_set, limit, named_file};
 use crate::request::{Command, ToAig};
 use crate::usage::Usage;
@@ -61,5 +61,6 @@ pub(crate) fn to_aig(alloc: Global, matches: &ArgMatches<'_>) -> Result<Command,
 {
     let request = conversion(alloc, matches)?;
     check_request(&request)?;
+    check_sync(matches)?;
     Ok(Command::ToAig(request))
 }

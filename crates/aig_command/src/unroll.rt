@@ -5,7 +5,7 @@ ghost use Rattle.aig_command.specs.Answer.{CanDo, IsAnswer, IsReason, name_of, u
 ghost use Rattle.aig_command.specs.Asked.{aigunroll, asked_unrolling, AsksWithinLimits};
 ghost use Rattle.aig_command.specs.Asked.{options_refusal, unrolled_form, unrolling};
 
-use crate::destination::{check_destination, wants_ascii};
+use crate::destination::{check_destination, check_sync, wants_ascii};
 use crate::options::{bad_number, frame_count, is_given, is_set, limit, named_file};
 use crate::proving::asked_proving;
 use crate::reach::asked_reaching;
@@ -95,6 +95,7 @@ pub(crate) fn aigunroll(alloc: Global, matches: &ArgMatches<'_>) -> Result<Comma
     ensures can_do { IfOk result CanDo }
 {
     check_options(matches)?;
+    check_sync(matches)?;
     if is_given(matches, "invariant") {
         return asked_proving(alloc, matches);
     }

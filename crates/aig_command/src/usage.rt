@@ -52,6 +52,8 @@ pub enum Usage {
     InvariantIsModel,
     /// Both an invariant and a refutation for it are read from the standard input.
     RefutationIsInvariant,
+    /// The disk is to have a destination that is the standard output.
+    SyncNeedsDestination,
     /// An allocation failed; nothing is known of the command line.
     OutOfMemory,
 }
@@ -83,6 +85,7 @@ impl Usage {
             Usage::InvariantNeedsClauses => "--invariant needs --cnf or --refutation",
             Usage::InvariantIsModel => "model and invariant are both standard input",
             Usage::RefutationIsInvariant => "invariant and refutation are both standard input",
+            Usage::SyncNeedsDestination => "--sync needs the name of a destination",
             Usage::OutOfMemory => "out of memory",
         }
     }

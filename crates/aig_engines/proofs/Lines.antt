@@ -51,6 +51,7 @@ line_of_usage usages.InvariantAlone other = refl
 line_of_usage usages.InvariantNeedsClauses other = refl
 line_of_usage usages.InvariantIsModel other = refl
 line_of_usage usages.RefutationIsInvariant other = refl
+line_of_usage usages.SyncNeedsDestination other = refl
 line_of_usage usages.OutOfMemory other = refl
 
 -- where an answer is no success it is an error

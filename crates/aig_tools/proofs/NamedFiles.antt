@@ -1,5 +1,5 @@
 -- What devices tell of the sources and the destination that a request names.
-use Rattle.std.proofs.Common.{◌≡◌, ◌<◌, ◌∷◌, ◌++◌, ◌∙◌, ℕ, List, [], length, take, Option, None, Some, false, true}
+use Rattle.std.proofs.Common.{◌≡◌, ◌<◌, ◌∷◌, ◌∙◌, ℕ, List, [], length, take, Option, None, Some, false, true}
 use Rattle.std.proofs.Common.{Result, Ok, Err, OnErr, OnOk, refl, sym, ap, arith}
 use lib.Seq.{take-length}
 use Rattle.aig_io.specs.Devices.{Past, TookBeginning, took, unused}
@@ -8,7 +8,7 @@ use Rattle.aig_io.specs.Files.{used}
 use Rattle.aig_io.specs.Runs.{All, AtEnd, Beginning, Broken, Ending, IsCut, NotSent, Open, Ran, Read}
 use Rattle.aig_io.specs.Runs.{Sent, Taking, came}
 use Rattle.aig_io.proofs.Runs.{read_weaker}
-use Rattle.aig_files.specs.Named.{IsFailure, IsShown, closing, named, used_as}
+use Rattle.aig_files.specs.Named.{IsFailure, IsShown, named, used_as}
 use Rattle.aig_engines.specs.declared.fault.ToolFault.{ToolFault}
 use Rattle.aig_engines.specs.declared.fault.ToolFault.TheVariants as faults
 use Rattle.aig_engines.specs.Outcome.{Says}

@@ -1,18 +1,18 @@
 //! What the program does with its arguments.
-ghost use Rattle.std.specs.Prelude.{◌≡◌, ◌≤◌, None};
+ghost use Rattle.std.specs.Prelude.{◌≡◌, ◌≤◌, None, Ok};
 ghost use Rattle.aig_io.specs.Devices.{CanFail};
 ghost use Rattle.aig_command.specs.Aiger.{most_frames};
-ghost use Rattle.aig_command.specs.Answer.{CanReach, name_of, texts};
+ghost use Rattle.aig_command.specs.Answer.{CanDo, CanReach, name_of, texts};
 ghost use Rattle.aig_engines.specs.Outcome.{Says};
 ghost use Rattle.aig_engines.specs.Messages.{memory_line, IsReported, usage_text, words_line};
-ghost use Rattle.aig_tools.specs.Ending.{AskedEnds, done_status, Ends, EndsBetween};
+ghost use Rattle.aig_tools.specs.Ending.{AskedEnds, done_status, Ends, EndsAs, EndsBetween};
 ghost use Rattle.aig_tools.specs.Ending.{InvariantEnds, IsPrinted, NeverEnds, ReachEnds};
 ghost use Rattle.aig_tools.specs.Ending.{SimulationEnds, SolverSays, status_of};
 ghost use Rattle.aig_tools.specs.Named.{world};
 ghost use Rattle.aig_unroll.specs.Unrolled.{IsTooLarge, IsUnsupported};
 
 use crate::named::{read_invariant, read_model_asked, read_model_proved, run_between, run_model};
-use aig_command::{Command, Invariant, Reach, Sim, SolverFile, Usage, command};
+use aig_command::{Command, CommandLine, Invariant, Reach, Sim, SolverFile, Usage, command};
 use aig_core::{Checked, Output, Sink, Source};
 use aig_engines::{
     AnswerFor, Engine, InvariantFor, NeverFor, RefutationFor, report_error, report_memory,
@@ -310,6 +310,38 @@ fn refuse<E: Sink>(errors: &mut E, usage: &Usage) -> u8
     }
 }
 
+/// Does what a command line asks for, and answers the status.
+fn run_command<A: FileAccess, R: Source, W: Sink, E: Sink>(
+    alloc: Global,
+    access: &mut A,
+    command: Command,
+    input: &mut R,
+    output: &mut W,
+    errors: &mut E,
+) -> u8
+    requires input { CanFail (R.past input.old) }
+    requires output { CanFail (W.past output.old) }
+    requires errors { CanFail (E.past errors.old) }
+    requires idle { (A.files access.old).current ≡ None }
+    requires can_do { CanDo command }
+    ensures idle { (A.files access.new).current ≡ None }
+    ensures ends { EndsAs (Ok command)
+        (world (A.files access.old) (R.past input.old) (W.past output.old))
+        (world (A.files access.new) (R.past input.new) (W.past output.new))
+        (E.past errors.old) (E.past errors.new) result }
+    ensures status { result ≤ 1 }
+{
+    match command {
+        Command::ToAig(request) => run_reporting(alloc, access, &request, input, output, errors),
+        Command::Unroll(request) => run_reporting(alloc, access, &request, input, output, errors),
+        Command::Reach(request) => run_reach(alloc, access, request, input, output, errors),
+        Command::Invariant(request) => run_invariant(alloc, access, request, input, output, errors),
+        Command::Sim(request) => run_simulation(alloc, access, &request, input, output, errors),
+        Command::Help(text) => print_text(text.as_str(), output, errors),
+        Command::Version(text) => print_text(text.as_str(), output, errors),
+    }
+}
+
 /// Does what the arguments ask for, the program's name first, over the three streams and the files
 /// that they name, and answers the status: 0 done; 1 refused input, a witness that is not
 /// confirmed, a device that failed or out of memory; 2 refused words. An error is reported on
@@ -334,21 +366,12 @@ pub fn serve<A: FileAccess, R: Source, W: Sink, E: Sink>(
     ensures status { result ≤ 2 }
 {
     match command(alloc, words) {
-        Ok(Command::ToAig(request)) => {
-            run_reporting(alloc, access, &request, input, output, errors)
+        Ok(CommandLine { command, sync }) => {
+            if sync {
+                access.sync_before_close();
+            }
+            run_command(alloc, access, command, input, output, errors)
         }
-        Ok(Command::Unroll(request)) => {
-            run_reporting(alloc, access, &request, input, output, errors)
-        }
-        Ok(Command::Reach(request)) => run_reach(alloc, access, request, input, output, errors),
-        Ok(Command::Invariant(request)) => {
-            run_invariant(alloc, access, request, input, output, errors)
-        }
-        Ok(Command::Sim(request)) => {
-            run_simulation(alloc, access, &request, input, output, errors)
-        }
-        Ok(Command::Help(text)) => print_text(text.as_str(), output, errors),
-        Ok(Command::Version(text)) => print_text(text.as_str(), output, errors),
         Err(usage) => refuse(errors, &usage),
     }
 }

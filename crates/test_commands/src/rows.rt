@@ -1,12 +1,14 @@
 //! Command lines and what is answered to them.
 use aig_command::{
-    Command, Invariant, Reach, Sim, SolverFile, ToAig, Unroll, UnrolledForm, Usage, command,
+    Command, CommandLine, Invariant, Reach, Sim, SolverFile, ToAig, Unroll, UnrolledForm, Usage,
+    command,
 };
 use std::alloc::{AllocError, Global};
 use std::test::Fail;
 
 /// Arguments after the program's name, and what they ask for: the options of the conversion, its
-/// limit, its source and its destination. `<>` is a name of no bytes.
+/// limit, its source and its destination, and before these whether the disk is to have it. `<>` is a
+/// name of no bytes.
 const CONVERSIONS: &str = "\
 aigtoaig => 2147483647 - -;\
 aigtoaig a.aig => 2147483647 a.aig -;\
@@ -23,6 +25,9 @@ aigtoaig --keep-map => keep-map 2147483647 - -;\
 aigtoaig --undo-map --strip a b => strip undo-map 2147483647 a b;\
 aigtoaig --outputs-as-bad => outputs-as-bad 2147483647 - -;\
 aigtoaig --strip a --outputs-as-bad b.aag => ascii strip outputs-as-bad 2147483647 a b.aag;\
+aigtoaig --sync a b.aag => sync ascii 2147483647 a b.aag;\
+aigtoaig - --strip b --sync => sync strip 2147483647 - b;\
+aigtoaig -- --sync b => 2147483647 --sync b;\
 aigtoaig --max-var 0 => 0 - -;\
 aigtoaig a --max-var=2147483647 b => 2147483647 a b;\
 aigtoaig --max-var +007 => 7 - -;\
@@ -78,6 +83,7 @@ aigunroll --frames=20 a.aig => 20 2147483647 a.aig -;\
 aigunroll --frames 01 => 1 2147483647 - -;\
 aigunroll --frames +0000020 => 20 2147483647 - -;\
 aigunroll a.aig --frames 2 b.aig => 2 2147483647 a.aig b.aig;\
+aigunroll a.aig --frames 2 b.aag --sync => sync 2 ascii 2147483647 a.aig b.aag;\
 aigunroll a.aig b.aag --frames 2 => 2 ascii 2147483647 a.aig b.aag;\
 aigunroll --frames 2 - b.aag => 2 ascii 2147483647 - b.aag;\
 aigunroll --frames 2 a.aag => 2 2147483647 a.aag -;\
@@ -188,6 +194,11 @@ aigsim --vcd - => model and stimulus are both standard input;\
 aigsim --vcd --witness --properties - => model and stimulus are both standard input;\
 aigsim --vcd --witness --batch m => --witness stands alone;\
 aigsim --properties --witness --vcd m => --witness stands alone;\
+aigtoaig --sync => --sync needs the name of a destination;\
+aigtoaig --sync a => --sync needs the name of a destination;\
+aigtoaig a --sync - => --sync needs the name of a destination;\
+aigtoaig --sync --keep-map --ascii => --keep-map needs binary output;\
+aigtoaig --sync - x.gz => compressed output is not supported;\
 aigsim --properties --vcd m => --vcd excludes --properties;\
 aigsim --batch --max-var 7 --vcd --properties - s => --vcd excludes --properties;\
 aigunroll --frames 2 - x.aig.gz => compressed output is not supported;\
@@ -208,6 +219,9 @@ aigunroll --refutation a --frames 2 --answer a m x.gz \
 => --refutation excludes --cnf, --ascii and --answer;\
 aigunroll --frames 2 --bad 0 => --bad needs --cnf, --answer or --refutation;\
 aigunroll --bad 7 --ascii --frames 2 - x.gz => --bad needs --cnf, --answer or --refutation;\
+aigunroll --frames 2 --sync => --sync needs the name of a destination;\
+aigunroll --frames 2 --sync --answer - => --sync needs the name of a destination;\
+aigunroll --frames 2 --sync --bad 0 => --bad needs --cnf, --answer or --refutation;\
 aigunroll --frames 2 --bad 1 -- --cnf --answer => --bad needs --cnf, --answer or --refutation;\
 aigunroll --frames 2 --bad 1 -- --refutation p => --bad needs --cnf, --answer or --refutation;\
 aigunroll --frames 2 --answer - => model and answer are both standard input;\
@@ -551,21 +565,34 @@ fn shown_proving(alloc: Global, request: &Invariant) -> Result<String, AllocErro
     format!(in alloc; "{bad} {limit} {model} {file} {work} {destination}")
 }
 
-fn shown_answer(alloc: Global, answered: &Result<Command, Usage>) -> Result<String, AllocError> {
+fn shown_command(alloc: Global, command: &Command) -> Result<String, AllocError> {
+    match command {
+        Command::ToAig(request) => shown_conversion(alloc, request),
+        Command::Sim(request) => shown_simulation(alloc, request),
+        Command::Unroll(request) => shown_unrolling(alloc, request),
+        Command::Reach(request) => shown_reaching(alloc, request),
+        Command::Invariant(request) => shown_proving(alloc, request),
+        Command::Help(_) => String::from_str(alloc, "help"),
+        Command::Version(_) => String::from_str(alloc, "version"),
+    }
+}
+
+fn shown_answer(
+    alloc: Global,
+    answered: &Result<CommandLine, Usage>,
+) -> Result<String, AllocError> {
     match answered {
-        Ok(Command::ToAig(request)) => shown_conversion(alloc, request),
-        Ok(Command::Sim(request)) => shown_simulation(alloc, request),
-        Ok(Command::Unroll(request)) => shown_unrolling(alloc, request),
-        Ok(Command::Reach(request)) => shown_reaching(alloc, request),
-        Ok(Command::Invariant(request)) => shown_proving(alloc, request),
-        Ok(Command::Help(_)) => String::from_str(alloc, "help"),
-        Ok(Command::Version(_)) => String::from_str(alloc, "version"),
+        Ok(line) => {
+            let sync = if line.sync { "sync " } else { "" };
+            let command = shown_command(alloc, &line.command)?;
+            format!(in alloc; "{sync}{command}")
+        }
         Err(Usage::Words(_)) => String::from_str(alloc, "words"),
         Err(usage) => format!(in alloc; "{usage}"),
     }
 }
 
-fn answered_to(alloc: Global, line: &str) -> Result<Result<Command, Usage>, AllocError> {
+fn answered_to(alloc: Global, line: &str) -> Result<Result<CommandLine, Usage>, AllocError> {
     let words = words_of(alloc, line)?;
     Ok(command(alloc, words.as_slice()))
 }
@@ -637,9 +664,14 @@ fn longest_line(text: &str) -> usize {
     longest
 }
 
-fn longest_of_help(answered: &Result<Command, Usage>) -> Option<usize> {
+fn longest_of_help(answered: &Result<CommandLine, Usage>) -> Option<usize> {
     match answered {
-        Ok(Command::Help(text)) => Some(longest_line(text.as_str())),
+        Ok(
+            CommandLine {
+                command: Command::Help(text),
+                sync: _,
+            },
+        ) => Some(longest_line(text.as_str())),
         _ => None,
     }
 }

@@ -46,7 +46,7 @@ aiger aigtoaig source destination.aag$aag 3 1 1 2 0
 2
 0
 #\
-aiger aigtoaig --strip source destination$aag 9 1 0 1 0
+aiger aigtoaig --sync --strip source destination$aag 9 1 0 1 0
 18
 19
 i0 a
@@ -74,7 +74,7 @@ aigmap end
 18
 19
 #\
-aiger aigunroll --frames 2 source destination.aag$aag 1 0 1 1 0
+aiger aigunroll --frames 2 --sync source destination.aag$aag 1 0 1 1 0
 2 3
 2
 =aag 0 0 0 2 0
@@ -142,15 +142,16 @@ fn files_in_pieces(rt: HostRuntime) -> Result<(), Fail> {
     Ok(())
 }
 
-/// On a disk it is not synced.
+/// On a disk it is synced where that is asked for.
 #[test]
 fn files_on_a_disk(rt: HostRuntime) -> Result<(), Fail> {
     let metadata = on_disk(&rt)?;
-    let synced = u32::from(metadata.dev() & 0x000f_ff00 == 0);
+    let unasked = u32::from(metadata.dev() & 0x000f_ff00 == 0);
     for row in ROWS.split('#') {
         let calls = Calls::none();
         let (words, mut files) = row_of(row, &calls);
         files.metadata = Some(&metadata);
+        let synced = if words.contains("--sync") { 1 } else { unasked };
         assert!(rt; is_reported(rt.alloc(), &files, words, 0, "") && calls.are(1, 1, synced));
     }
     Ok(())

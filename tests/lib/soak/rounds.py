@@ -12,7 +12,7 @@ LARGEST = 2**31 - 1
 WORDS = """aigtoaig aigtoaig aigsim aigsim aigunroll aigunroll --ascii --strip --keep-map --undo-map
     --outputs-as-bad --max-var --max-var=9 --max-var=2147483648 --frames --frames=2 --frames=0 --batch --properties
     --vcd --witness --cnf --cnf --bad=0 --bad=1 --answer=source --answer
-    --refutation=source --refutation --invariant=source --invariant --help -h -- - source source source out.aag
+    --refutation=source --refutation --invariant=source --invariant --sync --help -h -- - source source source out.aag
     out.aig out.gz 3 --unknown""".split() + [""]
 # what the arguments that refusals.py lists are refused for, in this order; and names of files that cannot be there
 REFUSED_WORDS = """aigtoaig --keep-map --ascii
@@ -35,6 +35,7 @@ aigunroll --invariant - --frames 2
 aigunroll --invariant - --bad 0
 aigunroll --invariant - --cnf
 aigunroll --invariant - --refutation - model
+aigtoaig --sync model
 aigtoaig \udcff""".split("\n")
 NO_FILES = {
     "aigtoaig none/source": "none/source: cannot read",
@@ -205,7 +206,7 @@ def hostile_words(here):
             words = [chance.choice(WORDS[:6]), *words]
         given = chance.choice([text, b"0\n", b""])
         here.ask(Call(words, given, {"source": text, "out.aig": b"as it was\n"}))
-    for words, told in zip(REFUSED_WORDS, refusals.OF_ARGUMENTS):
+    for words, told in zip(REFUSED_WORDS, refusals.OF_ARGUMENTS, strict=True):
         here.expect("words are refused", Call(words.split(), text), b"", f"aiger: {told}\n".encode(), 2)
     for words, told in NO_FILES.items():
         here.expect("a file that is not there", Call(words.split(), text), b"", f"aiger: {told}\n".encode(), 1)

@@ -1,3 +1,5 @@
+use Rattle.std.proofs.Common.{Err, Ok}
+use Rattle.std.proofs.lemmas.Result.{err_from_is_err_and}
 use Rattle.clap.specs.Words.{kind_of}
 use Rattle.aig_command.specs.Answer.{texts}
 use Rattle.aig_command.proofs.Answered.{refused_command, refused_usage, rows_known, rows_within, taken_command}
@@ -11,24 +13,29 @@ read_matches-requires c =
       within = rows_within (texts c.args.words.now) c.in-Ok.matches c.in-Ok.ensures.matches c.in-Ok.ensures.kinds;
     }
 
-pub returns-in-Ok-clause-ok : goal.returns-in-Ok-clause-ok
-returns-in-Ok-clause-ok c =
+pub returns-in_err-read_matches-in-Ok-clause-err : goal.returns-in_err-read_matches-in-Ok-clause-err
+returns-in_err-read_matches-in-Ok-clause-err c =
+    let h = err_from_is_err_and c.from_residual.result c.from_residual.ensures.1 in
+    rw (h.1, h.2)
+    (taken_usage (texts c.args.words.now) c.in-Ok.matches c.in-Ok.ensures.matches c.in-Ok.ensures.kinds
+    (Err c.in_err-read_matches-in-Ok.field-0.0) c.in_err-read_matches-in-Ok.ensures.answer)
+
+pub returns-in_err-error_answer-in-Err-clause-err : goal.returns-in_err-error_answer-in-Err-clause-err
+returns-in_err-error_answer-in-Err-clause-err c =
+    let h =
+    err_from_is_err_and c.from_residual-in_err-error_answer-in-Err.result
+    c.from_residual-in_err-error_answer-in-Err.ensures.1
+    in
+    rw (h.1, h.2)
+    (refused_usage (texts c.args.words.now) (kind_of c.in-Err.error) c.in-Err.ensures.passes c.in-Err.ensures.kinds
+    (Err c.in_err-error_answer-in-Err.field-0.0) c.in_err-error_answer-in-Err.ensures.answer)
+
+pub returns-in_ok-read_matches-in-Ok-clause-ok : goal.returns-in_ok-read_matches-in-Ok-clause-ok
+returns-in_ok-read_matches-in-Ok-clause-ok c =
     taken_command (texts c.args.words.now) c.in-Ok.matches c.in-Ok.ensures.matches c.in-Ok.ensures.kinds
-    c.read_matches.result
-    c.read_matches.ensures.answer
+    (Ok c.in_ok-read_matches-in-Ok.field-0) c.in_ok-read_matches-in-Ok.ensures.answer
 
-pub returns-in-Ok-clause-err : goal.returns-in-Ok-clause-err
-returns-in-Ok-clause-err c =
-    taken_usage (texts c.args.words.now) c.in-Ok.matches c.in-Ok.ensures.matches c.in-Ok.ensures.kinds
-    c.read_matches.result
-    c.read_matches.ensures.answer
-
-pub returns-in-Err-clause-ok : goal.returns-in-Err-clause-ok
-returns-in-Err-clause-ok c =
+pub returns-in_ok-error_answer-in-Err-clause-ok : goal.returns-in_ok-error_answer-in-Err-clause-ok
+returns-in_ok-error_answer-in-Err-clause-ok c =
     refused_command (texts c.args.words.now) (kind_of c.in-Err.error) c.in-Err.ensures.passes c.in-Err.ensures.kinds
-    c.error_answer.result c.error_answer.ensures.answer
-
-pub returns-in-Err-clause-err : goal.returns-in-Err-clause-err
-returns-in-Err-clause-err c =
-    refused_usage (texts c.args.words.now) (kind_of c.in-Err.error) c.in-Err.ensures.passes c.in-Err.ensures.kinds
-    c.error_answer.result c.error_answer.ensures.answer
+    (Ok c.in_ok-error_answer-in-Err.field-0) c.in_ok-error_answer-in-Err.ensures.answer
