@@ -3,3 +3,4 @@ pub mod Sections
 pub mod Faultless
 pub mod Reported
 pub mod InOrder
+pub mod Indexed

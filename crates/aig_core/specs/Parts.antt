@@ -2,3 +2,4 @@
 -- files.
 pub mod InOrder
 pub mod Parted
+pub mod Indexed

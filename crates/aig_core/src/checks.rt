@@ -42,8 +42,8 @@ pub fn check(
 pub enum Keep {
     /// The circuit alone: the least time and memory if nobody asks for an order of the gates later.
     Circuit,
-    /// The least ready order of the gates too, where they do not stand in order: for a binary
-    /// image, which would otherwise make it once more.
+    /// The least ready order of the gates too, where they do not stand in order or their indices
+    /// are spread: for a binary image, which would otherwise make it once more.
     Order,
 }
 

@@ -8,3 +8,4 @@ pub mod DepthFirst
 pub mod Lists
 pub mod Rows
 pub mod Waiting
+pub mod Index

@@ -1,4 +1,5 @@
 pub mod Order
+pub mod Index
 pub mod Cycle
 pub mod Needs
 pub mod Ready

@@ -11,7 +11,7 @@ ghost use Rattle.aig_topo.specs.Order.{depends_on_cycle};
 ghost use Rattle.aig_topo.specs.Cycle.{pair_of, needs_in, comes_to_end};
 ghost use Rattle.aig_topo.specs.Cycle.{IsAtEnd, IsSearch, IsRisen};
 
-use crate::operands::gate_index;
+use crate::index::GateIndex;
 use crate::steps::Steps;
 use aig_circuit::{Circuit, LARGEST, Lit};
 use aig_tables::VarMap;
@@ -54,13 +54,13 @@ fn all_pairs(alloc: Global, circuit: &Circuit) -> Result<Vec<Pair>, AllocError>
     ensures { IfOk result (λ all. all.items ≡ map (pair_of circuit.now.gates) circuit.now.gates) }
 {
     let gates = circuit.gates.as_slice();
-    let index = gate_index(alloc, circuit)?;
+    let index = GateIndex::new(alloc, circuit)?;
     let none = gates.len() as u32;
     let mut all = Vec::with_capacity(alloc, gates.len())?;
     for gate in gates {
         all.push(Pair {
-            left: operand_position(&index, gate.left, none),
-            right: operand_position(&index, gate.right, none),
+            left: operand_position(&index.positions, gate.left, none),
+            right: operand_position(&index.positions, gate.right, none),
         })?;
     }
     Ok(all)

@@ -4,11 +4,13 @@ ghost use Rattle.std.specs.Prelude.{map, slice_index_or, slice_set, IfOk};
 ghost use Rattle.std.specs.List.{AllByRecursion};
 ghost use Rattle.std.specs.Option.{IfSome, IfNone};
 ghost use Rattle.aig_circuit.specs.Wellformed.{IsAmong};
+ghost use Rattle.aig_topo.specs.Index.{IsIndexOf};
 ghost use Rattle.aig_topo.specs.Needs.{linked, needs_of, no_needs, how_many, under, AreThere};
 ghost use Rattle.aig_topo.specs.Lists.{needs_in, links_in, first_of, list_in, AreLists, AreNeedsOf};
 ghost use Rattle.aig_topo.specs.Waiting.{needs_by, rest_by};
 
-use crate::operands::{Needs, gate_index, look_up};
+use crate::index::GateIndex;
+use crate::operands::{Needs, look_up};
 use aig_circuit::{Circuit, LARGEST};
 use std::alloc::{AllocError, Global};
 
@@ -36,8 +38,13 @@ pub(crate) struct Lists {
 
 impl Lists {
     /// What the gates of a circuit need, and empty lists; and how many each of them needs, 0 to 2.
-    pub(crate) fn new(alloc: Global, circuit: &Circuit) -> Result<(Self, Vec<u8>), AllocError>
-        requires { length circuit.now.gates ≤ LARGEST }
+    pub(crate) fn new(
+        alloc: Global,
+        circuit: &Circuit,
+        index: &GateIndex,
+    ) -> Result<(Self, Vec<u8>), AllocError>
+        requires few { length circuit.now.gates ≤ LARGEST }
+        requires index { IsIndexOf circuit.now.gates index.now }
         ensures needs { IfOk result (λ made.
             needs_in made.0.rows.items ≡ map (needs_of circuit.now.gates) circuit.now.gates) }
         ensures counts { IfOk result (λ made. made.1.items
@@ -46,11 +53,10 @@ impl Lists {
         ensures empty { IfOk result (λ made. (g : ℕ) → list_in made.0.rows.items g ≡ []) }
     {
         let gates = circuit.gates.as_slice();
-        let index = gate_index(alloc, circuit)?;
         let mut rows = Vec::with_capacity(alloc, gates.len())?;
         let mut counts = Vec::with_capacity(alloc, gates.len())?;
         for gate in gates {
-            let needs = look_up(&index, gate);
+            let needs = look_up(&index.positions, gate);
             counts.push(needs.count())?;
             rows.push(GateNode {
                 next: needs.left,
@@ -165,7 +171,17 @@ impl GateNeeds {
         requires { length circuit.now.gates ≤ LARGEST }
         ensures { IfOk result (λ all. AreNeedsOf circuit.now.gates all) }
     {
-        let (lists, counts) = Lists::new(alloc, circuit)?;
+        let index = GateIndex::new(alloc, circuit)?;
+        GateNeeds::by_index(alloc, circuit, &index)
+    }
+
+    /// What the gates of a circuit need, by their index.
+    pub fn by_index(alloc: Global, circuit: &Circuit, index: &GateIndex) -> Result<Self, AllocError>
+        requires few { length circuit.now.gates ≤ LARGEST }
+        requires index { IsIndexOf circuit.now.gates index.now }
+        ensures { IfOk result (λ all. AreNeedsOf circuit.now.gates all) }
+    {
+        let (lists, counts) = Lists::new(alloc, circuit, index)?;
         Ok(GateNeeds { lists, counts })
     }
 

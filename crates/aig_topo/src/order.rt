@@ -10,6 +10,7 @@ ghost use Rattle.aig_tables.specs.Parts.Marks.{is_marked};
 ghost use Rattle.aig_topo.specs.Order.{gates_under};
 ghost use Rattle.aig_topo.specs.Progress.{has_gate};
 
+use crate::index::GateIndex;
 use crate::lists::Lists;
 use crate::steps::Steps;
 use aig_circuit::{Circuit, LARGEST, OutOfMemory};
@@ -92,7 +93,8 @@ impl Order {
             (steps.new.count ≡ steps.old.count + 3 * length circuit.now.gates) }
         ensures few { steps.new.count ≤ steps.old.count + 3 * length circuit.now.gates }
     {
-        let (_lists, counts) = Lists::new(alloc, circuit)?;
+        let index = GateIndex::new(alloc, circuit)?;
+        let (_lists, counts) = Lists::new(alloc, circuit, &index)?;
         Ok(Order::waiting_for(alloc, counts, steps)?)
     }
 

@@ -214,7 +214,7 @@ link_told [] v = refl
 link_told (g ∷ gs) v = grind (arith, common_steps, link_told gs v)
 
 -- what the circuit defines is defined before gates, or a gate that is linked to defines it
-known_by_needs : (c : Circuit) (literal : ℕ)
+pub known_by_needs : (c : Circuit) (literal : ℕ)
     → is_known (with_all set.empty (defined_variables c)) literal
     ≡ (nat_lt 0 (link_to (gate_of c.gates (variable_of literal)))
     || is_known (with_all set.empty (c.inputs ++ map (λ (l : Latch). l.var) c.latches)) literal)

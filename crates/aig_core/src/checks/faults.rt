@@ -2,7 +2,7 @@
 //! literal that is used and not defined, or else the first gate that depends on a cycle.
 ghost use Rattle.std.specs.Prelude.{◌≡◌, ◌≤◌, ◌||◌, ◌+◌, ◌*◌, ◌++◌, IfOk, IfErr, OnOk};
 ghost use Rattle.std.specs.Prelude.{None, Some, length, map, nat_lt, if◌then◌else◌};
-ghost use Rattle.std.specs.List.{concat, flat_map};
+ghost use Rattle.std.specs.List.{concat, flat_map, list_all};
 ghost use Rattle.std.specs.Option.{option_map, option_to_list, IfSome};
 ghost use Rattle.std.specs.FinSet as set;
 ghost use Rattle.aig_circuit.specs.Wellformed.{defined_variables, literal_lists, operands};
@@ -14,14 +14,17 @@ ghost use Rattle.aig_topo.specs.Order.{first_cyclic, IsLeastReadyOrder};
 ghost use Rattle.aig_topo.specs.Lists.{AreNeedsOf};
 ghost use Rattle.aig_core.specs.declared.fault.CheckFault.TheVariants.{Cyclic as CyclicFault};
 ghost use Rattle.aig_core.specs.Parts.InOrder.{are_in_order, has_gates_in_order};
+ghost use Rattle.aig_core.specs.Parts.Indexed.{is_defined_by, is_no_gate};
+ghost use Rattle.aig_core.specs.Parts.Indexed.{is_latch_right, is_right_outside};
 ghost use Rattle.aig_core.specs.Steps.{steps_a_gate};
 ghost use Rattle.aig_circuit.specs.declared.circuit.TheConstants.{LARGEST as largest};
 
 use crate::checks::Keep;
+use crate::checks::distinct::is_spread;
 use crate::fault::CheckFault;
-use aig_circuit::{Circuit, Entry, Gate, LARGEST, Listing, Lit, OutOfMemory};
+use aig_circuit::{Circuit, Entry, Gate, LARGEST, Latch, Listing, Lit, OutOfMemory, Var};
 use aig_tables::VarSet;
-use aig_topo::{GateNeeds, Needs, Order, Steps, order_by_needs, search_for_cycle};
+use aig_topo::{GateIndex, GateNeeds, Needs, Order, Steps, order_by_needs, search_for_cycle};
 use std::alloc::Global;
 
 fn define<T: Entry>(seen: &mut VarSet, entry: &T) -> Result<(), CheckFault>
@@ -250,6 +253,98 @@ fn known_needs(alloc: Global, circuit: &Circuit) -> Result<GateNeeds, CheckFault
     }
 }
 
+/// Whether a literal is a constant, or over a gate or one of the variables that are defined before
+/// gates.
+#[inline(always)]
+fn is_defined(before: &VarSet, index: &GateIndex, literal: Lit) -> bool
+    ensures { result ≡ is_defined_by before.now index.now literal }
+{
+    index.has(literal.var()) || knows(before, literal)
+}
+
+fn are_defined(before: &VarSet, index: &GateIndex, literals: &[Lit]) -> bool
+    ensures { result ≡ list_all (is_defined_by before.now index.now) literals.now }
+{
+    for literal in literals {
+        if !is_defined(before, index, *literal) {
+            return false;
+        }
+    }
+    true
+}
+
+#[tactic(auto, using(crate::proofs::Checking::Indexed::all_joined))]
+fn are_lists_defined(before: &VarSet, index: &GateIndex, lists: &[&[Lit]]) -> bool
+    ensures { result ≡ list_all (is_defined_by before.now index.now)
+        (concat (map (λ ls. ls.now) lists.now)) }
+{
+    for list in lists {
+        if !are_defined(before, index, list) {
+            return false;
+        }
+    }
+    true
+}
+
+fn are_inputs_apart(index: &GateIndex, inputs: &[Var]) -> bool
+    ensures { result ≡ list_all (is_no_gate index.now) inputs.now }
+{
+    for input in inputs {
+        if index.has(*input) {
+            return false;
+        }
+    }
+    true
+}
+
+/// Whether no gate defines a latch's variable, and each next literal is defined.
+fn are_latches_right(before: &VarSet, index: &GateIndex, latches: &[Latch]) -> bool
+    ensures { result ≡ list_all (is_latch_right before.now index.now) latches.now }
+{
+    for latch in latches {
+        if index.has(latch.var) || !is_defined(before, index, latch.next) {
+            return false;
+        }
+    }
+    true
+}
+
+/// Whether no variable of a circuit is defined twice, and all that it uses outside of gates is
+/// defined, where the variables before its gates are each defined once.
+fn is_right_outside_gates(before: &VarSet, index: &GateIndex, circuit: &Circuit) -> bool
+    ensures { result ≡ is_right_outside before.now index.now circuit.now }
+{
+    index.is_once()
+        && are_inputs_apart(index, circuit.inputs.as_slice())
+        && are_latches_right(before, index, circuit.latches.as_slice())
+        && are_lists_defined(before, index, &circuit.literal_lists())
+}
+
+/// What the gates of a circuit need, where its variables are spread: each variable of a gate is put
+/// into one table alone, and no set is made of them. None where something is wrong outside of what
+/// gates use.
+fn spread_needs(alloc: Global, circuit: &Circuit) -> Result<Option<GateNeeds>, CheckFault>
+    requires in_form { IsInForm circuit.now }
+    ensures needs { IfOk result (λ some. IfSome some (λ needs.
+        AreNeedsOf circuit.now.gates needs)) }
+    ensures ok { IfOk result (λ some. IfSome some (λ _.
+        first_structural_fault circuit.now
+        ≡ option_map CyclicFault (first_cyclic circuit.now.gates))) }
+    ensures err { IfErr result (λ e. IsFault e (first_structural_fault circuit.now)) }
+{
+    let expected = circuit.inputs.len() + circuit.latches.len();
+    let before = definitions_before_gates(alloc, circuit, expected)?;
+    let index = GateIndex::new(alloc, circuit)?;
+    if !is_right_outside_gates(&before, &index, circuit) {
+        return Ok(None);
+    }
+    let needs = GateNeeds::by_index(alloc, circuit, &index)?;
+    match first_unknown_operand(&before, &needs, circuit) {
+        Some(literal) => Err(CheckFault::Undefined(literal)),
+        None => Ok(Some(needs)),
+    }
+}
+
 fn own_literal(gate: &Gate) -> Lit
     requires { gate.now.var ≤ largest }
     ensures { result ≡ 2 * gate.now.var }
@@ -328,7 +423,7 @@ fn find_undefined_operand(variables: &VarSet, circuit: &Circuit) -> Result<(), C
 
 /// Each map of its variables is let go before the next one is made.
 #[tactic(auto, using(crate::proofs::Checking::InOrder::in_order_faultless, crate::proofs::Checking::Sections::fault_of_gates))]
-pub(crate) fn find_fault(
+fn find_fault_by_sets(
     alloc: Global,
     circuit: &Circuit,
     keep: Keep,
@@ -358,4 +453,52 @@ pub(crate) fn find_fault(
             Ok(None)
         }
     }
+}
+
+/// What the gates of a circuit need, where their order is to be kept and one table serves.
+fn needs_of_order(
+    alloc: Global,
+    circuit: &Circuit,
+    keep: Keep,
+) -> Result<Option<GateNeeds>, CheckFault>
+    requires in_form { IsInForm circuit.now }
+    ensures needs { IfOk result (λ some. IfSome some (λ needs.
+        AreNeedsOf circuit.now.gates needs)) }
+    ensures keep { IfOk result (λ some. IfSome some (λ _. steps_a_gate keep ≡ 3)) }
+    ensures ok { IfOk result (λ some. IfSome some (λ _.
+        first_structural_fault circuit.now
+        ≡ option_map CyclicFault (first_cyclic circuit.now.gates))) }
+    ensures err { IfErr result (λ e. IsFault e (first_structural_fault circuit.now)) }
+{
+    match keep {
+        Keep::Circuit => Ok(None),
+        Keep::Order => {
+            if is_spread(circuit) {
+                spread_needs(alloc, circuit)
+            } else {
+                Ok(None)
+            }
+        }
+    }
+}
+
+/// The first fault of a circuit. Where there is none, the order of its gates, if that is to be kept
+/// and had to be made.
+pub(crate) fn find_fault(
+    alloc: Global,
+    circuit: &Circuit,
+    keep: Keep,
+    steps: &mut Steps,
+) -> Result<Option<Order>, CheckFault>
+    requires { IsInForm circuit.now }
+    ensures ok { OnOk result (first_structural_fault circuit.now ≡ None) }
+    ensures least { IfOk result (λ some.
+        IfSome some (λ order. IsLeastReadyOrder circuit.now order.list)) }
+    ensures err { IfErr result (λ e. IsFault e (first_structural_fault circuit.now)) }
+    ensures few { steps.new.count ≤ steps.old.count + steps_a_gate keep * length circuit.now.gates }
+{
+    let Some(needs) = needs_of_order(alloc, circuit, keep)? else {
+        return find_fault_by_sets(alloc, circuit, keep, steps);
+    };
+    Ok(Some(order_of_all(alloc, circuit, needs, steps)?))
 }

@@ -43,7 +43,7 @@ in_longer list g h a =
     (among_either h list (g ∷ []) a)
 
 -- distinct numbers and a new one at the end
-distinct_more : (xs : List ℕ) (g : ℕ) → AreDistinct xs → ¬ IsAmong g xs → AreDistinct (xs ++ g ∷ [])
+pub distinct_more : (xs : List ℕ) (g : ℕ) → AreDistinct xs → ¬ IsAmong g xs → AreDistinct (xs ++ g ∷ [])
 distinct_more [] g d new = (λ a. a, tt)
 distinct_more (x ∷ xs) g d new = (
   λ a. ⊎_elim d.0 (λ (e : x ≡ g). new (inl (sym e))) (in_longer xs g x a),

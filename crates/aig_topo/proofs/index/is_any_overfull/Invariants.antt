@@ -1,5 +1,5 @@
 use Rattle.std.proofs.Common.{◌≡◌, false}
-use Rattle.aig_topo.proofs.operands.is_any_overfull.Given as goal
+use Rattle.aig_topo.proofs.index.is_any_overfull.Given as goal
 
 abbrev pub invariant-loop-at : goal.invariant-loop-at
 invariant-loop-at l = l.any ≡ false
