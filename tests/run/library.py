@@ -661,7 +661,8 @@ def check_options(program):
     for command, (functions, chosen) in calls.items():
         said = subprocess.run([program, command, "--help"], stdout=subprocess.PIPE, text=True, check=True).stdout
         words = re.findall(r"^ {2,6}(?:-\w, )?--([a-z-]+)", said, re.M)
-        there = {it.replace("-", "_") for it in words} - {"help", "version"}
+        # (the library names no files, so none is to be on a disk)
+        there = {it.replace("-", "_") for it in words} - {"help", "version", "sync"}
         names = {name for it in functions for name in inspect.signature(it).parameters}
         here = names - {"data", "model", "stimulus", "witness", "answer", "refutation", "invariant"} | chosen
         judge(f"the options of {command}", there == here and len(there) > 1, there, here)

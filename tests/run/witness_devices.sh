@@ -311,7 +311,8 @@ refutations_left_alone() {
 # memory is taken for the clauses that are there, and not for those that are gone
 refutation_memory() {
     local lemma
-    refute_in_little() { ( ulimit -v 20480 && exec timeout 300 "$program" aigunroll --frames 1 --refutation - "$judged/four.aag" ); }
+    refute_in() { ( ulimit -v "$1" && exec timeout 300 "$program" aigunroll --frames 1 --refutation - "$judged/four.aag" ); }
+    refute_in_little() { refute_in 20480; }
     wants 'none within 1\n' '' 0
     lemma=$(many 1000 '2 3 ')
     { many 5000 "${lemma}0 d ${lemma}0 "; printf '3 0\n'; } | refute_in_little > "$work/out" 2> "$work/err"
@@ -326,7 +327,8 @@ refutation_memory() {
     yes 0 2> /dev/null | refute_in_little > "$work/out" 2> "$work/err"
     judge 'a forged refutation without an end' "${PIPESTATUS[1]}"
     wants '' 'aiger: out of memory\n' 1
-    yes '2 3 0' 2> /dev/null | refute_in_little > "$work/out" 2> "$work/err"
+    # (in less memory, since each lemma is sought among all those before it)
+    yes '2 3 0' 2> /dev/null | refute_in 14336 > "$work/out" 2> "$work/err"
     judge 'lemmas without an end' "${PIPESTATUS[1]}"
 }
 
