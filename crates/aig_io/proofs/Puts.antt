@@ -1,7 +1,8 @@
 -- Texts that are put, and go out through a block, one after another. A writer of several texts joins their contracts
 -- by these.
 use Rattle.std.proofs.Common.{◌≡◌, ◌+◌, ◌-◌, ◌%◌, ◌<◌, ◌≤◌, ◌++◌, ◌∙◌, ℕ, List, [], arith, length, min, take, rules}
-use Rattle.std.proofs.Common.{refl, sym, ap, append_assoc, Bool, true, false, drop, get_or, take-add, ap₂, subst, length-append}
+use Rattle.std.proofs.Common.{refl, sym, ap, append_assoc, Bool, true, false, drop, get_or, take-add, ap₂, subst}
+use Rattle.std.proofs.Common.{length-append}
 use Rattle.std.specs.List.{flat_map}
 use Rattle.std.proofs.lemmas.Grind.{common_steps}
 use Rattle.std.proofs.lemmas.List.{append-nil, take_min, take-append-le, take-append-drop}
@@ -96,7 +97,8 @@ text_of_more f xs i d low = grind (arith, common_steps)
 -- a line of numbers with one more
 pub row_of_more : (front : List ℕ) (f : ℕ → List ℕ) (xs : List ℕ) (i : ℕ) → i < length xs
     → (front ++ flat_map f (take i xs)) ++ f (get_or xs i 0) ≡ front ++ flat_map f (take (i + 1) xs)
-row_of_more front f xs i low = append_assoc front _ _ ∙ ap (λ (text : List ℕ). front ++ text) (text_of_more f xs i 0 low)
+row_of_more front f xs i low =
+    append_assoc front _ _ ∙ ap (λ (text : List ℕ). front ++ text) (text_of_more f xs i 0 low)
 
 module _ {W : Type 0} where
   begun_twice : (a b c : Out W) (t u : List ℕ) (failed : Bool) → b.failed ≡ failed → Put a b t → Put b c u

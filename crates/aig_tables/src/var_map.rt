@@ -23,10 +23,6 @@ mod table;
 /// Below so many indices for each definition of a circuit, each index has its place.
 const PLACES_PER_DEFINITION: usize = 3;
 
-/// From so many indices on, ranks and their places no longer stay near the processor. Then a place
-/// for each index is faster.
-const MOST_BY_RANK: usize = 1 << 21;
-
 /// Below so many indices for each definition of a circuit, each index has a bit.
 const BITS_PER_DEFINITION: usize = 32;
 
@@ -74,9 +70,7 @@ impl<T: MapValue> VarMap<T> {
     {
         let definitions = circuit.definition_count();
         let largest = circuit.max_var as usize;
-        let is_spread = largest >= definitions.saturating_mul(PLACES_PER_DEFINITION)
-            && (largest < MOST_BY_RANK
-                || largest >= definitions.saturating_mul(T::PLACES_PER_VARIABLE));
+        let is_spread = largest >= definitions.saturating_mul(PLACES_PER_DEFINITION);
         if !is_spread || largest >= definitions.saturating_mul(BITS_PER_DEFINITION) {
             return VarMap::new(alloc, definitions, circuit.max_var);
         }

@@ -94,7 +94,8 @@ module _ (before : FinSet nat_cmp) (index : GateIndex) where
         ∙ (latches_apart c.latches parts.2).0
 
     -- no gate's variable is defined before gates
-    apart : (y : ℕ) → IsAmong y (map (λ (g : Gate). g.var) c.gates) → ¬ (set.contains (with_all set.empty firsts) y ≡ true)
+    apart : (y : ℕ) → IsAmong y (map (λ (g : Gate). g.var) c.gates)
+        → ¬ (set.contains (with_all set.empty firsts) y ≡ true)
     apart y gate has =
         let some : is_some (get index.positions y) ≡ true =
         ap is_some (is.positions y) ∙ (defined_exactly c.gates y).1 gate in

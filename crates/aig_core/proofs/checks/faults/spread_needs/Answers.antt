@@ -16,7 +16,8 @@ returns-in-Some c =
     record {
       needs = tt;
       ok = tt;
-      err = inr (left ∙ ap (λ o. option_or (option_map Undefined o) (option_map Cyclic (first_cyclic circuit.gates))) unknown);
+      err = inr (
+          left ∙ ap (λ o. option_or (option_map Undefined o) (option_map Cyclic (first_cyclic circuit.gates))) unknown);
     }
 
 pub returns-clause-ok : goal.returns-clause-ok
