@@ -6,7 +6,7 @@ of a simulation the model and the stimulus by their names. Both must write the s
 are known. Then they take turns and write to /dev/null: a time is the least of the processor's, from the start of the
 process to its end, and a quotient is the program's by the peer's. The program has the settings of memory that ./aiger
 gives it. Of the circuits with the most gates the table has the time, simulated in a step, and unrolled of a gate written;
-and the peak of memory beyond that of the smallest file, of that which takes the most.
+and the peak of memory beyond that of the smallest file: of the circuit that takes the most, and of the random one.
 
 The status is 0, 1 where an output is wrong, or 2 where something is missing.
 """
@@ -162,7 +162,7 @@ class Task(NamedTuple):
 
 def measure(name, contenders, floors, sizes, runs):
     """The cells of a kind."""
-    kind, quotients, spent, held = KINDS[name], {}, [], []
+    kind, quotients, spent, held = KINDS[name], {}, [], {}
     contenders = contenders[: 1 + kind.has_peer]
     for task in (Task(kind, f"{family}-{size}") for size in sizes for family in kind.families):
         task.make(contenders[0])
@@ -173,11 +173,13 @@ def measure(name, contenders, floors, sizes, runs):
         if task.count() == max(sizes):
             peaks = [it.peak_bytes(task.words(), task.source()) - floor for it, floor in zip(contenders, floors)]
             spent.append(times[0] * 1e9 / task.units())
-            held.append([max(it, 0) / task.gates() for it in peaks])
+            held[task.name] = [max(it, 0) / task.gates() for it in peaks]
         print(name, task.name, *(f"{it * 1e3:.1f} ms" for it in times), file=sys.stderr, flush=True)
     worst = max(quotients, key=quotients.get, default="")
     shown = [f"{mean(quotients.values()):.2f}", f"{quotients[worst]:.2f}", worst] if worst else ["", "", ""]
-    return [f"`{name}`", *shown, digits(mean(spent)), *(f"{max(it):.0f}" for it in zip(*held))], quotients
+    ours, *peers = (f"{max(it):.0f}" for it in zip(*held.values()))
+    of_random = "".join(f"{it[0]:.0f}" for name, it in held.items() if name.startswith("random-"))
+    return [f"`{name}`", *shown, digits(mean(spent)), ours, of_random, *peers], quotients
 
 
 def mean(numbers):
@@ -240,14 +242,14 @@ def main():
         it.write("aag 0 0 0 0 0\n")
     floors = [it.peak_bytes(["aigtoaig"], smallest) for it in contenders]
     quotients = []
-    row(["kind", "mean", "worst", "which", "ns a gate", "bytes a gate", "peer's"])
-    print("|---|---:|---:|---|---:|---:|---:|")
+    row(["kind", "mean", "worst", "which", "ns a gate", "bytes a gate", "of random", "peer's"])
+    print("|---|---:|---:|---|---:|---:|---:|---:|")
     for name in given.only or KINDS:
         cells, found = measure(name, contenders, floors, given.gates or [10_000, 100_000, 1_000_000], given.runs)
-        row(cells + [""] * (7 - len(cells)))
+        row(cells + [""] * (8 - len(cells)))
         quotients += found.values()
     if quotients:
-        row(["all", f"{mean(quotients):.2f}", f"{max(quotients):.2f}", "", "", "", ""])
+        row(["all", f"{mean(quotients):.2f}", f"{max(quotients):.2f}", "", "", "", "", ""])
 
 
 if __name__ == "__main__":
