@@ -6,3 +6,4 @@ pub mod Ready
 pub mod Progress
 pub mod Lists
 pub mod Waiting
+pub mod Resolved

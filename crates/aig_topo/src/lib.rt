@@ -14,6 +14,7 @@ mod least_ready;
 mod lists;
 mod operands;
 mod order;
+mod resolved;
 mod steps;
 
 pub use crate::cycle::search_for_cycle;
@@ -22,4 +23,5 @@ pub use crate::least_ready::{gate_order, order_by_needs};
 pub use crate::lists::GateNeeds;
 pub use crate::operands::Needs;
 pub use crate::order::Order;
+pub use crate::resolved::Resolved;
 pub use crate::steps::Steps;

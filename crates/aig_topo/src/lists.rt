@@ -9,7 +9,7 @@ ghost use Rattle.aig_topo.specs.Needs.{linked, needs_of, no_needs, how_many, und
 ghost use Rattle.aig_topo.specs.Lists.{needs_in, links_in, first_of, list_in, AreLists, AreNeedsOf};
 ghost use Rattle.aig_topo.specs.Waiting.{needs_by, rest_by};
 
-use crate::index::GateIndex;
+use crate::index::{AHEAD, GateIndex};
 use crate::operands::{Needs, look_up};
 use aig_circuit::{Circuit, LARGEST};
 use std::alloc::{AllocError, Global};
@@ -56,6 +56,9 @@ impl Lists {
         let mut rows = Vec::with_capacity(alloc, gates.len())?;
         let mut counts = Vec::with_capacity(alloc, gates.len())?;
         for gate in gates {
+            if rows.len() % AHEAD == 0 && index.is_any_need_overfull(gates, rows.len()) {
+                return Err(AllocError);
+            }
             let needs = look_up(&index.positions, gate);
             counts.push(needs.count())?;
             rows.push(GateNode {
@@ -183,6 +186,20 @@ impl GateNeeds {
     {
         let (lists, counts) = Lists::new(alloc, circuit, index)?;
         Ok(GateNeeds { lists, counts })
+    }
+
+    /// What each gate needs.
+    pub(crate) fn copy(&self, alloc: Global) -> Result<Vec<Needs>, AllocError>
+        ensures { IfOk result (λ all. all.items ≡ needs_in self.now.lists.rows.items) }
+    {
+        let mut all = Vec::with_capacity(alloc, self.lists.rows.len())?;
+        for row in &self.lists.rows {
+            all.push(Needs {
+                left: row.next,
+                right: row.rest,
+            })?;
+        }
+        Ok(all)
     }
 
     /// What the gate of this position needs.
