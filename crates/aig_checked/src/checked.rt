@@ -1,14 +1,15 @@
 //! Circuits that are well formed.
-ghost use Rattle.std.specs.Prelude.{◌≡◌, ◌↔◌, IsTrue, IfOk, OnOk, true};
+ghost use Rattle.std.specs.Prelude.{◌≡◌, ◌↔◌, IsTrue, IfOk, IfErr, OnOk, true};
 ghost use Rattle.std.specs.Option.{IfSome};
 ghost use Rattle.aig_circuit.specs.Wellformed.{IsWellFormed};
 ghost use Rattle.aig_checked.specs.BinaryOrder.{IsInBinaryOrder};
 ghost use Rattle.aig_topo.specs.Order.{IsLeastReadyOrder};
+ghost use Rattle.aig_topo.specs.Resolved.{IsResolved};
 ghost use Rattle.aig_circuit.specs.Parts.SameLists.{same_lists};
 
 use crate::copies::copy_circuit;
 use aig_circuit::{Circuit, OutOfMemory};
-use aig_topo::Order;
+use aig_topo::{Order, Resolved};
 use std::alloc::Global;
 use std::marker::Model;
 
@@ -19,6 +20,8 @@ pub struct Checked {
     circuit: Circuit,
     /// The least ready order of its gates, where the check had to make it and was to keep it.
     order: Option<Order>,
+    /// What the gates need and where they stand by their variables, where that was to be kept too.
+    resolved: Option<Resolved>,
     /// Whether it is known to be in binary order, as a binary file is: then nobody need look again.
     in_binary_order: bool,
 }
@@ -28,6 +31,7 @@ impl Model for Checked {
     ghost use Rattle.std.specs.Option.{IfSome};
     ghost use Rattle.aig_circuit.specs.Wellformed.{IsWellFormed as IsGood};
     ghost use Rattle.aig_topo.specs.Order.{IsLeastReadyOrder as IsLeast};
+    ghost use Rattle.aig_topo.specs.Resolved.{IsResolved as IsResolvedOf};
     ghost use Rattle.aig_checked.specs.BinaryOrder.{IsInBinaryOrder as IsInOrder};
     ghost use Rattle.std.specs.Prelude.{◌≡◌, true};
 
@@ -37,6 +41,7 @@ impl Model for Checked {
 
     ghost invariant = { λ a. IsGood a.circuit
         × IfSome a.order (λ order. IsLeast a.circuit order.list)
+        × IfSome a.resolved (λ resolved. IsResolvedOf a.circuit.gates resolved)
         × (a.in_binary_order ≡ true → IsInOrder a.circuit) };
 }
 
@@ -49,6 +54,7 @@ impl Checked {
         Checked {
             circuit,
             order: None,
+            resolved: None,
             in_binary_order: false,
         }
     }
@@ -62,20 +68,27 @@ impl Checked {
         Checked {
             circuit,
             order: None,
+            resolved: None,
             in_binary_order: true,
         }
     }
 
-    /// A circuit that its maker knows to be well formed, and the least ready order of its gates
-    /// where the maker has it.
-    pub fn with_order(circuit: Circuit, order: Option<Order>) -> Checked
+    /// A circuit that its maker knows to be well formed, and the least ready order of its gates and
+    /// what was resolved for it, where the maker has them.
+    pub fn with_order(
+        circuit: Circuit,
+        order: Option<Order>,
+        resolved: Option<Resolved>,
+    ) -> Checked
         requires well_formed { IsWellFormed circuit }
         requires least { IfSome order (λ order. IsLeastReadyOrder circuit order.list) }
+        requires resolved { IfSome resolved (λ resolved. IsResolved circuit.gates resolved) }
         ensures { result ≡ circuit }
     {
         Checked {
             circuit,
             order,
+            resolved,
             in_binary_order: false,
         }
     }
@@ -103,6 +116,32 @@ impl Checked {
         &self.circuit
     }
 
+    /// The circuit, the least ready order of its gates, and what was resolved for it, if the check
+    /// kept them; else the same as it was.
+    pub fn into_resolved(self) -> Result<(Circuit, Order, Resolved), Checked>
+        ensures circuit { IfOk result (λ parts. parts.0 ≡ self) }
+        ensures well_formed { OnOk result (IsWellFormed self) }
+        ensures least { IfOk result (λ parts. IsLeastReadyOrder self parts.1.list) }
+        ensures resolved { IfOk result (λ parts. IsResolved self.gates parts.2) }
+        ensures handed_back { IfErr result (λ same. same ≡ self) }
+    {
+        let Checked {
+            circuit,
+            order,
+            resolved,
+            in_binary_order,
+        } = self;
+        match (order, resolved) {
+            (Some(order), Some(resolved)) => Ok((circuit, order, resolved)),
+            (order, resolved) => Err(Checked {
+                circuit,
+                order,
+                resolved,
+                in_binary_order,
+            }),
+        }
+    }
+
     /// The circuit, to be kept or changed; what it becomes has to be checked again.
     pub fn into_circuit(self) -> Circuit
         ensures value { result ≡ self }
@@ -119,6 +158,7 @@ impl Checked {
         Ok(Checked {
             circuit: copy_circuit(&self.circuit)?,
             order: None,
+            resolved: None,
             in_binary_order: self.in_binary_order,
         })
     }

@@ -64,7 +64,7 @@ pub fn check_keeping(
     ensures few { steps.new.count ≤ steps.old.count + steps_a_gate keep * length circuit.gates }
 {
     match find_fault(alloc, &circuit, keep, steps) {
-        Ok(order) => Ok(Checked::with_order(circuit, order)),
+        Ok((order, resolved)) => Ok(Checked::with_order(circuit, order, resolved)),
         Err(fault) => Err((circuit, fault)),
     }
 }

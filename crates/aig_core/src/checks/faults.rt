@@ -12,6 +12,7 @@ ghost use Rattle.aig_core.specs.Fault.{first_undefined, with_all, is_known, IsFa
 ghost use Rattle.aig_circuit.specs.Form.{IsInForm};
 ghost use Rattle.aig_topo.specs.Order.{first_cyclic, IsLeastReadyOrder};
 ghost use Rattle.aig_topo.specs.Lists.{AreNeedsOf};
+ghost use Rattle.aig_topo.specs.Resolved.{IsResolved};
 ghost use Rattle.aig_core.specs.declared.fault.CheckFault.TheVariants.{Cyclic as CyclicFault};
 ghost use Rattle.aig_core.specs.Parts.InOrder.{are_in_order, has_gates_in_order};
 ghost use Rattle.aig_core.specs.Parts.Indexed.{is_defined_by, is_no_gate};
@@ -24,7 +25,8 @@ use crate::checks::distinct::is_spread;
 use crate::fault::CheckFault;
 use aig_circuit::{Circuit, Entry, Gate, LARGEST, Latch, Listing, Lit, OutOfMemory, Var};
 use aig_tables::VarSet;
-use aig_topo::{GateIndex, GateNeeds, Needs, Order, Steps, order_by_needs, search_for_cycle};
+use aig_topo::{GateIndex, GateNeeds, Needs, Order, Resolved, Steps};
+use aig_topo::{order_by_needs, search_for_cycle};
 use std::alloc::Global;
 
 fn define<T: Entry>(seen: &mut VarSet, entry: &T) -> Result<(), CheckFault>
@@ -323,10 +325,15 @@ fn is_right_outside_gates(before: &VarSet, index: &GateIndex, circuit: &Circuit)
 /// What the gates of a circuit need, where its variables are spread: each variable of a gate is put
 /// into one table alone, and no set is made of them. None where something is wrong outside of what
 /// gates use.
-fn spread_needs(alloc: Global, circuit: &Circuit) -> Result<Option<GateNeeds>, CheckFault>
+fn spread_needs(
+    alloc: Global,
+    circuit: &Circuit,
+) -> Result<Option<(GateNeeds, Resolved)>, CheckFault>
     requires in_form { IsInForm circuit.now }
-    ensures needs { IfOk result (λ some. IfSome some (λ needs.
-        AreNeedsOf circuit.now.gates needs)) }
+    ensures needs { IfOk result (λ some. IfSome some (λ found.
+        AreNeedsOf circuit.now.gates found.0)) }
+    ensures resolved { IfOk result (λ some. IfSome some (λ found.
+        IsResolved circuit.now.gates found.1)) }
     ensures ok { IfOk result (λ some. IfSome some (λ _.
         first_structural_fault circuit.now
         ≡ option_map CyclicFault (first_cyclic circuit.now.gates))) }
@@ -341,7 +348,10 @@ fn spread_needs(alloc: Global, circuit: &Circuit) -> Result<Option<GateNeeds>, C
     let needs = GateNeeds::by_index(alloc, circuit, &index)?;
     match first_unknown_operand(&before, &needs, circuit) {
         Some(literal) => Err(CheckFault::Undefined(literal)),
-        None => Ok(Some(needs)),
+        None => {
+            let resolved = Resolved::new(alloc, index, &needs)?;
+            Ok(Some((needs, resolved)))
+        }
     }
 }
 
@@ -455,15 +465,18 @@ fn find_fault_by_sets(
     }
 }
 
-/// What the gates of a circuit need, where their order is to be kept and one table serves.
+/// What the gates of a circuit need, where their order is to be kept and one table serves; and
+/// what of that is kept beside the order.
 fn needs_of_order(
     alloc: Global,
     circuit: &Circuit,
     keep: Keep,
-) -> Result<Option<GateNeeds>, CheckFault>
+) -> Result<Option<(GateNeeds, Resolved)>, CheckFault>
     requires in_form { IsInForm circuit.now }
-    ensures needs { IfOk result (λ some. IfSome some (λ needs.
-        AreNeedsOf circuit.now.gates needs)) }
+    ensures needs { IfOk result (λ some. IfSome some (λ found.
+        AreNeedsOf circuit.now.gates found.0)) }
+    ensures resolved { IfOk result (λ some. IfSome some (λ found.
+        IsResolved circuit.now.gates found.1)) }
     ensures keep { IfOk result (λ some. IfSome some (λ _. steps_a_gate keep ≡ 3)) }
     ensures ok { IfOk result (λ some. IfSome some (λ _.
         first_structural_fault circuit.now
@@ -483,22 +496,25 @@ fn needs_of_order(
 }
 
 /// The first fault of a circuit. Where there is none, the order of its gates, if that is to be kept
-/// and had to be made.
+/// and had to be made; and what was resolved for it, where its variables are spread.
 pub(crate) fn find_fault(
     alloc: Global,
     circuit: &Circuit,
     keep: Keep,
     steps: &mut Steps,
-) -> Result<Option<Order>, CheckFault>
+) -> Result<(Option<Order>, Option<Resolved>), CheckFault>
     requires { IsInForm circuit.now }
     ensures ok { OnOk result (first_structural_fault circuit.now ≡ None) }
-    ensures least { IfOk result (λ some.
-        IfSome some (λ order. IsLeastReadyOrder circuit.now order.list)) }
+    ensures least { IfOk result (λ found.
+        IfSome found.0 (λ order. IsLeastReadyOrder circuit.now order.list)) }
+    ensures resolved { IfOk result (λ found.
+        IfSome found.1 (λ resolved. IsResolved circuit.now.gates resolved)) }
     ensures err { IfErr result (λ e. IsFault e (first_structural_fault circuit.now)) }
     ensures few { steps.new.count ≤ steps.old.count + steps_a_gate keep * length circuit.now.gates }
 {
-    let Some(needs) = needs_of_order(alloc, circuit, keep)? else {
-        return find_fault_by_sets(alloc, circuit, keep, steps);
+    let Some((needs, resolved)) = needs_of_order(alloc, circuit, keep)? else {
+        return Ok((find_fault_by_sets(alloc, circuit, keep, steps)?, None));
     };
-    Ok(Some(order_of_all(alloc, circuit, needs, steps)?))
+    let order = order_of_all(alloc, circuit, needs, steps)?;
+    Ok((Some(order), Some(resolved)))
 }

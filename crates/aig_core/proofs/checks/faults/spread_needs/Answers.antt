@@ -15,6 +15,7 @@ returns-in-Some c =
     let unknown = sym c.first_unknown_operand.ensures ∙ c.in-Some.is in
     record {
       needs = tt;
+      resolved = tt;
       ok = tt;
       err = inr (
           left ∙ ap (λ o. option_or (option_map Undefined o) (option_map Cyclic (first_cyclic circuit.gates))) unknown);
