@@ -75,11 +75,7 @@ impl Checked {
 
     /// A circuit that its maker knows to be well formed, and the least ready order of its gates and
     /// what was resolved for it, where the maker has them.
-    pub fn with_order(
-        circuit: Circuit,
-        order: Option<Order>,
-        resolved: Option<Resolved>,
-    ) -> Checked
+    pub fn with_order(circuit: Circuit, order: Option<Order>, resolved: Option<Resolved>) -> Checked
         requires well_formed { IsWellFormed circuit }
         requires least { IfSome order (λ order. IsLeastReadyOrder circuit order.list) }
         requires resolved { IfSome resolved (λ resolved. IsResolved circuit.gates resolved) }

@@ -4,3 +4,4 @@ pub mod Sections
 pub mod Ordered
 pub mod OwnImage
 pub mod Renewed
+pub mod Placed

@@ -1,3 +1,4 @@
 -- New numbers of variables.
 pub mod Places
 pub mod Kept
+pub mod Following

@@ -2,3 +2,4 @@
 pub mod Numbers
 pub mod InOrder
 pub mod InTurn
+pub mod Placed

@@ -14,6 +14,7 @@ ghost use Rattle.aig_image.specs.Reordered.{taken, operands_sorted, with_operand
 use crate::in_turn::InTurn;
 use crate::labelling::relabel;
 use crate::numbers::Numbers;
+use crate::placed::placed_image;
 use aig_checked::{Checked, Ordered, is_numbered_in_order};
 use aig_circuit::{Circuit, Gate, Listing, Lit, OutOfMemory};
 use aig_topo::{Order, Steps, gate_order};
@@ -170,6 +171,16 @@ fn renumbered_image(
     Ok(renumbering.image(checked.into_circuit()))
 }
 
+fn image_in_turn(alloc: Global, checked: Checked, steps: &mut Steps) -> Result<Ordered, OutOfMemory>
+    ensures image { IfOk result (λ o. IsBinaryImage checked o) }
+    ensures few { steps.new.count ≤ steps.old.count + 3 * length checked.gates }
+{
+    match InTurn::new(alloc, &checked)? {
+        Some(made) => Ok(made.image(alloc, checked.into_circuit())),
+        None => renumbered_image(alloc, checked, steps),
+    }
+}
+
 /// Where only operands are in the other order, there is nothing to number.
 fn into_image(alloc: Global, checked: Checked, steps: &mut Steps) -> Result<Ordered, OutOfMemory>
     ensures image { IfOk result (λ o. IsBinaryImage checked o) }
@@ -178,9 +189,9 @@ fn into_image(alloc: Global, checked: Checked, steps: &mut Steps) -> Result<Orde
     if is_numbered_in_order(&checked) {
         return Ok(sorted_image(checked.into_circuit()));
     }
-    match InTurn::new(alloc, &checked)? {
-        Some(made) => Ok(made.image(alloc, checked.into_circuit())),
-        None => renumbered_image(alloc, checked, steps),
+    match checked.into_resolved() {
+        Ok((circuit, order, resolved)) => placed_image(alloc, circuit, order, resolved),
+        Err(checked) => image_in_turn(alloc, checked, steps),
     }
 }
 

@@ -13,6 +13,7 @@ mod in_turn;
 mod labelling;
 pub mod laws;
 mod numbers;
+mod placed;
 
 pub use crate::image::{Renumbering, binary_image, into_binary, sort_operands};
 pub use crate::labelling::{Labels, NamesVariables, relabel};

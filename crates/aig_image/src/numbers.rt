@@ -3,6 +3,7 @@ ghost use Rattle.std.specs.Prelude.{◌≡◌, ◌↔◌, ◌⊎◌, ◌+◌, �
 ghost use Rattle.std.specs.Prelude.{◌++◌, ℕ, List, [], length, map, false};
 ghost use Rattle.std.specs.Prelude.{IfOk, OnOk, IsTrue, if◌then◌else◌};
 ghost use Rattle.std.specs.Option.{IfSome};
+ghost use Rattle.std.specs.FinMap.{empty};
 ghost use Rattle.aig_circuit.specs.Literal.{variable_of};
 ghost use Rattle.aig_tables.specs.VarMap.{with_new};
 ghost use Rattle.aig_circuit.specs.declared.circuit.Gate.{Gate as GateRecord};
@@ -163,6 +164,31 @@ impl Numbers {
         Ok(true)
     }
 
+    /// The numbers of inputs and latches, in a map that has none yet.
+    fn first_into(numbers: VarMap<u32>, circuit: &Circuit) -> Result<Self, AllocError>
+        requires few { length circuit.now.inputs + length circuit.now.latches ≤ LARGEST }
+        requires none { numbers ≡ empty }
+        ensures count { IfOk result (λ n. n.noted
+            ≡ length circuit.now.inputs + length circuit.now.latches) }
+        ensures numbers { IfOk result (λ n. HaveNumbers n (first_variables circuit.now)) }
+    {
+        let mut numbers = Numbers { noted: 0, numbers };
+        numbers.note_all(circuit.inputs.as_slice())?;
+        numbers.note_all(circuit.latches.as_slice())?;
+        Ok(numbers)
+    }
+
+    /// With room for no more.
+    pub(crate) fn of_first_alone(alloc: Global, circuit: &Circuit) -> Result<Self, AllocError>
+        requires { length circuit.now.inputs + length circuit.now.latches ≤ LARGEST }
+        ensures count { IfOk result (λ n. n.noted
+            ≡ length circuit.now.inputs + length circuit.now.latches) }
+        ensures numbers { IfOk result (λ n. HaveNumbers n (first_variables circuit.now)) }
+    {
+        let expected = circuit.inputs.len() + circuit.latches.len();
+        Numbers::first_into(VarMap::new(alloc, expected, circuit.max_var)?, circuit)
+    }
+
     /// With room for the numbers of gates too.
     pub(crate) fn of_first(alloc: Global, circuit: &Circuit) -> Result<Self, AllocError>
         requires { length circuit.now.inputs + length circuit.now.latches ≤ LARGEST }
@@ -170,13 +196,7 @@ impl Numbers {
             ≡ length circuit.now.inputs + length circuit.now.latches) }
         ensures numbers { IfOk result (λ n. HaveNumbers n (first_variables circuit.now)) }
     {
-        let mut numbers = Numbers {
-            noted: 0,
-            numbers: VarMap::for_circuit(alloc, circuit)?,
-        };
-        numbers.note_all(circuit.inputs.as_slice())?;
-        numbers.note_all(circuit.latches.as_slice())?;
-        Ok(numbers)
+        Numbers::first_into(VarMap::for_circuit(alloc, circuit)?, circuit)
     }
 
     pub(crate) fn new(alloc: Global, circuit: &Circuit, taken: &[Gate]) -> Result<Self, AllocError>

@@ -25,8 +25,9 @@ use crate::checks::distinct::is_spread;
 use crate::fault::CheckFault;
 use aig_circuit::{Circuit, Entry, Gate, LARGEST, Latch, Listing, Lit, OutOfMemory, Var};
 use aig_tables::VarSet;
-use aig_topo::{GateIndex, GateNeeds, Needs, Order, Resolved, Steps};
-use aig_topo::{order_by_needs, search_for_cycle};
+use aig_topo::{
+    GateIndex, GateNeeds, Needs, Order, Resolved, Steps, order_by_needs, search_for_cycle,
+};
 use std::alloc::Global;
 
 fn define<T: Entry>(seen: &mut VarSet, entry: &T) -> Result<(), CheckFault>

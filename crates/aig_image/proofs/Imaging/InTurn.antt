@@ -150,7 +150,7 @@ module _ (c : Circuit) (order : List ℕ) (good : IsWellFormed c) (least : IsLea
   abbrev pub new : List ℕ
   new = in_new_order c order
 
-  order_once : AreDistinct order
+  pub order_once : AreDistinct order
   order_once = each_once (length c.gates) (gate_operands c.gates) [] order least.in_turn
 
   pub order_there : AllByRecursion (λ g. g < length c.gates) order

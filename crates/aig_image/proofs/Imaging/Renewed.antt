@@ -11,9 +11,8 @@ use Rattle.aig_topo.specs.Order.{IsLeastReadyOrder}
 use Rattle.aig_circuit.proofs.Checking.{each, definitions_fit}
 use Rattle.aig_topo.proofs.Ordering.Ranked.{all_of}
 use Rattle.aig_image.specs.declared.image.Renumbering.{Renumbering}
-use Rattle.aig_image.specs.declared.in_turn.InTurn.{InTurn}
 use Rattle.aig_image.specs.Image.{image_by, IsBinaryImage}
-use Rattle.aig_image.specs.Parts.InTurn.{IsMadeInTurn}
+use Rattle.aig_image.specs.Parts.InTurn.{numbered_gate}
 use Rattle.aig_image.specs.Parts.Numbers.{number_of, number_in, IsRenumberingOf}
 use Rattle.aig_image.specs.Relabelled.{relabelled, relabelled_gate, FitIntoLiterals, NamesOnly}
 use Rattle.aig_image.specs.Renumbering.{in_new_order, renumbered}
@@ -81,37 +80,39 @@ pub made_is_image : (c : Circuit) (r : Renumbering) (made : Circuit) (gates : Li
     → IsBinaryImage c made
 made_is_image c r made gates good of_it made_is gates_are = search (rules, is_image)
 
--- gates that were made in turn, and the rest of the circuit by the numbers
-module _ (c : Circuit) (m : InTurn) (good : IsWellFormed c) (of_it : IsMadeInTurn c m) where
+-- gates that were made, and the rest of the circuit by the numbers
+module _ (c : Circuit) (order : List ℕ) (good : IsWellFormed c) (least : IsLeastReadyOrder c order) (number : ℕ → ℕ)
+    (told : (v : ℕ) → number v ≡ number_in (in_new_order c order) v) where
   abbrev new : List ℕ
-  new = in_new_order c of_it.order
+  new = in_new_order c order
 
-  gates_are : m.gates.items ≡ map operands_sorted (taken (map (relabelled_gate (renumbered new)) c.gates) of_it.order)
+  gates_are : map (numbered_gate (renumbered new)) (taken c.gates order)
+      ≡ map operands_sorted (taken (map (relabelled_gate (renumbered new)) c.gates) order)
   gates_are =
-      of_it.gates
-      ∙ sym (map-map operands_sorted (relabelled_gate (renumbered new)) (taken c.gates of_it.order))
-      ∙ ap (λ (d : Circuit). map operands_sorted d.gates) (order_commutes (renumbered new) of_it.order c refl)
+      sym (map-map operands_sorted (relabelled_gate (renumbered new)) (taken c.gates order))
+      ∙ ap (λ (d : Circuit). map operands_sorted d.gates) (order_commutes (renumbered new) order c refl)
 
   abbrev without_gates : Circuit
   without_gates = with_gates [] c
 
-  rest_is : relabelled (number_of m.numbers) without_gates ≡ relabelled (renumbered new) without_gates
+  rest_is : relabelled number without_gates ≡ relabelled (renumbered new) without_gates
   rest_is =
-      let same = same_names c of_it.order good of_it.least (number_of m.numbers) of_it.numbers.numbers in
-      only_names_matter (number_of m.numbers) (renumbered new) without_gates
+      let same = same_names c order good least number told in
+      only_names_matter number (renumbered new) without_gates
       (record { inputs = same.inputs; latches = same.latches; literals = same.literals; gates = tt })
 
-  pub in_turn_fits : FitIntoLiterals (number_of m.numbers)
-  in_turn_fits v =
-      let fits = new_fits c of_it.order good of_it.least in
-      omega (arith, of_it.numbers.numbers v, in_list new v, fits, good.limits.max_var)
+  pub told_fits : FitIntoLiterals number
+  told_fits v =
+      let fits = new_fits c order good least in
+      omega (arith, told v, in_list new v, fits, good.limits.max_var)
 
-  pub in_turn_is_image : (rest : Circuit) (none gates : List Gate) (count : ℕ) → none ≡ []
-      → rest ≡ relabelled (number_of m.numbers) (with_gates none c) → gates ≡ m.gates.items → count ≡ m.numbers.noted
+  pub told_is_image : (rest : Circuit) (none gates : List Gate) (count : ℕ) → none ≡ []
+      → rest ≡ relabelled number (with_gates none c)
+      → gates ≡ map (numbered_gate (renumbered new)) (taken c.gates order) → count ≡ length new
       → IsBinaryImage c (record (with_gates gates rest) { max_var = count })
-  in_turn_is_image rest none gates count nothing rest_too gates_too counted =
+  told_is_image rest none gates count nothing rest_too gates_too counted =
       let all =
       ap₂ (λ (gs : List Gate) (d : Circuit). record (with_gates gs d) { max_var = count }) (gates_too ∙ gates_are)
-      (rest_too ∙ ap (λ (gs : List Gate). relabelled (number_of m.numbers) (with_gates gs c)) nothing ∙ rest_is)
-      ∙ ap (λ (n : ℕ). record (image_by of_it.order c) { max_var = n }) (counted ∙ of_it.numbers.count) in
-      (of_it.order, of_it.least, all)
+      (rest_too ∙ ap (λ (gs : List Gate). relabelled number (with_gates gs c)) nothing ∙ rest_is)
+      ∙ ap (λ (n : ℕ). record (image_by order c) { max_var = n }) counted in
+      (order, least, all)

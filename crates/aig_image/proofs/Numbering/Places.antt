@@ -1,9 +1,10 @@
 -- Places in lists without repeats, and the new numbers of variables by them.
 use Rattle.std.proofs.Common.{◌≡◌, ◌<◌, ◌∷◌, ◌++◌, ◌≤◌, ◌∙◌, ◌≢◌, ◌+◌, ◌⊎◌, rules, ℕ, zero, suc, List, [], length}
 use Rattle.std.proofs.Common.{get_or, refl, sym, ap, inl, inr, ⊎_elim, arith, eqb, subst, true, false, not}
-use Rattle.std.proofs.Common.{length-append, map, ap₂, append_assoc}
+use Rattle.std.proofs.Common.{length-append, map, ap₂, append_assoc, set}
 use Rattle.std.specs.List.{AllByRecursion, position_or_len, range_with_len}
-use Rattle.std.proofs.lemmas.List.{length-map, get_or-map, ext_get_or}
+use Rattle.std.proofs.lemmas.List.{length-map, get_or-map, ext_get_or, get_or-set_other}
+use Rattle.std.proofs.lemmas.Grind.{get_or-set_at}
 use Rattle.std.proofs.lemmas.Bool.{ne_eqb, eq-eqb, cases_lt}
 use Rattle.std.proofs.lemmas.List.FromFn.{length-map-range_with_len, get_or-map-range_with_len}
 use Rattle.std.proofs.lemmas.List.Sums.{position_or_len_is, prefix_len-le-length, prefix_len_stops}
@@ -51,6 +52,17 @@ module _ {X : Type 0} (P : X → Type 0) (default : X) where
   pub by_places : (xs : List X) → ((i : ℕ) → i < length xs → P (get_or xs i default)) → AllByRecursion P xs
   by_places [] each = tt
   by_places (x ∷ xs) each = (each zero (omega arith), by_places xs (λ i below. each (suc i) (omega (arith, below))))
+
+-- a table where one more was put to its place, which none of those before it has
+pub put_more : {X : Type 0} (place : ℕ → ℕ) (f : ℕ → X) (d : X) (table : List X) (k : ℕ) → place k < length table
+    → ((i : ℕ) → i < k → place i ≢ place k) → ((i : ℕ) → i < k → get_or table (place i) d ≡ f i)
+    → (i : ℕ) → i < k + 1 → get_or (set table (place k) (f k)) (place i) d ≡ f i
+put_more place f d table k there apart has i below =
+    ⊎_elim (λ (b : i < k). get_or-set_other table (place k) (place i) (f k) d (apart i b) ∙ has i b)
+    (λ (e : k ≤ i).
+    let same : i ≡ k = omega (arith, e, below) in
+    get_or-set_at table (place k) (place i) (f k) d (ap place same) there ∙ ap f (sym same))
+    (cases_lt i k)
 
 -- numbers are distinct exactly where each stands at one place
 pub same_place : (xs : List ℕ) → AreDistinct xs → (i k : ℕ) → i < length xs → k < length xs
@@ -104,7 +116,7 @@ place_is xs once i below =
     (λ _. eq-eqb x x refl)
 
 -- distinct numbers below n, as many as n, are all of them
-all_below : (n : ℕ) (ps : List ℕ) → AreDistinct ps → AllByRecursion (λ p. p < n) ps → length ps ≡ n
+pub all_below : (n : ℕ) (ps : List ℕ) → AreDistinct ps → AllByRecursion (λ p. p < n) ps → length ps ≡ n
     → (p : ℕ) → p < n → IsAmong p ps
 all_below n ps once below many p low =
     ⊎_elim (λ (i : IsAmong p ps). i)
