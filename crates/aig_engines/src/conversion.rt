@@ -83,9 +83,7 @@ fn undo_if_asked(alloc: Global, request: &ToAig, found: Checked) -> Result<Check
     if !request.undo_map {
         return Ok(found);
     }
-    let source = undo(alloc, &found);
-    drop(found); // for the proof
-    source
+    undo(alloc, found)
 }
 
 /// The image of a circuit, with the map where the request asks for it.

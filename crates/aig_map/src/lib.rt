@@ -1,7 +1,7 @@
 //! Map blocks: what a conversion to binary order changed, as text at the front of a comment.
 //!
 //! `aig_order` calls `map_comment` and `new_map_comment`, which make the comment with a block;
-//! `read_block`, which reads one; and `source_variables`, `positions_by_place`, `into_recorded`,
+//! `take_block`, which reads one; and `source_variables`, `positions_by_place`, `into_recorded`,
 //! `make_undone`, `tells_comment` and `tells_order`, of which undoing is made.
 //!
 //! The definitions that matter most are `block_text`, `IsMappedImage` and `IsUndoneFrom`.
@@ -19,7 +19,7 @@ mod undone;
 pub use crate::confirmed::tells_comment;
 pub use crate::fault::MapFault;
 pub use crate::map_block::{MapBlock, MappedGate};
-pub use crate::map_reading::read_block;
+pub use crate::map_reading::{TakenBlock, take_block};
 pub use crate::map_text::{KeptVariables, keep_variables, map_comment, new_map_comment};
 pub use crate::recorded::{Recorded, into_recorded};
 pub use crate::turns::{positions_by_place, tells_order};

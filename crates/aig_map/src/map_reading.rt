@@ -1,5 +1,6 @@
 //! The map block of a circuit, read from its comment.
 ghost use Rattle.std.specs.Prelude.{◌≡◌, ◌+◌, ◌^◌, ◌<◌, ◌≤◌, ℕ, List, [], Option, IfOk, IfSome};
+ghost use Rattle.std.specs.Prelude.{◌-◌, drop, length};
 ghost use Rattle.std.specs.Option.{unwrap_or};
 ghost use Rattle.aig_circuit.specs.declared.circuit.TheConstants.{LARGEST as largest_index};
 ghost use Rattle.aig_rows.specs.Outcomes.{Gives, GivesOrFails};
@@ -9,6 +10,7 @@ ghost use Rattle.aig_map.specs.MapSpelling.{variable_at};
 ghost use Rattle.aig_map.specs.MapReading.{entries_at, counts_match, counted_line};
 ghost use Rattle.aig_map.specs.MapReading.{rest_of_block, block_reading};
 ghost use Rattle.aig_map.specs.Parts.MapOutcomes.{GivesOrMemory};
+ghost use Rattle.aig_map.specs.Parts.Tables.{without_comment};
 
 use crate::fault::MapFault;
 use crate::map_block::{FirstLine, MapBlock, MappedGate};
@@ -214,11 +216,67 @@ fn rest_of_block<'a>(
 
 /// The block at the front of a circuit's comment, and the comment behind it.
 #[tactic(auto, unfolding(crate::specs::MapReading::block_reading))]
-pub fn read_block(alloc: Global, image: &Circuit) -> Result<(MapBlock, &[u8]), MapFault>
+fn read_block(alloc: Global, image: &Circuit) -> Result<(MapBlock, &[u8]), MapFault>
     ensures { GivesOrMemory (λ x. (x.0, x.1.now)) result (block_reading image.now) }
 {
     match counted_line(image) {
         Ok((front, rest)) => rest_of_block(alloc, front, rest),
         Err(fault) => Err(fault),
     }
+}
+
+/// The comment is let go, and is empty where there is none.
+fn take_comment(alloc: Global, image: &mut Circuit) -> Vec<u8>
+    ensures comment { result.items ≡ unwrap_or image.old.comment [] }
+    ensures bare { image.new ≡ without_comment image.old }
+{
+    match image.comment.take() {
+        Some(comment) => comment.into_vec(),
+        None => Vec::new(alloc),
+    }
+}
+
+/// The last bytes, so many, in the same memory, of which no more is kept.
+fn last_bytes(bytes: Vec<u8>, count: usize) -> Vec<u8>
+    requires { count ≤ length bytes.items }
+    ensures { result.items ≡ drop (length bytes.items - count) bytes.items }
+{
+    let mut bytes = bytes;
+    let len = bytes.len();
+    bytes.copy_within(len - count..len, 0);
+    bytes.truncate(count);
+    bytes.shrink_to_fit();
+    bytes
+}
+
+/// A block that was taken off a circuit, and what is left.
+#[derive(Drop)]
+pub struct TakenBlock {
+    pub block: MapBlock,
+    /// The comment behind the block.
+    pub comment: Vec<u8>,
+    /// The circuit without a comment.
+    pub image: Circuit,
+}
+
+/// Takes the block off the front of a circuit's comment. Its text is let go, since it takes more
+/// memory than the gates.
+pub fn take_block(alloc: Global, image: Circuit) -> Result<TakenBlock, MapFault>
+    ensures read { GivesOrMemory (λ t. (t.block, t.comment.items)) result (block_reading image) }
+    ensures bare { IfOk result (λ t. t.image ≡ without_comment image) }
+{
+    let (block, kept) = match read_block(alloc, &image) {
+        Ok((block, comment)) => (block, comment.len()),
+        Err(fault) => {
+            drop(image); // for the proof
+            return Err(fault);
+        }
+    };
+    let mut image = image;
+    let comment = last_bytes(take_comment(alloc, &mut image), kept);
+    Ok(TakenBlock {
+        block,
+        comment,
+        image,
+    })
 }

@@ -7,9 +7,10 @@ ghost use Rattle.std.specs.Option.{IfSome};
 ghost use Rattle.aig_circuit.specs.declared.circuit.TheConstants.{LARGEST};
 ghost use Rattle.aig_topo.specs.Order.{IsLeastReadyOrder};
 ghost use Rattle.aig_circuit.specs.Wellformed.{AreDistinct, defined_variables};
+ghost use Rattle.aig_map.specs.declared.map_block.MapBlock.{MapBlock as MapBlockRecord};
 ghost use Rattle.aig_map.specs.declared.map_block.MappedGate.{MappedGate as MappedGateRecord};
 ghost use Rattle.aig_map.specs.Undone.{undone};
-ghost use Rattle.aig_map.specs.Parts.Tables.{block_read, IsFit};
+ghost use Rattle.aig_map.specs.Parts.Tables.{IsFit};
 ghost use Rattle.aig_map.specs.Parts.Turns.{positions, ready_from, AreLinks};
 ghost use Rattle.aig_map.specs.Parts.Turns.{AreTakenInTurn, IsClear};
 
@@ -88,13 +89,13 @@ pub(crate) fn are_taken_in_turn(
 /// Whether the places in a block are the order in which conversion takes the gates of its source,
 /// if the source defines no variable twice; by the positions in the source, place by place.
 pub fn tells_order(alloc: Global, places: &[u32], image: &Circuit) -> Result<bool, OutOfMemory>
-    requires fit { IsFit (block_read image.now) image.now }
-    requires are { places.now ≡ positions (block_read image.now).gates }
+    ghost block: { MapBlockRecord }
+    requires fit { IsFit block image.now }
+    requires are { places.now ≡ positions block.gates }
     ensures { (comment : Option (List ℕ))
-        → AreDistinct (defined_variables (undone (block_read image.now) comment image.now))
+        → AreDistinct (defined_variables (undone block comment image.now))
         → IfOk result (λ recorded. IsTrue recorded
-        ↔ IsLeastReadyOrder (undone (block_read image.now) comment image.now)
-        (positions (block_read image.now).gates)) }
+        ↔ IsLeastReadyOrder (undone block comment image.now) (positions block.gates)) }
 {
     let first = 1 + image.inputs.len() as u32 + image.latches.len() as u32;
     are_taken_in_turn(alloc, first, image.gates.as_slice(), places)

@@ -11,13 +11,14 @@ ghost use Rattle.aig_image.specs.Renumbering.{source_variable};
 ghost use Rattle.aig_image.specs.Reordered.{exchanged_by, exchanged_if, taken};
 ghost use Rattle.aig_map.specs.declared.fault.MapFault.TheVariants.{Forged as IsForged};
 ghost use Rattle.aig_map.specs.declared.fault.MapFault.TheVariants.{OutOfMemory as IsOutOfMemory};
+ghost use Rattle.aig_map.specs.declared.map_block.MapBlock.{MapBlock as MapBlockRecord};
 ghost use Rattle.aig_map.specs.declared.map_block.MappedGate.{MappedGate as MappedGateRecord};
 ghost use Rattle.aig_map.specs.MapReading.{IsWithinBounds};
 ghost use Rattle.aig_map.specs.Parts.Placed.{table_of, with_gates};
 ghost use Rattle.aig_map.specs.Parts.Had.{without_gates};
 ghost use Rattle.aig_map.specs.Parts.Confirmed.{DifferWhereExchanged, ExchangesDiffer};
-ghost use Rattle.aig_map.specs.Parts.Tables.{block_read, source_read, ArePut, IsBlockOf};
-ghost use Rattle.aig_map.specs.Undone.{source_variables};
+ghost use Rattle.aig_map.specs.Parts.Tables.{ArePut, IsBlockOf};
+ghost use Rattle.aig_map.specs.Undone.{comment_behind, source_variables, undone};
 
 use crate::fault::MapFault;
 use crate::map_block::{MapBlock, MappedGate};
@@ -331,12 +332,14 @@ pub fn make_undone(
     comment: &[u8],
     image: &Circuit,
 ) -> Result<Circuit, MapFault>
-    requires block { IsBlockOf image.now recorded.now places.now comment.now }
-    requires variables { variables.now.variables.items ≡ source_variables (block_read image.now) }
-    ensures ok { IfOk result (λ c. c ≡ source_read image.now comment.now) }
-    ensures differ { OnOk result (ExchangesDiffer (block_read image.now) image.now) }
+    ghost block: { MapBlockRecord }
+    requires block { IsBlockOf block image.now recorded.now places.now }
+    requires variables { variables.now.variables.items ≡ source_variables block }
+    ensures ok { IfOk result (λ c.
+        c ≡ undone block (comment_behind block comment.now) image.now) }
+    ensures differ { OnOk result (ExchangesDiffer block image.now) }
     ensures err { IfErr result (λ e. (e ≡ IsOutOfMemory)
-        ⊎ ((e ≡ IsForged) × (¬ ExchangesDiffer (block_read image.now) image.now))) }
+        ⊎ ((e ≡ IsForged) × (¬ ExchangesDiffer block image.now))) }
 {
     let gates = source_gates(
         alloc,

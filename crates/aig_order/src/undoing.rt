@@ -6,16 +6,15 @@ ghost use Rattle.aig_map.specs.declared.fault.MapFault.TheVariants.{Forged as Is
 ghost use Rattle.aig_map.specs.declared.fault.MapFault.TheVariants.{OutOfMemory as IsOutOfMemory};
 ghost use Rattle.aig_checked.specs.BinaryOrder.{IsInBinaryOrder};
 ghost use Rattle.aig_map.specs.MapBlock.{IsMappedImage};
-ghost use Rattle.aig_map.specs.MapReading.{block_reading};
 ghost use Rattle.aig_map.specs.Parts.Confirmed.{ExchangesDiffer};
-ghost use Rattle.aig_map.specs.Parts.Tables.{block_read, source_read, IsBlockOf};
+ghost use Rattle.aig_map.specs.Parts.Tables.{block_read, source_read, IsBlockOf, IsLeftOf};
 ghost use Rattle.aig_map.specs.Undone.{IsMapFault, IsUndoneFrom, comment_behind};
 ghost use Rattle.aig_map.specs.Undone.{source_variables, undone};
 
 use aig_core::{Checked, Circuit, OutOfMemory, is_defined_once, is_in_binary_order};
 use aig_map::{
-    MapBlock, MapFault, Recorded, SourceVariables, into_recorded, make_undone, positions_by_place,
-    read_block, source_variables, tells_comment, tells_order,
+    MapBlock, MapFault, Recorded, SourceVariables, TakenBlock, into_recorded, make_undone,
+    positions_by_place, source_variables, take_block, tells_comment, tells_order,
 };
 use std::alloc::Global;
 
@@ -43,39 +42,42 @@ fn check_source(alloc: Global, source: Circuit) -> Result<Checked, MapFault>
 /// The image is not made again to compare: the block is checked by itself.
 fn has_image(
     alloc: Global,
-    image: &Checked,
+    image: &Circuit,
     recorded: &Recorded,
     places: &[u32],
     comment: &[u8],
 ) -> Result<bool, OutOfMemory>
-    requires block { IsBlockOf image.now recorded.now places.now comment.now }
-    requires differ { ExchangesDiffer (block_read image.now) image.now }
-    ensures { IsWellFormed (source_read image.now comment.now)
+    ghost mapped: { CircuitRecord }
+    requires left { IsLeftOf mapped (block_read mapped) comment.now image.now }
+    requires block { IsBlockOf (block_read mapped) mapped recorded.now places.now }
+    requires differ { ExchangesDiffer (block_read mapped) mapped }
+    ensures { IsWellFormed (source_read mapped comment.now)
         → IfOk result (λ is. IsTrue is
-        ↔ IsMappedImage (source_read image.now comment.now) image.now) }
+        ↔ IsMappedImage (source_read mapped comment.now) mapped) }
 {
-    let circuit = image.circuit();
     if !tells_comment(recorded, comment) {
         return Ok(false);
     }
-    tells_order(alloc, places, circuit)
+    tells_order(alloc, places, image)
 }
 
 fn confirm_source(
     alloc: Global,
     source: Circuit,
-    image: &Checked,
+    image: &Circuit,
     recorded: &Recorded,
     places: &[u32],
     comment: &[u8],
 ) -> Result<Circuit, MapFault>
-    requires block { IsBlockOf image.now recorded.now places.now comment.now }
-    requires is { source ≡ source_read image.now comment.now }
-    requires differ { ExchangesDiffer (block_read image.now) image.now }
+    ghost mapped: { CircuitRecord }
+    requires left { IsLeftOf mapped (block_read mapped) comment.now image.now }
+    requires block { IsBlockOf (block_read mapped) mapped recorded.now places.now }
+    requires is { source ≡ source_read mapped comment.now }
+    requires differ { ExchangesDiffer (block_read mapped) mapped }
     ensures ok { IfOk result (λ c. c ≡ source) }
-    ensures image { IfOk result (λ c. IsWellFormed c → IsMappedImage c image.now) }
+    ensures image { IfOk result (λ c. IsWellFormed c → IsMappedImage c mapped) }
     ensures err { IfErr result (λ e. (e ≡ IsOutOfMemory)
-        ⊎ ((e ≡ IsForged) × (¬ (IsWellFormed source × IsMappedImage source image.now)))) }
+        ⊎ ((e ≡ IsForged) × (¬ (IsWellFormed source × IsMappedImage source mapped)))) }
 {
     match has_image(alloc, image, recorded, places, comment) {
         Ok(true) => Ok(source),
@@ -94,27 +96,22 @@ fn confirm_source(
 /// its own.
 fn source_by_places(
     alloc: Global,
-    image: &Checked,
+    image: &Circuit,
     recorded: &Recorded,
     variables: SourceVariables,
     places: &[u32],
     comment: &[u8],
 ) -> Result<Circuit, MapFault>
-    requires block { IsBlockOf image.now recorded.now places.now comment.now }
-    requires variables { variables.variables.items ≡ source_variables (block_read image.now) }
-    ensures ok { IfOk result (λ c. c ≡ source_read image.now comment.now) }
+    ghost mapped: { CircuitRecord }
+    requires left { IsLeftOf mapped (block_read mapped) comment.now image.now }
+    requires block { IsBlockOf (block_read mapped) mapped recorded.now places.now }
+    requires variables { variables.variables.items ≡ source_variables (block_read mapped) }
+    ensures ok { IfOk result (λ c. c ≡ source_read mapped comment.now) }
     ensures formed { IfOk result (λ c. AreDistinct (defined_variables c) → IsWellFormed c) }
-    ensures image { IfOk result (λ c. IsWellFormed c → IsMappedImage c image.now) }
-    ensures fault { IfErr result (λ e. IsMapFault image.now e) }
+    ensures image { IfOk result (λ c. IsWellFormed c → IsMappedImage c mapped) }
+    ensures fault { IfErr result (λ e. IsMapFault mapped e) }
 {
-    let source = match make_undone(
-        alloc,
-        &variables,
-        places,
-        recorded,
-        comment,
-        image.circuit(),
-    ) {
+    let source = match make_undone(alloc, &variables, places, recorded, comment, image) {
         Ok(source) => source,
         Err(fault) => return Err(fault),
     };
@@ -126,16 +123,17 @@ fn source_by_places(
 /// the end: to find out whether the source defines a variable twice takes memory of its own.
 fn source_by_block(
     alloc: Global,
-    image: &Checked,
+    image: &Circuit,
     block: MapBlock,
     comment: &[u8],
 ) -> Result<Circuit, MapFault>
-    requires ordered { IsInBinaryOrder image.now }
-    requires read { block_reading image.now ≡ Ok (block, comment.now) }
-    ensures ok { IfOk result (λ c. c ≡ undone block (comment_behind block comment.now) image.now) }
+    ghost mapped: { CircuitRecord }
+    requires ordered { IsInBinaryOrder mapped }
+    requires left { IsLeftOf mapped block comment.now image.now }
+    ensures ok { IfOk result (λ c. c ≡ undone block (comment_behind block comment.now) mapped) }
     ensures formed { IfOk result (λ c. AreDistinct (defined_variables c) → IsWellFormed c) }
-    ensures image { IfOk result (λ c. IsWellFormed c → IsMappedImage c image.now) }
-    ensures fault { IfErr result (λ e. IsMapFault image.now e) }
+    ensures image { IfOk result (λ c. IsWellFormed c → IsMappedImage c mapped) }
+    ensures fault { IfErr result (λ e. IsMapFault mapped e) }
 {
     let variables = match source_variables(alloc, &block) {
         Ok(variables) => variables,
@@ -160,14 +158,15 @@ fn source_by_block(
 
 fn undo_by_block(
     alloc: Global,
-    image: &Checked,
+    image: &Circuit,
     block: MapBlock,
     comment: &[u8],
 ) -> Result<Checked, MapFault>
-    requires ordered { IsInBinaryOrder image.now }
-    requires read { block_reading image.now ≡ Ok (block, comment.now) }
-    ensures ok { IfOk result (λ c. IsUndoneFrom image.now c) }
-    ensures fault { IfErr result (λ e. IsMapFault image.now e) }
+    ghost mapped: { CircuitRecord }
+    requires ordered { IsInBinaryOrder mapped }
+    requires left { IsLeftOf mapped block comment.now image.now }
+    ensures ok { IfOk result (λ c. IsUndoneFrom mapped c) }
+    ensures fault { IfErr result (λ e. IsMapFault mapped e) }
 {
     match source_by_block(alloc, image, block, comment) {
         Ok(source) => check_source(alloc, source),
@@ -176,27 +175,36 @@ fn undo_by_block(
 }
 
 #[tactic(auto, using(aig_map::proofs::Sources::Refused::unread))]
-fn recover(alloc: Global, image: &Checked) -> Result<Checked, MapFault>
-    ensures ok { IfOk result (λ c. IsUndoneFrom image.now c) }
-    ensures fault { IfErr result (λ e. IsMapFault image.now e) }
+fn recover(alloc: Global, image: Checked) -> Result<Checked, MapFault>
+    ghost mapped: { CircuitRecord }
+    requires { image ≡ mapped }
+    ensures ok { IfOk result (λ c. IsUndoneFrom mapped c) }
+    ensures fault { IfErr result (λ e. IsMapFault mapped e) }
 {
-    if !is_in_binary_order(image) {
+    if !is_in_binary_order(&image) {
+        drop(image); // for the proof
         return Err(MapFault::NotOrdered);
     }
-    match read_block(alloc, image.circuit()) {
-        Ok((block, comment)) => undo_by_block(alloc, image, block, comment),
+    match take_block(alloc, image.into_circuit()) {
+        Ok(
+            TakenBlock {
+                block,
+                comment,
+                image,
+            },
+        ) => undo_by_block(alloc, &image, block, comment.as_slice()),
         Err(fault) => Err(fault),
     }
 }
 
-/// The circuit whose mapped image this is. The errors are, in this order: the argument is not in
-/// binary order, has no map block, has one that is not of its form, or is the mapped image of no
-/// circuit. Of a mapped image it fails only if an allocation fails.
-pub fn undo(alloc: Global, image: &Checked) -> Result<Checked, MapFault>
-    ensures ok { IfOk result (λ c. IsUndoneFrom image.now c) }
-    ensures only { (c : CircuitRecord) → IsUndoneFrom image.now c
+/// The circuit whose mapped image this is, which is no longer needed. The errors are, in this
+/// order: the argument is not in binary order, has no map block, has one that is not of its form,
+/// or is the mapped image of no circuit. Of a mapped image it fails only if an allocation fails.
+pub fn undo(alloc: Global, image: Checked) -> Result<Checked, MapFault>
+    ensures ok { IfOk result (λ c. IsUndoneFrom image c) }
+    ensures only { (c : CircuitRecord) → IsUndoneFrom image c
         → MatchResult result (λ d. d ≡ c) (λ e. e ≡ IsOutOfMemory) }
-    ensures fault { IfErr result (λ e. IsMapFault image.now e) }
+    ensures fault { IfErr result (λ e. IsMapFault image e) }
 {
     recover(alloc, image)
 }

@@ -32,9 +32,7 @@ fn gate_chain(alloc: Global) -> Result<Checked, Fail> {
 
 fn comes_back(alloc: Global, checked: &Checked) -> Result<bool, Fail> {
     let image = to_binary_with_map(alloc, checked, &mut Steps::new())?;
-    let undone = undo(alloc, image.as_checked()).is_ok();
-    drop(image); // for the proof
-    Ok(undone)
+    Ok(undo(alloc, image.into_checked()).is_ok())
 }
 
 #[test]

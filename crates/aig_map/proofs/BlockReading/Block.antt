@@ -2,11 +2,12 @@
 -- what the circuit has, it is read; and what is read is such a block.
 use Rattle.std.proofs.Common.{◌≡◌, ◌≤◌, ◌+◌, ◌&&◌, ◌∷◌, ◌++◌, ◌∙◌, ◌<◌, ◌==◌, rules, ℕ, List, [], length, Some, Ok}
 use Rattle.std.proofs.Common.{refl, sym, ap, subst, arith, map, Option, None, append_assoc, nat_le, codes, unwrap_or}
-use Rattle.std.proofs.Common.{Decides, flat_map, take-append-drop}
+use Rattle.std.proofs.Common.{Decides, ◌-◌, drop, flat_map, take-append-drop}
 use Rattle.std.specs.List.{AllByRecursion}
 use Rattle.std.proofs.lemmas.Option.{cond_some}
 use Rattle.std.proofs.lemmas.Slice.Eq.{bytes_eq-Decides}
 use Rattle.std.proofs.Math.Seq.{take-append_seam, drop-append_seam}
+use Rattle.std.proofs.lemmas.List.{drop_at, length-append}
 use Rattle.std.proofs.lemmas.List.Concat.{flat_map-append}
 use Rattle.aig_circuit.specs.declared.circuit.TheConstants.{LARGEST}
 use Rattle.aig_circuit.specs.declared.circuit.Circuit.{Circuit}
@@ -23,8 +24,7 @@ use Rattle.aig_map.specs.MapReading.{IsWithinBounds}
 use Rattle.aig_map.specs.declared.map_block.MappedGate.{MappedGate}
 use Rattle.aig_map.specs.declared.map_block.MapBlock.{MapBlock}
 use Rattle.aig_map.specs.declared.recorded.Recorded.{Recorded}
-use Rattle.aig_map.specs.Parts.Tables.{block_in, block_read, IsBlockOf, IsFit, IsTakenOutOf}
-use Rattle.aig_map.specs.Parts.Turns.{positions}
+use Rattle.aig_map.specs.Parts.Tables.{block_in, block_read, without_comment, IsBlockOf, IsFit}
 use Rattle.aig_map.specs.Undone.{places_recorded}
 use Rattle.aig_map.proofs.BlockReading.Lines.{line, number_is_read, last_is_read, number_reads, last_reads}
 use Rattle.aig_map.proofs.BlockReading.Lines.{one_if_recorded, one_if_small, bit_recorded, at_most, there}
@@ -300,6 +300,17 @@ pub read_is_text : (x : Circuit) (b : MapBlock) (rest : List ℕ) → block_read
     → x.comment ≡ Some (block_text b ++ rest)
 read_is_text x b rest h = (block_reads x b rest h).0
 
+-- the rest is the end of the comment
+pub read_is_last : (x : Circuit) (b : MapBlock) (rest : List ℕ) → block_reading x ≡ Ok (b, rest)
+    → (length rest ≤ length (unwrap_or x.comment []))
+    × (drop (length (unwrap_or x.comment []) - length rest) (unwrap_or x.comment []) ≡ rest)
+read_is_last x b rest h =
+    let text : unwrap_or x.comment [] ≡ block_text b ++ rest =
+    ap (λ (c : Option (List ℕ)). unwrap_or c []) (read_is_text x b rest h) in
+    let many : length (unwrap_or x.comment []) ≡ length (block_text b) + length rest =
+    ap length text ∙ length-append (block_text b) rest in
+    (omega arith, rw text (drop_at (block_text b) rest _ (omega (arith, length-append (block_text b) rest))))
+
 -- and that one is the block that is read of the circuit
 pub read_is_block : (x : Circuit) (b : MapBlock) (rest : List ℕ) → block_reading x ≡ Ok (b, rest) → block_read x ≡ b
 unfolding block_read
@@ -312,14 +323,24 @@ read_is_fit x b rest ordered read once =
     let within = read_is_within x b rest read in
     record { ordered = ordered; counts = within.0; bounds = within.1; once = once }
 
--- and what is kept of it is kept of the block of the circuit
-pub kept_of_block : (x : Circuit) (b : MapBlock) (r : Recorded) (by_place rest : List ℕ) → IsInBinaryOrder x
-    → block_reading x ≡ Ok (b, rest) → AreDistinct (places_recorded b.gates) → by_place ≡ positions b.gates
-    → IsTakenOutOf b r → IsBlockOf x r by_place rest
-kept_of_block x b r by_place rest ordered read once placed recorded =
-    let is = read_is_block x b rest read in record {
-      fit = rw is (read_is_fit x b rest ordered read once);
-      read = rw is read;
-      placed = rw is placed;
-      recorded = rw is recorded;
-    }
+-- what is kept of a block is kept of it for the circuit without a comment too
+pub kept_without_comment : (b : MapBlock) (x left : Circuit) (r : Recorded) (by_place : List ℕ)
+    → left ≡ without_comment x → IsBlockOf b x r by_place → IsBlockOf b left r by_place
+kept_without_comment b x left r by_place bare kept =
+    let ordered = kept.fit.ordered in
+    let counts = kept.fit.counts in
+    subst (λ (y : Circuit). IsBlockOf b y r by_place) (sym bare) (record {
+      fit = record {
+        ordered = record {
+          inputs = ordered.inputs;
+          latches = ordered.latches;
+          gates = ordered.gates;
+          all = ordered.all;
+        };
+        counts = record { inputs = counts.inputs; latches = counts.latches; gates = counts.gates };
+        bounds = kept.fit.bounds;
+        once = kept.fit.once;
+      };
+      placed = kept.placed;
+      recorded = kept.recorded;
+    })

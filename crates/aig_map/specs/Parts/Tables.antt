@@ -1,8 +1,8 @@
 -- The block that is read of a circuit, and what is kept of it while the source is made.
-use Rattle.std.specs.Prelude.{◌≡◌, ℕ, List, [], false, Result, Ok, Err, length, map}
+use Rattle.std.specs.Prelude.{◌≡◌, ℕ, List, [], false, None, Result, Ok, Err, length, map}
 use Rattle.aig_circuit.specs.declared.circuit.Gate.{Gate}
 use Rattle.aig_circuit.specs.declared.circuit.Circuit.{Circuit}
-use Rattle.aig_circuit.specs.Wellformed.{AreDistinct}
+use Rattle.aig_circuit.specs.Wellformed.{AreDistinct, IsWellFormed}
 use Rattle.aig_checked.specs.BinaryOrder.{IsInBinaryOrder}
 use Rattle.aig_image.specs.Relabelled.{relabelled_gate}
 use Rattle.aig_image.specs.Reordered.{taken}
@@ -39,16 +39,25 @@ pub record IsFit (b : MapBlock) (x : Circuit) : Type 0 where
   pub bounds : IsWithinBounds b
   pub once : AreDistinct (places_recorded b.gates)
 
--- what is kept of the block at the front of a circuit's comment, and what follows the block there
-pub record IsBlockOf (x : Circuit) (r : Recorded) (by_place rest : List ℕ) : Type 0 where
-  -- The circuit is in binary order, and its block has its counts, is within bounds, and gives each gate its own place.
-  pub fit : IsFit (block_read x) x
-  -- The rest of the comment stands behind the block.
-  pub read : block_reading x ≡ Ok (block_read x, rest)
+-- what is kept of a block by which a circuit is undone
+pub record IsBlockOf (b : MapBlock) (x : Circuit) (r : Recorded) (by_place : List ℕ) : Type 0 where
+  -- The circuit is in binary order, and the block has its counts, is within bounds, and gives each gate its own place.
+  pub fit : IsFit b x
   -- The table gives the position in the source of the gate at each place of the image.
-  pub placed : by_place ≡ positions (block_read x).gates
+  pub placed : by_place ≡ positions b.gates
   -- The largest index, the comment section and the exchanges of operands are those that the block records.
-  pub recorded : IsTakenOutOf (block_read x) r
+  pub recorded : IsTakenOutOf b r
+
+-- the circuit without a comment
+abbrev pub without_comment : Circuit → Circuit
+without_comment x = record x { comment = None }
+
+-- what is left of a well-formed circuit once this block was taken off its comment: the comment behind it, and the
+-- circuit without a comment
+pub record IsLeftOf (x : Circuit) (b : MapBlock) (rest : List ℕ) (left : Circuit) : Type 0 where
+  pub formed : IsWellFormed x
+  pub read : block_reading x ≡ Ok (b, rest)
+  pub bare : left ≡ without_comment x
 
 -- these gates, by labels, stand at these positions
 pub record ArePut (f : ℕ → ℕ) (gates : List Gate) (positions : List ℕ) (found : List Gate) : Type 0 where
