@@ -186,13 +186,14 @@ fn recover(alloc: Global, image: Checked) -> Result<Checked, MapFault>
         return Err(MapFault::NotOrdered);
     }
     match take_block(alloc, image.into_circuit()) {
-        Ok(
-            TakenBlock {
+        Ok(taken) => {
+            let TakenBlock {
                 block,
                 comment,
                 image,
-            },
-        ) => undo_by_block(alloc, &image, block, comment.as_slice()),
+            } = taken;
+            undo_by_block(alloc, &image, block, comment.as_slice())
+        }
         Err(fault) => Err(fault),
     }
 }
