@@ -38,10 +38,13 @@ pub(crate) struct Lists {
 
 impl Lists {
     /// What the gates of a circuit need, and empty lists; and how many each of them needs, 0 to 2.
+    /// Where variables are spread, it takes time to come to their places, so operands are read
+    /// ahead.
     pub(crate) fn new(
         alloc: Global,
         circuit: &Circuit,
         index: &GateIndex,
+        is_spread: bool,
     ) -> Result<(Self, Vec<u8>), AllocError>
         requires few { length circuit.now.gates ≤ LARGEST }
         requires index { IsIndexOf circuit.now.gates index.now }
@@ -56,7 +59,10 @@ impl Lists {
         let mut rows = Vec::with_capacity(alloc, gates.len())?;
         let mut counts = Vec::with_capacity(alloc, gates.len())?;
         for gate in gates {
-            if rows.len() % AHEAD == 0 && index.is_any_need_overfull(gates, rows.len()) {
+            if is_spread
+                && rows.len() % AHEAD == 0
+                && index.is_any_need_overfull(gates, rows.len())
+            {
                 return Err(AllocError);
             }
             let needs = look_up(&index.positions, gate);
@@ -175,16 +181,17 @@ impl GateNeeds {
         ensures { IfOk result (λ all. AreNeedsOf circuit.now.gates all) }
     {
         let index = GateIndex::new(alloc, circuit)?;
-        GateNeeds::by_index(alloc, circuit, &index)
+        let (lists, counts) = Lists::new(alloc, circuit, &index, false)?;
+        Ok(GateNeeds { lists, counts })
     }
 
-    /// What the gates of a circuit need, by their index.
+    /// What the gates of a circuit need, by their index, which a caller makes of spread variables.
     pub fn by_index(alloc: Global, circuit: &Circuit, index: &GateIndex) -> Result<Self, AllocError>
         requires few { length circuit.now.gates ≤ LARGEST }
         requires index { IsIndexOf circuit.now.gates index.now }
         ensures { IfOk result (λ all. AreNeedsOf circuit.now.gates all) }
     {
-        let (lists, counts) = Lists::new(alloc, circuit, index)?;
+        let (lists, counts) = Lists::new(alloc, circuit, index, true)?;
         Ok(GateNeeds { lists, counts })
     }
 
