@@ -9,7 +9,7 @@ use Rattle.aig_map.specs.Undone.{IsMapFault, IsUndoneFrom}
 use Rattle.aig_map.specs.declared.fault.MapFault.{MapFault}
 use Rattle.aig_command.specs.declared.request.ToAig.{ToAig}
 use Rattle.aig_engines.specs.declared.conversion.Ready.{Ready}
-use Rattle.aig_engines.specs.declared.conversion.Ready.TheVariants.{Ascii, Binary}
+use Rattle.aig_engines.specs.declared.conversion.Ready.TheVariants.{Ascii, Binary, Mapped}
 use Rattle.aig_engines.specs.declared.fault.ToolFault.{ToolFault}
 use Rattle.aig_engines.specs.declared.fault.ToolFault.TheVariants.{HasBad, Map}
 use Rattle.aig_engines.specs.File.{IsFileOf}
@@ -75,3 +75,4 @@ IsConversionRefused request fault bytes =
 abbrev pub ready_text : Ready → List ℕ
 ready_text (Ascii circuit) = ascii_text circuit
 ready_text (Binary image) = binary_text image
+ready_text (Mapped image) = binary_text image

@@ -5,7 +5,7 @@ ghost use Rattle.aig_io.specs.Runs.{Ran};
 ghost use Rattle.aig_map.specs.Undone.{IsMapFault};
 ghost use Rattle.aig_command.specs.Answer.{IsKeptAlone, name_of};
 ghost use Rattle.aig_engines.specs.Conversion.{CanTurn, IsConversionRefused, IsConversionText};
-ghost use Rattle.aig_engines.specs.Conversion.{IsImageAs, IsSource, IsTextAs, ready_text};
+ghost use Rattle.aig_engines.specs.Conversion.{IsSource, IsTextAs, ready_text};
 ghost use Rattle.aig_engines.specs.Conversion.{stripped_if_asked, turned_if_asked};
 ghost use Rattle.aig_engines.specs.declared.fault.ToolFault.TheVariants as faults;
 ghost use Rattle.aig_engines.specs.Outcome.{Says};
@@ -17,7 +17,9 @@ use crate::outputs_as_bad::{symbols_if_free, with_outputs_as_bad};
 use aig_binary::{Ordered, write_binary};
 use aig_command::ToAig;
 use aig_core::{Checked, Circuit, Keep, OutOfMemory, Sink, Source, Steps, Symbols};
-use aig_order::{MapFault, into_binary, into_binary_with_map, undo};
+use aig_order::{
+    MapFault, MappedImage, into_binary, into_binary_with_map, undo, write_mapped,
+};
 use aig_text::{WriteFault, write_ascii};
 use std::alloc::Global;
 
@@ -29,6 +31,8 @@ pub enum Ready {
     Ascii(Checked),
     /// An image, in binary.
     Binary(Ordered),
+    /// An image with a map, in binary.
+    Mapped(MappedImage),
 }
 
 /// What is wanted of the check later: a binary image of the circuit that is read needs an order of
@@ -86,17 +90,6 @@ fn undo_if_asked(alloc: Global, request: &ToAig, found: Checked) -> Result<Check
     undo(alloc, found)
 }
 
-/// The image of a circuit, with the map where the request asks for it.
-fn image(alloc: Global, request: &ToAig, circuit: Checked) -> Result<Ordered, OutOfMemory>
-    ensures { IfOk result (λ image. IsImageAs request.now.keep_map circuit image) }
-{
-    if request.keep_map {
-        into_binary_with_map(alloc, circuit, &mut Steps::new())
-    } else {
-        into_binary(alloc, circuit, &mut Steps::new())
-    }
-}
-
 /// The circuit in the form that the request asks for.
 fn convert_as_asked(alloc: Global, request: &ToAig, circuit: Checked) -> Result<Ready, OutOfMemory>
     ensures { IfOk result (λ ready.
@@ -105,7 +98,11 @@ fn convert_as_asked(alloc: Global, request: &ToAig, circuit: Checked) -> Result<
     if request.ascii {
         return Ok(Ready::Ascii(circuit));
     }
-    Ok(Ready::Binary(image(alloc, request, circuit)?))
+    let steps = &mut Steps::new();
+    if request.keep_map {
+        return Ok(Ready::Mapped(into_binary_with_map(alloc, circuit, steps)?));
+    }
+    Ok(Ready::Binary(into_binary(alloc, circuit, steps)?))
 }
 
 /// Reads the source to its end, and writes what the request asks for. Nothing is sent before the
@@ -167,6 +164,11 @@ impl Engine for ToAig {
             }
             Ready::Binary(image) => {
                 let written = write_binary(&image, sink);
+                drop(image); // for the proof
+                written
+            }
+            Ready::Mapped(image) => {
+                let written = write_mapped(&image, sink);
                 drop(image); // for the proof
                 written
             }

@@ -1,5 +1,5 @@
 -- The mapped image of a well-formed circuit is well formed and in binary order, and there is exactly one.
-use Rattle.std.proofs.Common.{◌≡◌, ◌∙◌, ◌+◌, ◌-◌, ◌≤◌, ◌++◌, rules, ℕ, List, refl, sym, ap, subst, length, Some, arith}
+use Rattle.std.proofs.Common.{◌≡◌, ◌∙◌, ◌+◌, ◌-◌, ◌≤◌, ◌++◌, rules, ℕ, List, refl, sym, ap, ap₂, subst, length, arith}
 use Rattle.std.proofs.Common.{map, min, None, length-append, Option, unwrap_or}
 use Rattle.std.specs.List.{range_with_len}
 use Rattle.std.proofs.Math.Nat.{min-eq_left}
@@ -27,7 +27,8 @@ use Rattle.aig_image.proofs.Relabelling.Formed.{symbols_kept, counts_kept}
 use Rattle.aig_image.proofs.Relabelling.Relabelled.{map_where, same_gate, names_only}
 use Rattle.aig_image.proofs.Imaging.Renewed.{same_names, made_is_image}
 use Rattle.aig_image.proofs.Imaging.OwnImage.{numbered_in_order, sorted_image, same_variable}
-use Rattle.aig_map.specs.MapBlock.{mapped_by, IsMappedImage, block_by, map_block, mapped_comment}
+use Rattle.aig_map.specs.MapBlock.{mapped_by, IsMappedImage, block_by, map_block}
+use Rattle.aig_map.specs.Parts.Kept.{with_block}
 use Rattle.aig_map.specs.declared.map_block.MappedGate.{MappedGate}
 use Rattle.aig_map.specs.declared.map_block.MapBlock.{MapBlock}
 
@@ -41,7 +42,7 @@ module _ (c : Circuit) (comment : Option (List ℕ)) where
   comment_is_free good = search (rules, symbols_kept, counts_kept)
 
   -- and in binary order
-  comment_keeps_order : IsInBinaryOrder c → IsInBinaryOrder with_comment
+  pub comment_keeps_order : IsInBinaryOrder c → IsInBinaryOrder with_comment
   comment_keeps_order ordered = search rules
 
 abbrev IsGood : Circuit → Type 0
@@ -93,28 +94,17 @@ module _ (c : Circuit) (order : List ℕ) (number : ℕ → ℕ)
 pub few_before_gates : (c : Circuit) → IsWellFormed c → length c.inputs + length c.latches ≤ LARGEST
 few_before_gates c good = omega (arith, definitions_fit c good, good.limits.max_var)
 
--- another comment changes nothing in how gates are taken
-module _ (c : Circuit) (comment : List ℕ) where
-  abbrev with_text : Circuit
-  with_text = record c { comment = Some comment }
-
-  order_stays : (order : List ℕ) → IsLeastReadyOrder c order → IsLeastReadyOrder with_text order
-  order_stays order least = record { in_turn = least.in_turn; full = least.full }
-
-  pub renumbering_stays : (r : Renumbering) → IsRenumberingOf c r → IsRenumberingOf with_text r
-  renumbering_stays r of_it = search (rules, order_stays)
-
-  -- the binary image with the comment that tells the block
-  pub is_mapped_image : (r : Renumbering) (image : Circuit) → IsWellFormed c → IsRenumberingOf c r
-      → comment ≡ mapped_comment (block_by (number_of r.numbers) c) c → IsBinaryImage with_text image
-      → IsMappedImage c image
-  is_mapped_image r image good of_it tells (order, least, is) =
-      let here : IsLeastReadyOrder c order = record { in_turn = least.in_turn; full = least.full } in
-      let same : of_it.order ≡ order = one_least_ready_order c of_it.order order of_it.least here in
-      let block = block_is c of_it.order (number_of r.numbers)
-      (same_names c of_it.order good of_it.least (number_of r.numbers) of_it.numbers.numbers)
-      ∙ ap (λ at. map_block at c) same in
-      search rules
+-- the binary image with a block that records the circuit
+pub is_mapped_image : (c : Circuit) (r : Renumbering) (block : MapBlock) (image : Circuit) → IsWellFormed c
+    → IsRenumberingOf c r → block ≡ block_by (number_of r.numbers) c → IsBinaryImage c image
+    → IsMappedImage c (with_block block image)
+is_mapped_image c r block image good of_it tells (order, least, is) =
+    let same : of_it.order ≡ order = one_least_ready_order c of_it.order order of_it.least least in
+    let map_is = tells
+    ∙ block_is c of_it.order (number_of r.numbers)
+    (same_names c of_it.order good of_it.least (number_of r.numbers) of_it.numbers.numbers)
+    ∙ ap (λ at. map_block at c) same in
+    (order, least, ap₂ with_block map_is is)
 
 -- A circuit whose variables are numbered in order, with its map and its operands sorted, is its mapped image.
 
@@ -143,36 +133,29 @@ module _ (c : Circuit) (good : IsWellFormed c) (numbered : IsNumberedInOrder c) 
       (search (rules, all_weaker, min-eq_left, same_variable))
       good
 
-  pub with_map_is_image : (comment : List ℕ) → comment ≡ mapped_comment (block_by kept c) c
-      → IsMappedImage c (record (with_operands_sorted c) { comment = Some comment })
-  with_map_is_image comment tells =
+  pub with_map_is_image : (block : MapBlock) → block ≡ block_by kept c
+      → IsMappedImage c (with_block block (with_operands_sorted c))
+  with_map_is_image block tells =
       let own = sorted_image c good numbered in
       let least = numbered_in_order c numbered in
-      let same : own.0 ≡ order = one_least_ready_order c own.0 order own.1 least in
+      let same : order ≡ own.0 = one_least_ready_order c order own.0 least own.1 in
       let names : NamesOnly (λ v. kept v ≡ renumbered (in_new_order c order) v) c = rw new_is names_stay in
-      let text = tells ∙ ap (λ (b : MapBlock). mapped_comment b c) (block_is c order kept names) in (
-        order,
-        least,
-        search rules,
-      )
+      let map_is = tells ∙ block_is c order kept names ∙ ap (λ at. map_block at c) same in
+      (own.0, own.1, ap₂ with_block map_is own.2)
 
--- the larger operand of each gate first, this comment, and as many variables as are defined
-abbrev pub sorted_with : List ℕ → Circuit → Circuit
-sorted_with comment c = record (with_operands_sorted c) {
+-- the larger operand of each gate first, and as many variables as are defined
+abbrev pub all_sorted : Circuit → Circuit
+all_sorted c = record (with_operands_sorted c) {
   max_var = length c.inputs + length c.latches + length c.gates;
-  comment = Some comment;
 }
 
 module _ (c : Circuit) (r : Renumbering) (good : IsWellFormed c) (of_it : IsRenumberingOf c r)
-    (in_order : r.taken ≡ None) (comment : List ℕ) where
+    (in_order : r.taken ≡ None) where
   abbrev f : ℕ → ℕ
   f = number_of r.numbers
 
-  abbrev commented : Circuit
-  commented = record c { comment = Some comment }
-
   abbrev pub made : Circuit
-  made = sorted_with comment (relabelled f c)
+  made = all_sorted (relabelled f c)
 
   gates_are : c.gates ≡ unwrap_or r.taken c.gates
   gates_are = ap (λ t. unwrap_or t c.gates) (sym in_order)
@@ -180,15 +163,5 @@ module _ (c : Circuit) (r : Renumbering) (good : IsWellFormed c) (of_it : IsRenu
   count_is : made.max_var ≡ r.numbers.noted
   count_is = search (rules, variables, gates_are, length-append, length-map)
 
-  made_is : IsBinaryImage commented made
-  made_is =
-      made_is_image commented r made c.gates (comment_is_free c (Some comment) good)
-      (renumbering_stays c comment r of_it)
-      (search (rules, count_is))
-      gates_are
-
-  pub made_is_ordered : IsWellFormed made × IsInBinaryOrder made
-  made_is_ordered = image_is_ordered commented made (comment_is_free c (Some comment) good) made_is
-
-  pub made_is_mapped : comment ≡ mapped_comment (block_by f c) c → IsMappedImage c made
-  made_is_mapped tells = is_mapped_image c comment r made good of_it tells made_is
+  pub made_is : IsBinaryImage c made
+  made_is = made_is_image c r made c.gates good of_it (search (rules, count_is)) gates_are

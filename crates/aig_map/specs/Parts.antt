@@ -3,7 +3,6 @@ pub mod Confirmed
 pub mod Had
 pub mod MapOutcomes
 pub mod Placed
-pub mod Recorded
 pub mod Tables
 pub mod Turns
 pub mod Kept

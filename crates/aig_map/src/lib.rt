@@ -1,8 +1,9 @@
 //! Map blocks: what a conversion to binary order changed, as text at the front of a comment.
 //!
-//! `aig_order` calls `map_comment` and `new_map_comment`, which make the comment with a block;
-//! `take_block`, which reads one; and `source_variables`, `positions_by_place`, `into_recorded`,
-//! `make_undone`, `tells_comment` and `tells_order`, of which undoing is made.
+//! `aig_order` calls `record_map` and `record_new_map`, which make a block; `put_map_comment`,
+//! which puts the comment with it, and `map_comment`, which makes that; `take_block`, which reads
+//! one; and `source_variables`, `positions_by_place`, `into_recorded`, `make_undone`,
+//! `tells_comment` and `tells_order`, of which undoing is made.
 //!
 //! The definitions that matter most are `block_text`, `IsMappedImage` and `IsUndoneFrom`.
 #![tactic(auto)]
@@ -13,6 +14,7 @@ mod map_block;
 mod map_reading;
 mod map_text;
 mod recorded;
+mod recording;
 mod turns;
 mod undone;
 
@@ -20,7 +22,8 @@ pub use crate::confirmed::tells_comment;
 pub use crate::fault::MapFault;
 pub use crate::map_block::{MapBlock, MappedGate};
 pub use crate::map_reading::{TakenBlock, take_block};
-pub use crate::map_text::{KeptVariables, keep_variables, map_comment, new_map_comment};
+pub use crate::map_text::{map_comment, put_map_comment};
 pub use crate::recorded::{Recorded, into_recorded};
+pub use crate::recording::{KeptVariables, keep_variables, record_map, record_new_map};
 pub use crate::turns::{positions_by_place, tells_order};
 pub use crate::undone::{SourceVariables, make_undone, source_variables};

@@ -4,8 +4,7 @@ use Rattle.aig_text.specs.AsciiText.{numbers_text}
 use Rattle.aig_map.specs.MapBlock.{variable_row}
 use Rattle.aig_map.proofs.map_text.put_variables.Goals as goal
 
-pub loop-item-preserved : goal.loop-item-preserved
-loop-item-preserved g c =
-    put_more (λ x. numbers_text (variable_row (g.T.Defines.variable x))) _ _ _ _ _ _ _ c.item-item.is
-    c.loop-item.invariant
+pub loop-variable-preserved : goal.loop-variable-preserved
+loop-variable-preserved g c =
+    put_more (λ v. numbers_text (variable_row v)) _ _ _ _ _ _ _ c.variable-item.is c.loop-variable.invariant
     (search rules) (omega arith)
