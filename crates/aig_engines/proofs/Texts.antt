@@ -9,7 +9,7 @@ use Rattle.aig_command.specs.declared.request.UnrolledForm.TheVariants as forms
 use Rattle.aig_engines.specs.Conversion.{ready_text}
 use Rattle.aig_engines.specs.Unrolling.{unrolled_text}
 use Rattle.aig_engines.specs.declared.conversion.Ready.{Ready}
-use Rattle.aig_engines.specs.declared.conversion.Ready.TheVariants.{Ascii, Binary}
+use Rattle.aig_engines.specs.declared.conversion.Ready.TheVariants.{Ascii, Binary, Mapped}
 
 pub unrolled_begins : (form : UnrolledForm) (c : Circuit) → 0 < length (unrolled_text form c)
 unfolding ascii_text binary_text cnf_text
@@ -25,3 +25,4 @@ what_is_unrolled_begins form (Err fault) = tt
 pub ready_begins : (ready : Ready) → 0 < length (ready_text ready)
 ready_begins (Ascii c) = unrolled_begins forms.Ascii c
 ready_begins (Binary c) = unrolled_begins forms.Binary c
+ready_begins (Mapped c) = unrolled_begins forms.Binary c

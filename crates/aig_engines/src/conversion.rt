@@ -17,9 +17,7 @@ use crate::outputs_as_bad::{symbols_if_free, with_outputs_as_bad};
 use aig_binary::{Ordered, write_binary};
 use aig_command::ToAig;
 use aig_core::{Checked, Circuit, Keep, OutOfMemory, Sink, Source, Steps, Symbols};
-use aig_order::{
-    MapFault, MappedImage, into_binary, into_binary_with_map, undo, write_mapped,
-};
+use aig_order::{MapFault, MappedImage, into_binary, into_binary_with_map, undo, write_mapped};
 use aig_text::{WriteFault, write_ascii};
 use std::alloc::Global;
 

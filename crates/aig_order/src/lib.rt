@@ -11,9 +11,7 @@ mod mapped;
 mod plain;
 mod undoing;
 
-pub use crate::mapped::{
-    MappedImage, into_binary_with_map, to_binary_with_map, write_mapped,
-};
+pub use crate::mapped::{MappedImage, into_binary_with_map, to_binary_with_map, write_mapped};
 pub use crate::plain::to_binary;
 pub use crate::undoing::undo;
 pub use aig_image::into_binary;

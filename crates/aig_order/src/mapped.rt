@@ -15,7 +15,7 @@ ghost use Rattle.aig_map.specs.Parts.Kept.{AreVariablesOf, with_block};
 
 use aig_binary::write_binary;
 use aig_core::{
-    Checked, Circuit, DeviceFault, LARGEST, Listing, Ordered, OutOfMemory, Output, Sink, Steps, Var,
+    Checked, Circuit, LARGEST, Listing, Ordered, OutOfMemory, Output, Sink, Steps, Var,
     is_numbered_in_order,
 };
 use aig_image::{Labels, Renumbering, relabel, sort_operands};
@@ -84,7 +84,7 @@ impl MappedImage {
         put_map_comment(output, &self.block, &self.comment);
     }
 
-    fn write_comment<W: Sink>(&self, sink: &mut W) -> Result<(), DeviceFault>
+    fn write_comment<W: Sink>(&self, sink: &mut W) -> Result<(), WriteFault>
         requires { CanFail (W.past sink.old) }
         ensures ok { OnOk result (W.past sink.new
             ≡ took (comment_text self.now.comment) (W.past sink.old)) }
@@ -94,7 +94,8 @@ impl MappedImage {
         let mut output = Output::new(sink);
         self.put_comment(&mut output);
         let (sent, _sink) = output.finish();
-        sent
+        sent?;
+        Ok(())
     }
 }
 
@@ -108,8 +109,7 @@ pub fn write_mapped<W: Sink>(image: &MappedImage, sink: &mut W) -> Result<(), Wr
         (W.past sink.new)) }
 {
     write_binary(&image.plain, sink)?;
-    image.write_comment(sink)?;
-    Ok(())
+    image.write_comment(sink)
 }
 
 /// What labels each variable with itself. One that is too large for a literal, as no circuit has

@@ -1,6 +1,6 @@
 use Rattle.std.proofs.Common.{rules, subst, sym}
 use Rattle.aig_circuit.specs.Wellformed.{IsWellFormed}
-use Rattle.aig_order.proofs.mapped.into_mapped_image.Goals as goal
+use Rattle.aig_order.proofs.mapped.into_binary_with_map.Goals as goal
 
 pub renumbered_with_map-requires-clause-good : goal.renumbered_with_map-requires-clause-good
 renumbered_with_map-requires-clause-good c =
