@@ -1,7 +1,8 @@
 """Compares the traces that the program writes with --batch with those that it writes without, on circuits and stimuli made
 by chance.
 
-The circuits are those of images.py, some with more inputs or latches. A stimulus has some runs, as many as go side by side or
+The circuits are those of images.py, some with more inputs or latches, and some with so many gates, each over variables near
+before it, that their variables need few places of a table. A stimulus has some runs, as many as go side by side or
 not, of 0 to 40 steps each in any mixture. The text must be the same byte for byte, without and with properties; of short
 stimuli it must be the one of the plain evaluation of traces.py too. Then one of the lines is made bad, the first, the last or
 any other: with --batch nothing may be written, and the line must be told.
@@ -38,7 +39,9 @@ def with_bad_line(chance, inputs, lines):
 
 def judge(program, folder, number, chance):
     """What is wrong with the traces of this circuit, if anything is."""
-    made = images.circuit(chance, most_latches=chance.choice([3, 3, 70]), most_inputs=chance.choice([4, 4, 70]))
+    most, reach = chance.choice([(11, None), (11, None), (400, 6), (400, 30)])
+    most_latches, most_inputs = chance.choice([3, 3, 70]), chance.choice([4, 4, 70])
+    made = images.circuit(chance, most_latches=most_latches, most_inputs=most_inputs, most_gates=most, reach=reach)
     lines = stimulus(chance, len(made.inputs), RUNS[number % len(RUNS)])
     steps = Path(folder) / f"steps.{number}"
     given = traces.text_of(chance, lines)

@@ -46,8 +46,8 @@ def literals(chance, literal, most):
     return [literal() for _ in range(chance.randrange(most))]
 
 
-def circuit(chance, may_be_cyclic=False, most_latches=3, most_inputs=4, most_gates=11):
-    """A circuit made by chance."""
+def circuit(chance, may_be_cyclic=False, most_latches=3, most_inputs=4, most_gates=11, reach=None):
+    """A circuit made by chance. Its gates are over any variable, or over those that reach so far before them."""
     inputs, latches, count = (chance.randrange(most + 1) for most in (most_inputs, most_latches, most_gates))
     total = inputs + latches + count
     largest = chance.choice([total + 3, 1000, 2147483647])
@@ -55,14 +55,15 @@ def circuit(chance, may_be_cyclic=False, most_latches=3, most_inputs=4, most_gat
     first = inputs + latches
     has_more = chance.randrange(2)
 
-    def literal(places=total):
-        place = chance.randrange(places + 1)
+    def literal(places=total, lowest=0):
+        place = chance.randrange(lowest, places + 1)
         return chance.randrange(2) + (2 * variables[place - 1] if place else 0)
 
     gates = []
     for place in range(first, total):
         below = total if may_be_cyclic else place
-        gates.append((2 * variables[place], literal(below), literal(below)))
+        lowest = max(0, place - reach) if reach else 0
+        gates.append((2 * variables[place], literal(below, lowest), literal(below, lowest)))
     chance.shuffle(gates)
     made = Circuit(
         largest=largest,

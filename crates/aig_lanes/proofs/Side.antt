@@ -2,3 +2,4 @@ pub mod Eights
 pub mod Sheets
 pub mod InputBits
 pub mod Tables
+pub mod Places

@@ -6,3 +6,4 @@ pub mod InputBits
 pub mod Vectors
 pub mod LaneTexts
 pub mod Kept
+pub mod Places

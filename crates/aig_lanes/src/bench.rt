@@ -44,7 +44,7 @@ fn take_step(
 {
     let parts = machine.parts();
     put_vectors(bits, parts.inputs.len(), step, table);
-    assign_lanes(machine, state, table);
+    assign_lanes(machine, &shown.places, state, table);
     shown.show(table, state, sheet, step);
 }
 
@@ -142,10 +142,12 @@ impl Bench {
             return Err(OutOfMemory);
         }
         let parts = machine.parts();
+        let steps = longest_of(groups).saturating_mul(groups.len());
         let line = vec![in alloc; 0; line_room]?;
-        let table = new_table(alloc, 1 + parts.max_var as usize)?;
+        let _largest = parts.max_var; // for the proof
+        let shown = LaneColumns::new(alloc, machine, columns, steps)?;
+        let table = new_table(alloc, shown.places.count)?;
         let state = new_table(alloc, parts.latches.len())?;
-        let shown = LaneColumns::new(alloc, parts, columns)?;
         let bits = new_bits(alloc, parts.inputs.len(), groups)?;
         let sheet = shown.new_sheet(alloc, groups)?;
         Ok(Bench {

@@ -16,13 +16,15 @@ ghost use Rattle.aig_step.specs.Parts.Tables.{IsLiteralBelow, read_from};
 ghost use Rattle.aig_step.specs.TraceText.{values_text};
 
 use crate::lanes::{planes_of, put_literal_planes};
+use crate::places::Places;
+use crate::placing::places_for;
 use crate::planes::{Plane, plane_of};
 use crate::run::FullRow;
 use crate::sheets::Sheet;
 use crate::tables::{begin_table, fill_table};
 use crate::vectors::RunGroup;
 use aig_circuit::{Circuit, Latch, Listing, Lit, OutOfMemory, Reset, Val};
-use aig_step::{Columns, write_text_column};
+use aig_step::{Columns, Machine, write_text_column};
 use std::alloc::{AllocError, Global};
 
 /// What steps show. In the lanes of a sheet it stands step behind step: the state, the outputs, and
@@ -39,7 +41,10 @@ pub struct LaneColumns {
     constraints: usize,
     /// The state by the resets.
     resets: Vec<Lit>,
-    /// What is put for a step: what it shows beside its state, and the state behind it.
+    /// Where the values of variables stand in a table.
+    pub(crate) places: Places,
+    /// What is put for a step, over places: what it shows beside its state, and the state behind
+    /// it.
     literals: Vec<Lit>,
     ghost counted: { outputs + (bad + constraints) + length resets.items ≡ length literals.items },
 }
@@ -141,21 +146,29 @@ impl LaneColumns {
     ghost use Rattle.aig_lanes.specs.Parts.LaneTexts.{HoldsRuns, RowStands, ShowsRows, end_of};
     ghost use Rattle.aig_lanes.specs.Parts.LaneTexts.{shown_properties, shown_size, shown_text};
 
-    /// What a circuit shows.
-    pub fn new(alloc: Global, parts: &Circuit, columns: Columns) -> Result<Self, OutOfMemory>
+    /// What a circuit shows in about so many steps.
+    pub(crate) fn new(
+        alloc: Global,
+        machine: &Machine,
+        columns: Columns,
+        steps: usize,
+    ) -> Result<Self, OutOfMemory>
         ensures columns { IfOk result (λ shown. shown.columns ≡ columns) }
-        ensures shows { IfOk result (λ shown. ShowsRows parts.now shown) }
+        ensures shows { IfOk result (λ shown. ShowsRows machine.now shown) }
     {
+        let parts = machine.parts();
         let latches = parts.latches.as_slice();
         let resets = reset_literals(alloc, latches)?;
         let mut literals = literals_beside_states(alloc, parts, columns)?;
         add_next(&mut literals, latches)?;
+        let (places, literals) = places_for(alloc, machine, literals, steps);
         Ok(LaneColumns {
             columns,
             outputs: parts.outputs.len(),
             bad: if_asked_for(columns, parts.bad.as_slice()).len(),
             constraints: if_asked_for(columns, parts.constraints.as_slice()).len(),
             resets,
+            places,
             literals,
         })
     }

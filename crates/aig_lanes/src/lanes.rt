@@ -8,11 +8,14 @@ ghost use Rattle.aig_circuit.specs.Values.{value_and, value_not};
 ghost use Rattle.aig_meaning.specs.Meaning.{literal_value};
 ghost use Rattle.aig_lanes.specs.Parts.Groups.{Assigned};
 ghost use Rattle.aig_lanes.specs.Parts.Lanes.{IsLane, IsPair, may_be_one};
+ghost use Rattle.aig_lanes.specs.Parts.Places.{ArePlaces, IsGateBelow, StandFor};
+ghost use Rattle.aig_lanes.specs.Parts.Places.{evaluated_in_turn};
 ghost use Rattle.aig_step.specs.Parts.Tables.{IsLiteralBelow, IsPairBelow};
 ghost use Rattle.aig_step.specs.Parts.Tables.{evaluated, placed, read_from};
 
+use crate::places::Places;
 use crate::planes::{Plane, plane_of};
-use aig_circuit::{Lit, Val};
+use aig_circuit::{Gate, Lit, Val, Var};
 use aig_step::{Machine, Pair};
 
 #[inline(always)]
@@ -111,18 +114,43 @@ pub(crate) fn evaluate_lanes(pairs: &[Pair], planes: &mut [Plane])
     }
 }
 
+#[inline(always)]
+fn place_of(variable: Var) -> usize
+    ensures { result ≡ variable }
+{
+    variable.0 as usize
+}
+
+/// The variables of the gates are places of the table.
+pub(crate) fn evaluate_gates(gates: &[Gate], planes: &mut [Plane])
+    requires { All (IsGateBelow (length planes.old / 2)) gates.now }
+    ensures { (l : ℕ) (values : List Value) → IsLane l planes.old values
+        → IsLane l planes.new (evaluated_in_turn gates.now values) }
+{
+    for gate in gates {
+        let pair = Pair {
+            left: gate.left,
+            right: gate.right,
+        };
+        let (one, zero) = planes_of_gate(planes, pair);
+        put_pair(planes, place_of(gate.var), one, zero);
+    }
+}
+
 /// Fills a table with the values of a step in each lane, where it has those of the constant and of
 /// the inputs.
-pub fn assign_lanes(machine: &Machine, state: &[Plane], table: &mut [Plane])
+pub(crate) fn assign_lanes(machine: &Machine, places: &Places, state: &[Plane], table: &mut [Plane])
+    requires places { ArePlaces machine.now places.now }
     requires each_latch { length state.now ≡ 2 * length machine.now.latches }
-    requires room { length table.old ≡ 2 * (1 + machine.now.max_var) }
-    ensures { (l : ℕ) (given values before : List Value) → length given ≡ length machine.now.inputs
+    requires room { length table.old ≡ 2 * places.now.count }
+    ensures { (l : ℕ) (given values before : List Value) (literals seen : List ℕ)
+        → StandFor machine.now places.now literals seen
+        → length given ≡ length machine.now.inputs
         → IsLane l table.old (placed 1 given (slice_set values 0 Zero)) → IsLane l state.now before
-        → Assigned machine.now l before given table.new }
+        → Assigned machine.now l places.now.count before given literals seen table.new }
 {
     let parts = machine.parts();
-    let _largest = parts.max_var; // for the proof
-    let pairs = machine.pairs();
+    let _pairs = machine.pairs(); // for the proof
     place_lanes(table, 1 + parts.inputs.len(), state);
-    evaluate_lanes(pairs, table);
+    places.evaluate(machine, table);
 }

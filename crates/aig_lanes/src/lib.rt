@@ -13,6 +13,8 @@ mod input_bits;
 mod input_planes;
 mod lane_columns;
 mod lanes;
+mod places;
+mod placing;
 mod planes;
 mod run;
 mod sheets;

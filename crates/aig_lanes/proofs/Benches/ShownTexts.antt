@@ -14,12 +14,11 @@ use Rattle.aig_lanes.specs.declared.run.Run.{Run}
 use Rattle.aig_lanes.specs.declared.lane_columns.LaneColumns.{LaneColumns}
 use Rattle.aig_step.specs.declared.trace.Columns.{Columns}
 use Rattle.aig_step.specs.declared.trace.Columns.TheVariants.{Plain, Properties}
-use Rattle.aig_lanes.specs.Parts.Kept.{asked}
+use Rattle.aig_lanes.specs.Parts.Kept.{asked, step_literals}
 use Rattle.aig_lanes.specs.Parts.LaneTexts.{IsTextOf, KeepsTrace, RowStands, ShowsRows, end_of, kept_text}
 use Rattle.aig_lanes.specs.Parts.LaneTexts.{shown_properties, shown_text}
 use Rattle.aig_lanes.specs.Parts.Sheets.{part}
 use Rattle.aig_step.specs.Parts.Lines.{row_read}
-use Rattle.aig_step.specs.Parts.Tables.{read_from}
 use Rattle.aig_step.specs.TraceText.{character_of, properties_text, row_text, rows_text, values_text}
 use Rattle.aig_step.proofs.Running.Machines.{state_after_last}
 use Rattle.aig_lanes.proofs.Side.Sheets.{part_same, steps_within}
@@ -58,16 +57,16 @@ column text front put before values behind end from count is parted begins long 
 
 -- a step was put behind those before it
 module _ (c : Circuit) (shown : LaneColumns) (shows : ShowsRows c shown) (step : ℕ) (before after : List ℕ)
-    (values start given : List Val) (room : end_of shown step ≤ length before)
+    (a : ℕ → Val) (start given : List Val) (room : end_of shown step ≤ length before)
     (put : take (end_of shown (step + 1)) after ≡ take (end_of shown step) before
-    ++ values_text (map (literal_value (read_from values)) shown.literals.items))
+    ++ values_text (map (literal_value a) (step_literals shown.columns c)))
     (front : take (end_of shown step) after ≡ take (end_of shown step) before)
     (state : part (step * length shown.literals.items) (length shown.resets.items) before ≡ values_text start) where
   abbrev value : ℕ → Val
-  value = literal_value (read_from values)
+  value = literal_value a
 
   abbrev row : Row
-  row = row_read c start given (read_from values)
+  row = row_read c start given a
 
   -- the row stands there
   pub row_stands : RowStands shown step given after row
@@ -78,8 +77,8 @@ module _ (c : Circuit) (shown : LaneColumns) (shows : ShowsRows c shown) (step :
       let n = map value (next_literals c) in
       let old = take (end_of shown step) before in
       let long : length old ≡ end_of shown step = length-take-le (end_of shown step) before room in
-      let all : map value shown.literals.items ≡ o ++ (b ++ (k ++ n)) =
-      ap (map value) shows.literals ∙ simp (map-append, asked-map, append_assoc) in
+      let all : map value (step_literals shown.columns c) ≡ o ++ (b ++ (k ++ n)) =
+      simp (map-append, asked-map, append_assoc) in
       let outputs : shown.outputs ≡ length o = shows.outputs ∙ sym (length-map c.outputs value) in
       let bad : shown.bad ≡ length b =
       shows.bad ∙ sym (length-map (asked shown.columns c.bad) value)
@@ -89,8 +88,8 @@ module _ (c : Circuit) (shown : LaneColumns) (shows : ShowsRows c shown) (step :
       ∙ ap length (asked-map value shown.columns c.constraints) in
       let next : length shown.resets.items ≡ length n = ap length shows.resets ∙ simp length-map in
       let end = end_of shown (step + 1) in
-      let at = λ (first column_values behind : List Val). column after old (map value shown.literals.items) first
-      column_values behind end in
+      let at = λ (first column_values behind : List Val). column after old
+      (map value (step_literals shown.columns c)) first column_values behind end in
       record {
         inputs = refl;
         state =

@@ -2,7 +2,7 @@
 use Rattle.std.proofs.Common.{◌≡◌, ◌*◌, ◌^◌, ◌<◌, ◌≤◌, ◌+◌, ◌-◌, ◌++◌, ◌∷◌, ◌∙◌, ℕ, List, [], ap, arith, get_or, length}
 use Rattle.std.proofs.Common.{subst, sym, rules, ap₂, map, drop, refl, take, inl, inr, All, mul-le-mul_left}
 use Rattle.std.proofs.Common.{mul-le-mul_right, drop_at, length-append, length-take, length-take-le, take_all}
-use Rattle.std.proofs.lemmas.List.{get_or_default, length-map, take_more}
+use Rattle.std.proofs.lemmas.List.{drop-map, get_or_default, length-map, take_more}
 use Rattle.std.proofs.lemmas.Bool.{cases_lt}
 use Rattle.std.proofs.lemmas.List.Elements.{All-append, All-map, All-nil}
 use Rattle.aig_circuit.specs.declared.circuit.Circuit.{Circuit}
@@ -72,7 +72,8 @@ pub bench_stays : (c : Circuit) (before after : Bench) → HasSameRoom before af
 bench_stays c before after same is = record {
   tables = record {
     bits = subst (AreBlocks (length c.inputs)) (sym same.bits.count) is.tables.bits;
-    table_size = same.table ∙ is.tables.table_size;
+    table_size =
+        same.table ∙ is.tables.table_size ∙ ap (λ (s : LaneColumns). 2 * s.places.count) (sym same.shown);
     state_size = same.state ∙ is.tables.state_size;
     shows = subst (ShowsRows c) (sym same.shown) is.tables.shows;
   };
@@ -149,11 +150,43 @@ room_for_steps c bench runs all one room =
 
 -- Steps of runs side by side.
 
+-- the literals of next states are the last ones that are put
+next_last : (c : Circuit) (shown : LaneColumns) → ShowsRows c shown
+    → drop (length shown.literals.items - length shown.resets.items) (step_literals shown.columns c) ≡ next_literals c
+next_last c shown shows =
+    let literals = seen shown.columns c.outputs c.bad c.constraints in
+    let properties = asked shown.columns c.bad ++ asked shown.columns c.constraints in
+    let size : length literals ≡ length shown.literals.items - length shown.resets.items =
+    omega (
+      arith,
+      shown.counted,
+      shows.outputs,
+      shows.bad,
+      shows.constraints,
+      length-append c.outputs properties,
+      length-append (asked shown.columns c.bad) (asked shown.columns c.constraints),
+    ) in
+    drop_at literals (next_literals c) (length shown.literals.items - length shown.resets.items) size
+
+-- and have the values of the state behind a step
+next_seen : (c : Circuit) (shown : LaneColumns) → ShowsRows c shown → (values : List Val) (a : ℕ → Val)
+    → map (literal_value (read_from values)) shown.literals.items
+    ≡ map (literal_value a) (step_literals shown.columns c)
+    → map (literal_value (read_from values))
+    (drop (length shown.literals.items - length shown.resets.items) shown.literals.items)
+    ≡ map (literal_value a) (next_literals c)
+next_seen c shown shows values a same =
+    let k = length shown.literals.items - length shown.resets.items in
+    sym (drop-map (literal_value (read_from values)) k shown.literals.items)
+    ∙ ap (drop k) same
+    ∙ drop-map (literal_value a) k (step_literals shown.columns c)
+    ∙ ap (map (literal_value a)) (next_last c shown shows)
+
 -- one more step of a run
 module _ (c : Circuit) (run : Run) (step lane : ℕ) (table begun table_now state state_now : List (List ℕ))
     (shown : LaneColumns) (before after : List BytesText) (shows : ShowsRows c shown) (fits : IsRunOf c run)
     (room : HoldsRun lane run shown before) (stood : LaneStands c run step lane table state shown before)
-    (steps : StepsIn c run step lane table begun table_now state state_now)
+    (steps : StepsIn c run step lane shown table begun table_now state state_now)
     (front : take (end_of shown step) (text_in lane after) ≡ take (end_of shown step) (text_in lane before))
     (text : (values : List Val) → step < length run.steps → IsLane lane table_now values
     → take (end_of shown (step + 1)) (text_in lane after) ≡ take (end_of shown step) (text_in lane before)
@@ -175,7 +208,8 @@ module _ (c : Circuit) (run : Run) (step lane : ℕ) (table begun table_now stat
   given = get_or run.steps step []
 
   module _ (has : step < length run.steps) where
-    assigned : Assigned c lane start given table_now
+    assigned : Assigned c lane shown.places.count start given (step_literals shown.columns c) shown.literals.items
+        table_now
     assigned =
         let there = stood.table_stands (omega (arith, has)) in
         let values = values_in lane table in
@@ -185,11 +219,14 @@ module _ (c : Circuit) (run : Run) (step lane : ℕ) (table begun table_now stat
     stands_now : LaneStands c run (step + 1) lane table_now state_now shown after
     stands_now =
         let values = values_in lane table_now in
-        let row = row_read c start given (read_from values) in
+        let a = assigned.step.value in
+        let row = row_read c start given a in
         let size : length vectors ≡ step = length-take-le step run.steps (omega (arith, has)) in
-        let stands = row_stands c shown shows step (text_in lane before) (text_in lane after) values start given
+        let stands = row_stands c shown shows step (text_in lane before) (text_in lane after) a start given
         (omega (arith, room, steps_within step (length run.steps) (length shown.literals.items) has))
-        (text values has assigned.now.stand) front
+        (text values has assigned.now.stand
+        ∙ ap (λ (vs : List Val). take (end_of shown step) (text_in lane before) ++ values_text vs) assigned.step.same)
+        front
         (ap (λ (n : ℕ). part (n * length shown.literals.items) (length shown.resets.items) (text_in lane before))
         (sym size) ∙ stood.keeps.last) in
         record {
@@ -198,11 +235,11 @@ module _ (c : Circuit) (run : Run) (step lane : ℕ) (table begun table_now stat
               (λ (vs : List (List Val)). KeepsTrace c vs shown (text_in lane after) (stood.rows ++ row ∷ []))
               (sym (take_more run.steps step [] has))
               (keeps_more c vectors shown (text_in lane after) stood.rows step row keeps
-              (row_is_read c start given (read_from values) assigned.assigned) refl size stands);
+              (row_is_read c start given a assigned.step.is_step) refl size stands);
           table_stands = λ _. assigned.now;
           state_stands = λ _.
               subst (λ (vs : List Val). IsLane lane state_now vs)
-              (sym (state_after_last (reset_state c) stood.rows row))
+              (next_seen c shown shows values a assigned.step.same ∙ sym (state_after_last (reset_state c) stood.rows row))
               (steps.show values start assigned.now.stand (stood.state_stands (omega (arith, has))));
         }
 
@@ -267,17 +304,16 @@ literals_below size columns c below = search (rules, All-append, All-map, asked_
 
 -- before the first step
 pub stands_first : (c : Circuit) (run : Run) (lane : ℕ) (table state : List (List ℕ)) (shown : LaneColumns)
-    (sheet : List BytesText) → ShowsRows c shown → length c.latches ≤ c.max_var
-    → Begun lane (1 + c.max_var) table
+    (sheet : List BytesText) → ShowsRows c shown → Begun lane shown.places.count table
     → IsLane lane state (map (literal_value (read_from (values_in lane table))) shown.resets.items)
     → take (end_of shown 0) (text_in lane sheet)
     ≡ values_text (map (literal_value (read_from (values_in lane table))) shown.resets.items)
     → LaneStands c run 0 lane table state shown sheet
-stands_first c run lane table state shown sheet shows room begun from kept =
+stands_first c run lane table state shown sheet shows begun from kept =
     let values = values_in lane table in
     let resets : map (literal_value (read_from values)) shown.resets.items ≡ reset_state c =
     ap (map (literal_value (read_from values))) shows.resets
-    ∙ reset_shown values c.latches begun.constant (λ some. begun.unknown (omega (arith, some, room))) in
+    ∙ reset_shown values c.latches begun.constant (λ some. begun.unknown (omega (arith, some, shows.places.room))) in
     let none : 0 * length shown.literals.items ≡ 0 = omega arith in
     let end : end_of shown 0 ≡ length shown.resets.items = omega arith in
     record {
@@ -295,22 +331,3 @@ stands_first c run lane table state shown sheet shows room begun from kept =
       table_stands = λ _. begun.now;
       state_stands = λ _. subst (λ (vs : List Val). IsLane lane state vs) resets from;
     }
-
--- the literals of next states are the last ones that are put
-pub next_last : (c : Circuit) (shown : LaneColumns) → ShowsRows c shown
-    → drop (length shown.literals.items - length shown.resets.items) shown.literals.items ≡ next_literals c
-next_last c shown shows =
-    let literals = seen shown.columns c.outputs c.bad c.constraints in
-    let properties = asked shown.columns c.bad ++ asked shown.columns c.constraints in
-    let size : length literals ≡ length shown.literals.items - length shown.resets.items =
-    omega (
-      arith,
-      shown.counted,
-      shows.outputs,
-      shows.bad,
-      shows.constraints,
-      length-append c.outputs properties,
-      length-append (asked shown.columns c.bad) (asked shown.columns c.constraints),
-    ) in
-    ap (drop (length shown.literals.items - length shown.resets.items)) shows.literals
-    ∙ drop_at literals (next_literals c) (length shown.literals.items - length shown.resets.items) size

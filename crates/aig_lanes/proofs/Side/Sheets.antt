@@ -1,6 +1,6 @@
 -- The steps of a run, and of the runs of a group, and the characters of literals in all lanes.
 use Rattle.std.proofs.Common.{◌≡◌, ◌*◌, ◌<◌, ◌∷◌, ◌∙◌, ◌+◌, ◌++◌, ◌≤◌, ◌≢◌, ◌/◌, ◌%◌, ◌^◌, ℕ, zero, suc, List, []}
-use Rattle.std.proofs.Common.{length, map, get_or, set, replicate, refl, sym, ap, subst, arith, rules, Option, None}
+use Rattle.std.proofs.Common.{◌-◌, length, map, get_or, set, replicate, refl, sym, ap, subst, arith, rules, Option, None}
 use Rattle.std.proofs.Common.{Some, drop, is_some, take, true, ap₂, min, max, All, drop-drop, length-drop}
 use Rattle.std.proofs.Common.{length-take-le, take-take, add-mul, mul-le-mul_right, one-mul, pow_pos, shr-shr}
 use Rattle.std.specs.Int.{bit_at}
@@ -15,7 +15,7 @@ use Rattle.std.proofs.lemmas.Simd.{length-zip2}
 use Rattle.aig_circuit.specs.declared.circuit.Circuit.{Circuit}
 use Rattle.aig_circuit.specs.declared.value.Val.{Val}
 use Rattle.aig_circuit.specs.declared.value.Val.TheVariants.{Zero, X, One}
-use Rattle.aig_meaning.specs.Meaning.{MeansTheSame, literal_value, next_literals}
+use Rattle.aig_meaning.specs.Meaning.{MeansTheSame, literal_value}
 use Rattle.aig_meaning.specs.Trace.{IsTrace, reset_state}
 use Rattle.aig_meaning.proofs.Traces.{same_meaning_same_traces}
 use Rattle.aig_step.specs.Parts.Tables.{placed, read_from}
@@ -23,9 +23,11 @@ use Rattle.aig_step.specs.Stimulus.{values_of}
 use Rattle.aig_step.specs.TraceText.{values_text, character_of}
 use Rattle.aig_step.proofs.Running.Machines.{same_reset_state}
 use Rattle.aig_step.proofs.LineValues.{values_length, values_back}
+use Rattle.aig_lanes.specs.declared.lane_columns.LaneColumns.{LaneColumns}
 use Rattle.aig_lanes.specs.declared.run.Run.{Run}
 use Rattle.aig_lanes.specs.declared.run.Trace.{Trace}
 use Rattle.aig_lanes.specs.Parts.Groups.{Assigned}
+use Rattle.aig_lanes.specs.Parts.Kept.{step_literals}
 use Rattle.aig_lanes.specs.Parts.Lanes.{IsLane, IsPlane, bit_in, bits_of_values, IsPair}
 use Rattle.aig_lanes.specs.Runs.{IsTraceOf, row_of}
 use Rattle.aig_lanes.specs.Parts.Vectors.{AreVectors, said, vectors_in}
@@ -50,15 +52,16 @@ table_of_x l n plane is_plane is = record {
 }
 
 -- what the parts of a step do in a lane
-pub record StepsIn (c : Circuit) (run : Run) (step lane : ℕ)
+pub record StepsIn (c : Circuit) (run : Run) (step lane : ℕ) (shown : LaneColumns)
     (table begun table_now state state_now : List (List ℕ)) : Type 0 where
   pub put : (values : List Val) → step < length run.steps → IsLane lane table values
       → IsLane lane begun (placed 1 (get_or run.steps step []) (set values 0 Zero))
   pub assign : (given values start : List Val) → length given ≡ length c.inputs
       → IsLane lane begun (placed 1 given (set values 0 Zero)) → IsLane lane state start
-      → Assigned c lane start given table_now
+      → Assigned c lane shown.places.count start given (step_literals shown.columns c) shown.literals.items table_now
   pub show : (values start : List Val) → IsLane lane table_now values → IsLane lane state start
-      → IsLane lane state_now (map (literal_value (read_from values)) (next_literals c))
+      → IsLane lane state_now (map (literal_value (read_from values))
+      (drop (length shown.literals.items - length shown.resets.items) shown.literals.items))
 
 -- traces of circuits that mean the same
 pub same_trace_of : (c d : Circuit) (run : Run) (trace : Trace) → MeansTheSame c d → IsTraceOf d run trace

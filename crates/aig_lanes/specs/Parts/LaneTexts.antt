@@ -13,6 +13,7 @@ use Rattle.aig_lanes.specs.declared.input_bits.InputWord.{InputWord}
 use Rattle.aig_lanes.specs.Parts.Groups.{IsTable}
 use Rattle.aig_lanes.specs.Parts.InputBits.{AreBlocks, HoldsLane}
 use Rattle.aig_lanes.specs.Parts.Lanes.{IsLane}
+use Rattle.aig_lanes.specs.Parts.Places.{ArePlaces, StandFor}
 use Rattle.aig_lanes.specs.Parts.Kept.{asked, reset_literals, step_literals}
 use Rattle.aig_lanes.specs.Parts.Sheets.{BytesText, part, text_in}
 use Rattle.aig_lanes.specs.Runs.{IsRunOf}
@@ -24,12 +25,13 @@ pub record ShowsRows (c : Circuit) (shown : LaneColumns) : Type 0 where
   pub bad : shown.bad ≡ length (asked shown.columns c.bad)
   pub constraints : shown.constraints ≡ length (asked shown.columns c.constraints)
   pub resets : shown.resets.items ≡ reset_literals c.latches
-  pub literals : shown.literals.items ≡ step_literals shown.columns c
+  pub places : ArePlaces c shown.places
+  pub literals : StandFor c shown.places (step_literals shown.columns c) shown.literals.items
 
 -- there are as many blocks of inputs and as many planes as a circuit asks for, and what is shown is what its rows show
 pub record AreTables (c : Circuit) (shown : LaneColumns) (blocks table state : ℕ) : Type 0 where
   pub bits : AreBlocks (length c.inputs) blocks
-  pub table_size : table ≡ 2 * (1 + c.max_var)
+  pub table_size : table ≡ 2 * shown.places.count
   pub state_size : state ≡ 2 * length c.latches
   pub shows : ShowsRows c shown
 
@@ -109,7 +111,7 @@ pub record LaneStands (c : Circuit) (run : Run) (steps lane : ℕ) (table state 
     (shown : LaneColumns) (sheet : List BytesText) : Type 0 where
   pub rows : List Row
   pub keeps : KeepsTrace c (take steps run.steps) shown (text_in lane sheet) rows
-  pub table_stands : steps ≤ length run.steps → IsTable lane (1 + c.max_var) table
+  pub table_stands : steps ≤ length run.steps → IsTable lane shown.places.count table
   pub state_stands : steps ≤ length run.steps → IsLane lane state (state_after (reset_state c) rows)
 
 -- the lines for all steps of a run, from the reset state

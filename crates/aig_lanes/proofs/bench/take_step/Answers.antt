@@ -1,30 +1,18 @@
-use Rattle.std.proofs.Common.{◌≡◌, ◌+◌, ◌/◌, ◌∙◌, List, [], ap, arith, get_or, length, map, subst, sym, ℕ, All}
+use Rattle.std.proofs.Common.{◌≡◌, ◌/◌, ◌∙◌, [], ap, arith, get_or, length, subst, sym, ℕ, All}
 use Rattle.std.proofs.lemmas.List.{length-map}
-use Rattle.aig_circuit.specs.declared.circuit.Latch.{Latch}
-use Rattle.aig_meaning.specs.Meaning.{literal_value}
 use Rattle.aig_lanes.specs.Parts.InputBits.{no_word}
-use Rattle.aig_lanes.specs.Parts.Lanes.{IsLane}
-use Rattle.aig_step.specs.Parts.Tables.{IsLiteralBelow, read_from}
+use Rattle.aig_lanes.specs.Parts.Kept.{step_literals}
+use Rattle.aig_step.specs.Parts.Tables.{IsLiteralBelow}
 use Rattle.aig_lanes.proofs.Side.Sheets.{steps_within}
-use Rattle.aig_lanes.proofs.Benches.Steps.{literals_below, next_last, stands_on}
+use Rattle.aig_lanes.proofs.Benches.Steps.{stands_on}
 use Rattle.aig_lanes.proofs.bench.take_step.Goals as goal
 
 pub show-requires-clause-below : goal.show-requires-clause-below
 show-requires-clause-below c =
-    let parts = c.parts-parts.ensures in
     let shown = c.args.shown.now in
-    let size = length c.assign_lanes.new.table / 2 in
-    let is : 1 + c.parts-parts.result.now.max_var ≡ size =
-    omega (arith, parts.max_var, c.requires.tables.table_size, c.assign_lanes.auto.table, c.put_vectors.auto.planes) in
-    let P = IsLiteralBelow (1 + c.parts-parts.result.now.max_var) in
-    subst (λ (n : ℕ). All (IsLiteralBelow n) shown.literals.items) is
-    (subst (All P) (sym c.requires.tables.shows.literals)
-    (literals_below (1 + c.parts-parts.result.now.max_var) shown.columns c.args.machine.now (record {
-      outputs = subst (All P) parts.outputs parts.below.outputs;
-      next = subst (All (λ (l : Latch). P l.next)) parts.latches parts.below.next;
-      bad = subst (All P) parts.bad parts.below.bad;
-      constraints = subst (All P) parts.constraints parts.below.constraints;
-    })))
+    let is : shown.places.count ≡ length c.assign_lanes.new.table / 2 =
+    omega (arith, c.requires.tables.table_size, c.assign_lanes.auto.table, c.put_vectors.auto.planes) in
+    subst (λ (n : ℕ). All (IsLiteralBelow n) shown.literals.items) is c.requires.tables.shows.literals.below
 
 pub returns-clause-stands : goal.returns-clause-stands
 returns-clause-stands c j run held stood =
@@ -40,10 +28,10 @@ returns-clause-stands c j run held stood =
           c.put_vectors.ensures j (get_or run.steps step []) values held.is_lane
           (held.fits step [] has ∙ sym (ap length parts.inputs) ∙ sym c.len.ensures)
           (λ block inside. held.stands block inside step no_word has) is;
-      assign = λ given values start long is from. c.assign_lanes.ensures j given values start long is from;
-      show = λ values start is from.
-          subst (λ (ls : List ℕ). IsLane j state_now (map (literal_value (read_from values)) ls))
-          (next_last machine shown c.requires.tables.shows) (c.show.ensures.state j values start is from);
+      assign = λ given values start long is from.
+          c.assign_lanes.ensures j given values start (step_literals shown.columns machine) shown.literals.items
+          c.requires.tables.shows.literals long is from;
+      show = λ values start is from. c.show.ensures.state j values start is from;
     })
     (c.show.ensures.front j held.is_lane)
     (λ values has is.

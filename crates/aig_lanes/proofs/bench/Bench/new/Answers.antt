@@ -1,4 +1,4 @@
-use Rattle.std.proofs.Common.{◌≡◌, ◌+◌, ◌*◌, ◌<◌, ◌^◌, IsTrue, arith, get_or, length, replicate, rules, subst, ℕ}
+use Rattle.std.proofs.Common.{◌≡◌, ◌*◌, ◌<◌, ◌^◌, IsTrue, arith, get_or, length, replicate, rules, subst, ℕ}
 use Rattle.std.proofs.lemmas.Simd.{length-replicate}
 use Rattle.aig_circuit.specs.declared.value.Val.TheVariants.{X}
 use Rattle.aig_lanes.specs.Parts.Lanes.{IsLane}
@@ -26,8 +26,12 @@ returns-clause-room c k d below = record {
 pub invariant_of-result : goal.invariant_of-result
 invariant_of-result c = record {
   whole = λ _ l variables low long.
-      let is : 1 + c.parts-parts.result.now.max_var ≡ variables = omega (arith, long, c.in_ok-table.ensures.size) in
+      let is : c.in_ok-shown.shown.places.count ≡ variables = omega (arith, long, c.in_ok-table.ensures.size) in
       table_stands l c.in_ok-table.table.items (replicate variables X)
       (subst (λ (n : ℕ). IsLane l c.in_ok-table.table.items (replicate n X)) is (c.in_ok-table.ensures.lanes l low))
       variables (length-replicate variables X);
 }
+
+pub new_table-requires : goal.new_table-requires
+new_table-requires c =
+    omega (arith, c.in_ok-shown.ensures.shows.places.few, c.parts-parts.ensures.max_var)

@@ -3,6 +3,7 @@ use Rattle.std.proofs.Common.{get_or, length, min, subst, sym}
 use Rattle.std.proofs.lemmas.List.{with_items_is}
 use Rattle.aig_circuit.specs.declared.circuit.Circuit.{Circuit}
 use Rattle.aig_circuit.specs.declared.value.Val.{Val}
+use Rattle.aig_lanes.specs.declared.lane_columns.LaneColumns.{LaneColumns}
 use Rattle.aig_lanes.specs.Parts.Groups.{IsTable}
 use Rattle.aig_lanes.specs.Parts.InputBits.{HoldsLane, one_step, step_of}
 use Rattle.aig_lanes.specs.Parts.LaneTexts.{KeepsRun}
@@ -25,7 +26,13 @@ invariant_of-self-2 c = record {
       let bits = with_items_is c.args.self.now.bits c.fill_across.new.bits
       (c.fill_across.ensures.same.count ∙ c.deref_mut.ensures.len) in
       subst (λ (n : ℕ). IsTable l n c.step_lanes.new.self.table.items)
-      (omega (arith, long, c.step_lanes.ensures.same.table, c.requires.room.is.tables.table_size))
+      (omega (
+        arith,
+        long,
+        c.step_lanes.ensures.same.table,
+        c.requires.room.is.tables.table_size,
+        ap (λ (s : LaneColumns). s.places.count) c.step_lanes.ensures.same.shown,
+      ))
       ((c.step_lanes.ensures.ends l (one_step vector) (record {
         is_lane = low;
         fits = one_fits machine vector inputs;

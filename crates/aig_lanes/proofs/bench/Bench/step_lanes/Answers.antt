@@ -1,4 +1,4 @@
-use Rattle.std.proofs.Common.{◌≡◌, ◌+◌, ◌/◌, ◌∙◌, ap, arith, length, subst, sym, All}
+use Rattle.std.proofs.Common.{◌≡◌, ◌/◌, ◌∙◌, ap, arith, length, subst, sym, All}
 use Rattle.std.specs.Vec.{with_items}
 use Rattle.std.proofs.lemmas.List.{length-map, with_items_is}
 use Rattle.aig_step.specs.Parts.Tables.{IsLiteralBelow}
@@ -14,19 +14,10 @@ pub put_resets-requires-clause-below : goal.put_resets-requires-clause-below
 put_resets-requires-clause-below c =
     let size = length c.deref_mut.result.now / 2 in
     let tables = c.requires.is.tables in
-    let parts = c.parts-parts.ensures in
     subst (All (IsLiteralBelow size)) (sym tables.shows.resets)
     (resets_below size c.args.machine.now.latches
     (λ some.
-    omega (
-      arith,
-      some,
-      tables.table_size,
-      c.deref_mut.ensures.len,
-      ap length parts.latches,
-      parts.room,
-      parts.max_var,
-    )))
+    omega (arith, some, tables.table_size, c.deref_mut.ensures.len, tables.shows.places.room)))
 
 pub put_resets-requires-clause-state : goal.put_resets-requires-clause-state
 put_resets-requires-clause-state c =
@@ -38,12 +29,11 @@ returns-clause-ends c j run held =
     let machine = c.args.machine.now in
     let bench = c.args.self.now in
     let tables = c.requires.is.tables in
-    let parts = c.parts-parts.ensures in
-    let begun = c.put_resets.ensures.table j (1 + machine.max_var) held.is_lane
+    let begun = c.put_resets.ensures.table j bench.shown.places.count held.is_lane
     (omega (arith, c.deref_mut.ensures.len, tables.table_size)) in
     let values = values_in j c.put_resets.new.table in
     let first = stands_first machine run j c.put_resets.new.table c.put_resets.new.state bench.shown
-    c.put_resets.new.sheet tables.shows (omega (arith, ap length parts.latches, parts.room, parts.max_var)) begun
+    c.put_resets.new.sheet tables.shows begun
     (c.put_resets.ensures.state j values held.is_lane begun.now.stand)
     (c.put_resets.ensures.text j values held.is_lane begun.now.stand (omega (arith, held.room))) in
     let table : c.deref_mut-3.result.now ≡ c.put_resets.new.table =
