@@ -1,6 +1,7 @@
 //! The gates of a binary image where the check has found what each of them needs: an operand has
 //! its new number by the position of its gate, and is not looked up once more.
-ghost use Rattle.std.specs.Prelude.{◌≡◌, ◌+◌, ◌≤◌, ◌<◌, ℕ, Option, length, map, slice_index_or, IfOk};
+ghost use Rattle.std.specs.Prelude.{◌≡◌, ◌+◌, ◌≤◌, ◌<◌, ℕ, Option, length, map, slice_index_or};
+ghost use Rattle.std.specs.Prelude.{IfOk};
 ghost use Rattle.std.specs.List.{AllByRecursion};
 ghost use Rattle.std.specs.Option.{IfSome};
 ghost use Rattle.aig_circuit.specs.Wellformed.{AreDistinct, IsWellFormed};

@@ -1,6 +1,6 @@
 -- The text of a mapped image: that of the image without a comment, and behind it the comment section.
-use Rattle.std.proofs.Common.{◌≡◌, ◌++◌, ◌∙◌, ℕ, List, [], Option, None, ap, sym, append_assoc, flat_map, Result, Ok, Err}
-use Rattle.std.proofs.Common.{OnErr, OnOk}
+use Rattle.std.proofs.Common.{◌≡◌, ◌++◌, ◌∙◌, ℕ, List, [], Option, None, ap, sym, append_assoc, flat_map, Result, Ok}
+use Rattle.std.proofs.Common.{Err, OnErr, OnOk}
 use Rattle.std.proofs.lemmas.List.{append-nil}
 use Rattle.aig_io.specs.Devices.{Past, TookBeginning, took}
 use Rattle.aig_io.proofs.Puts.{beginning_after, beginning_longer}

@@ -1,6 +1,7 @@
 -- Gates that are made by the positions of what they need are those of the image.
 use Rattle.std.proofs.Common.{◌≡◌, ◌≢◌, ◌+◌, ◌*◌, ◌%◌, ◌<◌, ◌≤◌, ◌∷◌, ◌++◌, ◌∙◌, ◌⊎◌, rules, ℕ, List, [], length, map}
-use Rattle.std.proofs.Common.{get_or, Option, None, Some, refl, sym, ap, ap₂, subst, arith, ⊎_elim, true, false, length-append}
+use Rattle.std.proofs.Common.{get_or, Option, None, Some, refl, sym, ap, ap₂, subst, arith, ⊎_elim, true, false}
+use Rattle.std.proofs.Common.{length-append}
 use Rattle.std.specs.List.{AllByRecursion}
 use Rattle.std.specs.FinMap.{get}
 use Rattle.std.specs.Option.{is_some}
@@ -28,7 +29,8 @@ use Rattle.aig_image.specs.Image.{IsBinaryImage}
 use Rattle.aig_image.specs.Relabelled.{relabelled, GateNames}
 use Rattle.aig_image.specs.Renumbering.{in_new_order, renumbered}
 use Rattle.aig_image.specs.Reordered.{operands_sorted, taken}
-use Rattle.aig_image.proofs.Imaging.InTurn.{taken_variables, all_taken, order_there, number_there, some_gate, new_fits, many}
+use Rattle.aig_image.proofs.Imaging.InTurn.{taken_variables, all_taken, order_there, number_there, some_gate}
+use Rattle.aig_image.proofs.Imaging.InTurn.{new_fits, many}
 use Rattle.aig_image.proofs.Imaging.Renewed.{same_names, told_is_image}
 use Rattle.aig_image.proofs.Relabelling.Relabelled.{with_gates}
 use Rattle.aig_image.proofs.Numbering.Kept.{in_list, in_place, not_behind}

@@ -1,5 +1,6 @@
 -- Gates that are made with new numbers by the positions of what they need.
-use Rattle.std.specs.Prelude.{◌≡◌, ◌+◌, ◌*◌, ◌%◌, ◌<◌, ◌≤◌, ℕ, zero, suc, List, Option, None, Some, length, map, slice_index_or}
+use Rattle.std.specs.Prelude.{◌≡◌, ◌+◌, ◌*◌, ◌%◌, ◌<◌, ◌≤◌, ℕ, zero, suc, List, Option, None, Some, length, map}
+use Rattle.std.specs.Prelude.{slice_index_or}
 use Rattle.std.specs.FinMap.{get}
 use Rattle.aig_circuit.specs.Literal.{variable_of}
 use Rattle.aig_circuit.specs.declared.circuit.TheConstants.{LARGEST}

@@ -239,7 +239,8 @@ module _ (c : Circuit) (run : Run) (step lane : ℕ) (table begun table_now stat
           table_stands = λ _. assigned.now;
           state_stands = λ _.
               subst (λ (vs : List Val). IsLane lane state_now vs)
-              (next_seen c shown shows values a assigned.step.same ∙ sym (state_after_last (reset_state c) stood.rows row))
+              (next_seen c shown shows values a assigned.step.same
+              ∙ sym (state_after_last (reset_state c) stood.rows row))
               (steps.show values start assigned.now.stand (stood.state_stands (omega (arith, has))));
         }
 

@@ -24,7 +24,8 @@ use Rattle.aig_step.proofs.Running.Machines.{evaluated_length, filled, is_filled
 
 -- the value of a gate
 abbrev gate_value : List Val → (left right : ℕ) → Val
-gate_value values left right = value_and (literal_value (read_from values) left) (literal_value (read_from values) right)
+gate_value values left right =
+    value_and (literal_value (read_from values) left) (literal_value (read_from values) right)
 
 in_turn_length : (gates : List Gate) (values : List Val) → length (evaluated_in_turn gates values) ≡ length values
 in_turn_length [] values = refl
@@ -153,7 +154,8 @@ placed_more first i pairs pair first_holders before after gates gate below is ol
           (one_below (length after) gate
           (record { place = here; left = omega (arith, left, more); right = omega (arith, right, more) }));
       hold = λ values all room size hold.
-          let both : length (take i pairs ++ pair ∷ []) ≡ i + 1 = length-append (take i pairs) (pair ∷ []) ∙ omega (arith, long) in
+          let both : length (take i pairs ++ pair ∷ []) ≡ i + 1 =
+          length-append (take i pairs) (pair ∷ []) ∙ omega (arith, long) in
           let whole : first + (i + 1) ≤ length all = omega (arith, size, ap length next, both) in
           let values_now = evaluated_in_turn gates values in
           let all_now = evaluated first (take i pairs) all in
@@ -162,8 +164,12 @@ placed_more first i pairs pair first_holders before after gates gate below is ol
           let step = hold_on (first + i) pair before after gate values_now all_now now old
           (omega (arith, room, in_turn_length gates values))
           (omega (arith, whole, evaluated_length first (take i pairs) all)) stood in
-          rw (next, in_turn_append gates (gate ∷ []) values, evaluated_append first (take i pairs) (pair ∷ []) all, long)
-          step;
+          rw (
+            next,
+            in_turn_append gates (gate ∷ []) values,
+            evaluated_append first (take i pairs) (pair ∷ []) all,
+            long,
+          ) step;
     }
 
 -- a variable takes a place again, or a new one
@@ -243,7 +249,8 @@ begun_same given state us vs room other =
     (omega (arith, room, long us)) (omega (arith, other, long vs))
     (placed_same 1 given (set us 0 Zero) (set vs 0 Zero) (omega (arith, room, length-set us 0 Zero))
     (omega (arith, other, length-set vs 0 Zero))
-    (set_same 0 us vs Zero Zero refl (omega (arith, room)) (omega (arith, other)) (λ p below. absurd (omega (arith, below)))))
+    (set_same 0 us vs Zero Zero refl (omega (arith, room)) (omega (arith, other))
+    (λ p below. absurd (omega (arith, below)))))
 
 gates_below : (v size : ℕ) (pairs : List Pair) → v + length pairs ≤ size → AreOverLower v pairs
     → All (IsGateBelow size) (gates_from v pairs)

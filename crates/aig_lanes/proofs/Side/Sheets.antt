@@ -1,7 +1,7 @@
 -- The steps of a run, and of the runs of a group, and the characters of literals in all lanes.
 use Rattle.std.proofs.Common.{◌≡◌, ◌*◌, ◌<◌, ◌∷◌, ◌∙◌, ◌+◌, ◌++◌, ◌≤◌, ◌≢◌, ◌/◌, ◌%◌, ◌^◌, ℕ, zero, suc, List, []}
-use Rattle.std.proofs.Common.{◌-◌, length, map, get_or, set, replicate, refl, sym, ap, subst, arith, rules, Option, None}
-use Rattle.std.proofs.Common.{Some, drop, is_some, take, true, ap₂, min, max, All, drop-drop, length-drop}
+use Rattle.std.proofs.Common.{◌-◌, length, map, get_or, set, replicate, refl, sym, ap, subst, arith, rules, Option}
+use Rattle.std.proofs.Common.{None, Some, drop, is_some, take, true, ap₂, min, max, All, drop-drop, length-drop}
 use Rattle.std.proofs.Common.{length-take-le, take-take, add-mul, mul-le-mul_right, one-mul, pow_pos, shr-shr}
 use Rattle.std.specs.Int.{bit_at}
 use Rattle.std.specs.Int.Bits.{bit_and, bit_or}

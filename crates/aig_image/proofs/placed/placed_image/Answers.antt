@@ -33,4 +33,5 @@ image-requires-clause-of_it c =
     (subst (IsLeastReadyOrder c.args.circuit) (sym c.list.ensures) c.requires.least) placed c.in_ok-placed.ensures
     c.in_ok-gates.gates.items
     (c.in_ok-gates.ensures
-    ∙ ap₂ (λ gs xs. map (λ i. gate_by placed i (at gs i)) xs) c.as_slice.ensures (c.list-2.ensures ∙ sym c.list.ensures))
+    ∙ ap₂ (λ gs xs. map (λ i. gate_by placed i (at gs i)) xs) c.as_slice.ensures
+    (c.list-2.ensures ∙ sym c.list.ensures))

@@ -42,7 +42,8 @@ loop-at-preserved c =
     let f : ℕ → Gate = λ k. gate_by self k (get_or c.args.gates.now k no_gate) in
     let there : at < length order = omega (arith, c.loop-at-test.true, c.requires.many) in
     let is = placed self.first.noted order self.numbers.items on at there in
-    let slot : c.number_at.result - c.count.result - 1 ≡ slot_of at = ap₂ (λ n m. n - m - 1) c.number_at.ensures c.count.ensures in
+    let slot : c.number_at.result - c.count.result - 1 ≡ slot_of at =
+    ap₂ (λ n m. n - m - 1) c.number_at.ensures c.count.ensures in
     let gate : c.gate.result ≡ f at =
     c.gate.ensures
     ∙ ap (gate_by self at)
