@@ -1,5 +1,5 @@
 -- The text of a map block, part by part as it is put.
-use Rattle.std.proofs.Common.{◌≡◌, ◌+◌, ◌++◌, ◌<◌, ◌∙◌, rules, ℕ, List, length, map, append_assoc}
+use Rattle.std.proofs.Common.{◌≡◌, ◌++◌, ◌<◌, ◌∙◌, rules, ℕ, List, length, append_assoc}
 use Rattle.std.proofs.Common.{get_or, ap, flat_map, arith}
 use Rattle.std.proofs.lemmas.List.{length-map, get_or_default, get_or-map}
 use Rattle.std.proofs.lemmas.List.Concat.{flat_map-append}

@@ -11,7 +11,6 @@ use Rattle.aig_circuit.specs.declared.circuit.Gate.{Gate}
 use Rattle.aig_circuit.specs.declared.circuit.TheConstants.{LARGEST}
 use Rattle.aig_circuit.specs.declared.circuit.Latch.{Latch}
 use Rattle.aig_circuit.proofs.Checking.{definitions_fit, all_weaker}
-use Rattle.aig_topo.specs.Order.{IsLeastReadyOrder}
 use Rattle.aig_topo.proofs.Ordering.LeastReady.{a_least_ready_order, one_least_ready_order}
 use Rattle.aig_topo.proofs.Ordering.Ranked.{no_gate, variables}
 use Rattle.aig_checked.specs.BinaryOrder.{IsInBinaryOrder, IsNumberedInOrder}

@@ -9,7 +9,7 @@ ghost use Rattle.aig_topo.specs.Needs.{linked, needs_of, no_needs, how_many, und
 ghost use Rattle.aig_topo.specs.Lists.{needs_in, links_in, first_of, list_in, AreLists, AreNeedsOf};
 ghost use Rattle.aig_topo.specs.Waiting.{needs_by, rest_by};
 
-use crate::index::{AHEAD, GateIndex};
+use crate::index::GateIndex;
 use crate::operands::{Needs, look_up};
 use aig_circuit::{Circuit, LARGEST};
 use std::alloc::{AllocError, Global};
@@ -38,13 +38,10 @@ pub(crate) struct Lists {
 
 impl Lists {
     /// What the gates of a circuit need, and empty lists; and how many each of them needs, 0 to 2.
-    /// Where variables are spread, it takes time to come to their places, so operands are read
-    /// ahead.
     pub(crate) fn new(
         alloc: Global,
         circuit: &Circuit,
         index: &GateIndex,
-        is_spread: bool,
     ) -> Result<(Self, Vec<u8>), AllocError>
         requires few { length circuit.now.gates ≤ LARGEST }
         requires index { IsIndexOf circuit.now.gates index.now }
@@ -59,12 +56,6 @@ impl Lists {
         let mut rows = Vec::with_capacity(alloc, gates.len())?;
         let mut counts = Vec::with_capacity(alloc, gates.len())?;
         for gate in gates {
-            if is_spread
-                && rows.len() % AHEAD == 0
-                && index.is_any_need_overfull(gates, rows.len())
-            {
-                return Err(AllocError);
-            }
             let needs = look_up(&index.positions, gate);
             counts.push(needs.count())?;
             rows.push(GateNode {
@@ -181,17 +172,16 @@ impl GateNeeds {
         ensures { IfOk result (λ all. AreNeedsOf circuit.now.gates all) }
     {
         let index = GateIndex::new(alloc, circuit)?;
-        let (lists, counts) = Lists::new(alloc, circuit, &index, false)?;
-        Ok(GateNeeds { lists, counts })
+        GateNeeds::by_index(alloc, circuit, &index)
     }
 
-    /// What the gates of a circuit need, by their index, which a caller makes of spread variables.
+    /// What the gates of a circuit need, by their index.
     pub fn by_index(alloc: Global, circuit: &Circuit, index: &GateIndex) -> Result<Self, AllocError>
         requires few { length circuit.now.gates ≤ LARGEST }
         requires index { IsIndexOf circuit.now.gates index.now }
         ensures { IfOk result (λ all. AreNeedsOf circuit.now.gates all) }
     {
-        let (lists, counts) = Lists::new(alloc, circuit, index, true)?;
+        let (lists, counts) = Lists::new(alloc, circuit, index)?;
         Ok(GateNeeds { lists, counts })
     }
 

@@ -94,7 +94,7 @@ impl Order {
         ensures few { steps.new.count ≤ steps.old.count + 3 * length circuit.now.gates }
     {
         let index = GateIndex::new(alloc, circuit)?;
-        let (_lists, counts) = Lists::new(alloc, circuit, &index, false)?;
+        let (_lists, counts) = Lists::new(alloc, circuit, &index)?;
         Ok(Order::waiting_for(alloc, counts, steps)?)
     }
 
