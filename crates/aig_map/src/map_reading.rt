@@ -14,7 +14,7 @@ ghost use Rattle.aig_map.specs.Parts.Tables.{without_comment};
 
 use crate::fault::MapFault;
 use crate::map_block::{FirstLine, MapBlock, MappedGate};
-use aig_core::{Circuit, LARGEST, Listing, Var};
+use aig_core::{Circuit, LARGEST, Listing, OutOfMemory, Var};
 use aig_text::canonical_number;
 use std::alloc::Global;
 
@@ -237,16 +237,20 @@ fn take_comment(alloc: Global, image: &mut Circuit) -> Vec<u8>
 }
 
 /// The last bytes, so many, in the same memory, of which no more is kept.
-fn last_bytes(bytes: Vec<u8>, count: usize) -> Vec<u8>
+fn last_bytes(bytes: Vec<u8>, count: usize) -> Result<Vec<u8>, OutOfMemory>
     requires { count ≤ length bytes.items }
-    ensures { result.items ≡ drop (length bytes.items - count) bytes.items }
+    ensures { IfOk result (λ last.
+        last.items ≡ drop (length bytes.items - count) bytes.items) }
 {
     let mut bytes = bytes;
     let len = bytes.len();
     bytes.copy_within(len - count..len, 0);
     bytes.truncate(count);
     bytes.shrink_to_fit();
-    bytes
+    if bytes.capacity() > count {
+        return Err(OutOfMemory);
+    }
+    Ok(bytes)
 }
 
 /// A block that was taken off a circuit, and what is left.
@@ -273,7 +277,7 @@ pub fn take_block(alloc: Global, image: Circuit) -> Result<TakenBlock, MapFault>
         }
     };
     let mut image = image;
-    let comment = last_bytes(take_comment(alloc, &mut image), kept);
+    let comment = last_bytes(take_comment(alloc, &mut image), kept)?;
     Ok(TakenBlock {
         block,
         comment,
