@@ -12,6 +12,7 @@ What is wanted is made here by rule. A run may take 1.5 GB of memory.
 
 The last line is 'N passed, M failed'.
 """
+import contextlib
 import filecmp
 import itertools
 import os
@@ -30,6 +31,8 @@ from lib.large import claim, conjunctions, dump, inputs, trace, wide, write
 MANY, MEMORY, PATIENCE = 70_000_000, 1_500_000_000, 300
 # lines of each section; gates of a chain; runs
 LINES, GATES, RUNS = 500_000, 4_000_000, 20_000
+# bytes for a simulation of the chain: with a place in a table for each gate it would take more
+FEW = 250_000_000
 # latches and inputs to simulate; inputs of a long stimulus; frames, and gates in each
 WIDTH, INPUTS, FRAMES, CARRIED = 5_000, 1_000, 1_000, 1_000
 # signals of each kind in a dump, and steps of one
@@ -72,6 +75,16 @@ class Room:
         self.judge(f"{words} < {given}", came == (b"", 0) and is_same("came", wanted), came)
 
 
+@contextlib.contextmanager
+def memory(most):
+    """The runs within may take so many bytes, or as many as this process may, if these are fewer."""
+    before, hard = resource.getrlimit(resource.RLIMIT_AS)
+    # the limit is that of this process, and each run has it from here
+    resource.setrlimit(resource.RLIMIT_AS, (most if before == resource.RLIM_INFINITY else min(most, before), hard))
+    yield
+    resource.setrlimit(resource.RLIMIT_AS, (before, hard))
+
+
 def is_same(first, second):
     return os.path.exists(second) and filecmp.cmp(first, second, shallow=False)
 
@@ -98,6 +111,9 @@ def large_chains(room):
     write("trace", b" 1 1 \n 0 0 \n x x \n.\n")
     room.gives("aigsim chain", "steps", "trace")
     room.gives("aigsim --batch chain", "steps", "trace")
+    with memory(FEW):
+        room.gives("aigsim ordered", "steps", "trace")
+        room.gives("aigsim --batch ordered", "steps", "trace")
 
 
 def large_tails(room):
@@ -377,13 +393,10 @@ JUDGES += [many_frames, many_clauses, large_answers, large_refutations, large_in
 
 
 def main(program, name=""):
-    _, most = resource.getrlimit(resource.RLIMIT_AS)
-    # the limit is that of this process, and each run has it from here
-    resource.setrlimit(resource.RLIMIT_AS, (MEMORY if most == resource.RLIM_INFINITY else min(most, MEMORY), most))
     room, asked = Room(counts.need_program(program)), [it for it in JUDGES if name in it.__name__]
     counts.need(asked, name)
     for judge in asked:
-        with tempfile.TemporaryDirectory() as folder:
+        with tempfile.TemporaryDirectory() as folder, memory(MEMORY):
             os.chdir(folder)
             judge(room)
             os.chdir("/")
