@@ -14,6 +14,10 @@ pub record Link : Type 0 where
   pub next : ℕ
   pub first : ℕ
 
+-- the row of a gate that needs this and was not looked at
+abbrev pub row_of : Needs → GateNode
+row_of needs = record { next = needs.left; rest = needs.right; first = 0 }
+
 -- what a gate needs that was not looked at
 abbrev pub needs_in_row : GateNode → Needs
 needs_in_row row = record { left = row.next; right = row.rest }

@@ -9,7 +9,7 @@ use aig_tables::VarMap;
 use std::alloc::{AllocError, Global};
 
 /// How many variables are read ahead together.
-const AHEAD: usize = 32;
+pub(crate) const AHEAD: usize = 32;
 
 /// Reads ahead where the variables of gates from this position on have their places. None is
 /// overfull: that is asked for the sake of the reads alone.
@@ -49,6 +49,19 @@ impl GateIndex {
             is_once &= positions.insert(gates[position].var, position as u32)?;
         }
         Ok(GateIndex { positions, is_once })
+    }
+
+    /// Reads ahead, as above, where the variables of operands have their places.
+    pub(crate) fn is_any_need_overfull(&self, gates: &[Gate], from: usize) -> bool
+        ensures { result ≡ false }
+    {
+        let end = gates.len().min(from.saturating_add(AHEAD));
+        let mut any = false;
+        for at in from..end {
+            any |= self.positions.is_overfull(gates[at].left.var());
+            any |= self.positions.is_overfull(gates[at].right.var());
+        }
+        any
     }
 
     /// Whether a gate defines the variable.

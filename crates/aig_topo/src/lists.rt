@@ -6,10 +6,11 @@ ghost use Rattle.std.specs.Option.{IfSome, IfNone};
 ghost use Rattle.aig_circuit.specs.Wellformed.{IsAmong};
 ghost use Rattle.aig_topo.specs.Index.{IsIndexOf};
 ghost use Rattle.aig_topo.specs.Needs.{linked, needs_of, no_needs, how_many, under, AreThere};
-ghost use Rattle.aig_topo.specs.Lists.{needs_in, links_in, first_of, list_in, AreLists, AreNeedsOf};
+ghost use Rattle.aig_topo.specs.Lists.{row_of, needs_in, links_in, first_of, list_in, AreLists};
+ghost use Rattle.aig_topo.specs.Lists.{AreNeedsOf};
 ghost use Rattle.aig_topo.specs.Waiting.{needs_by, rest_by};
 
-use crate::index::GateIndex;
+use crate::index::{AHEAD, GateIndex};
 use crate::operands::{Needs, look_up};
 use aig_circuit::{Circuit, LARGEST};
 use std::alloc::{AllocError, Global};
@@ -27,6 +28,20 @@ struct GateNode {
     rest: u32,
     /// The first of the gate's own list.
     first: u32,
+}
+
+impl GateNode {
+    /// The row of a gate that was not looked at.
+    #[inline(always)]
+    fn new(needs: Needs) -> Self
+        ensures { result ≡ row_of needs }
+    {
+        GateNode {
+            next: needs.left,
+            rest: needs.right,
+            first: 0,
+        }
+    }
 }
 
 /// What is still to be asked of each gate, and a list of gates for each gate. A gate is in one list
@@ -58,11 +73,7 @@ impl Lists {
         for gate in gates {
             let needs = look_up(&index.positions, gate);
             counts.push(needs.count())?;
-            rows.push(GateNode {
-                next: needs.left,
-                rest: needs.right,
-                first: 0,
-            })?;
+            rows.push(GateNode::new(needs))?;
         }
         Ok((Lists { rows }, counts))
     }
@@ -172,17 +183,33 @@ impl GateNeeds {
         ensures { IfOk result (λ all. AreNeedsOf circuit.now.gates all) }
     {
         let index = GateIndex::new(alloc, circuit)?;
-        GateNeeds::by_index(alloc, circuit, &index)
+        let (lists, counts) = Lists::new(alloc, circuit, &index)?;
+        Ok(GateNeeds { lists, counts })
     }
 
-    /// What the gates of a circuit need, by their index.
+    /// What the gates of a circuit need, by their index, which a caller makes of spread variables.
+    /// It takes time to come to their places, so operands are read ahead; where variables are not
+    /// spread, that would cost more than it gains.
     pub fn by_index(alloc: Global, circuit: &Circuit, index: &GateIndex) -> Result<Self, AllocError>
         requires few { length circuit.now.gates ≤ LARGEST }
         requires index { IsIndexOf circuit.now.gates index.now }
         ensures { IfOk result (λ all. AreNeedsOf circuit.now.gates all) }
     {
-        let (lists, counts) = Lists::new(alloc, circuit, index)?;
-        Ok(GateNeeds { lists, counts })
+        let gates = circuit.gates.as_slice();
+        let mut rows = Vec::with_capacity(alloc, gates.len())?;
+        let mut counts = Vec::with_capacity(alloc, gates.len())?;
+        for gate in gates {
+            if rows.len() % AHEAD == 0 && index.is_any_need_overfull(gates, rows.len()) {
+                return Err(AllocError);
+            }
+            let needs = look_up(&index.positions, gate);
+            counts.push(needs.count())?;
+            rows.push(GateNode::new(needs))?;
+        }
+        Ok(GateNeeds {
+            lists: Lists { rows },
+            counts,
+        })
     }
 
     /// What each gate needs.

@@ -1,25 +1,23 @@
 -- Rows: what gates need and their lists, in one table.
 use Rattle.std.proofs.lemmas.Grind.{common_steps}
 use Rattle.std.proofs.Common.{◌≡◌, ◌≢◌, ◌<◌, ◌≤◌, ◌-◌, ◌∙◌, ◌∷◌, rules, ℕ, zero, suc, List, [], length, map, get_or}
-use Rattle.std.proofs.Common.{refl, sym, ap, subst, ⊎_elim, eqb, true, false, arith}
+use Rattle.std.proofs.Common.{take, take_all, refl, sym, ap, subst, ⊎_elim, eqb, true, false, arith}
 use Rattle.std.specs.List.{AllByRecursion}
 use Rattle.std.proofs.Math.ListN.{set as put}
 use Rattle.std.proofs.lemmas.Bool.{cases_lt}
 use Rattle.std.proofs.lemmas.Bool.Decides.{eqb_tells}
 use Rattle.std.proofs.lemmas.List.{get_or-map, get_or-set_other, get_or-set_same, get_or_past, length-map, length-set}
 use Rattle.std.proofs.lemmas.List.{map-set, set-get_or}
+use Rattle.std.proofs.lemmas.Simd.{map-map}
 use Rattle.aig_circuit.proofs.Checking.{back}
+use Rattle.aig_circuit.specs.declared.circuit.Gate.{Gate}
 use Rattle.aig_topo.specs.declared.lists.GateNode.{GateNode}
 use Rattle.aig_topo.specs.declared.operands.Needs.{Needs}
 use Rattle.aig_topo.specs.Lists.{Link, needs_in, needs_in_row, links_in, links_in_row, first_of, list_in, LeadsTo}
-use Rattle.aig_topo.specs.Lists.{AreLists}
-use Rattle.aig_topo.specs.Needs.{linked, under, no_needs, AreThere}
+use Rattle.aig_topo.specs.Lists.{row_of, AreLists}
+use Rattle.aig_topo.specs.Needs.{linked, under, needs_of, no_needs, AreThere}
 use Rattle.aig_topo.specs.Waiting.{needs_by, rest_by}
-use Rattle.aig_topo.proofs.Ordering.Lists.{read_first, front_below}
-
--- the row of a gate that needs this and was not looked at
-abbrev pub row_of : Needs → GateNode
-row_of needs = record { next = needs.left; rest = needs.right; first = 0 }
+use Rattle.aig_topo.proofs.Ordering.Lists.{read_first, front_below, all_empty, empty_lists}
 
 pub needs_of_rows : (all : List Needs) → needs_in (map row_of all) ≡ all
 needs_of_rows [] = refl
@@ -29,6 +27,26 @@ needs_of_rows (n ∷ ns) = ap (λ more. n ∷ more) (needs_of_rows ns)
 pub first_of_rows : (all : List Needs) (k : ℕ) → first_of (links_in (map row_of all)) k ≡ 0
 first_of_rows (n ∷ ns) (suc k) = first_of_rows ns k
 first_of_rows xs n = refl
+
+-- what the rows of all gates say, once the first so many are all of them
+module _ (gates : List Gate) (n : ℕ) (rows : List GateNode)
+    (are : rows ≡ map (λ g. row_of (needs_of gates g)) (take n gates)) (enough : length gates ≤ n)
+  where
+    all_rows : rows ≡ map row_of (map (needs_of gates) gates)
+    all_rows = search (rules, row_of, take_all, map-map)
+
+    pub begun_needs : needs_in rows ≡ map (needs_of gates) gates
+    begun_needs = ap needs_in all_rows ∙ needs_of_rows (map (needs_of gates) gates)
+
+    no_first : (k : ℕ) → first_of (links_in rows) k ≡ 0
+    no_first k =
+        ap (λ more. first_of (links_in more) k) all_rows ∙ first_of_rows (map (needs_of gates) gates) k
+
+    pub begun_lists : AreLists (links_in rows)
+    begun_lists = empty_lists (links_in rows) no_first
+
+    pub all_begun : (k : ℕ) → list_in rows k ≡ []
+    all_begun = all_empty (links_in rows) no_first
 
 -- there are as many of each part
 pub as_many_needs : (rows : List GateNode) → length (needs_in rows) ≡ length rows

@@ -1,7 +1,6 @@
 use Rattle.std.proofs.Common.{◌≡◌, map, take}
-use Rattle.aig_topo.specs.Lists.{needs_in}
+use Rattle.aig_topo.specs.Lists.{needs_in, row_of}
 use Rattle.aig_topo.specs.Needs.{needs_of, how_many}
-use Rattle.aig_topo.proofs.Ordering.Rows.{row_of}
 use Rattle.aig_topo.proofs.lists.Lists.new.Given as goal
 
 abbrev pub invariant-loop-gate : goal.invariant-loop-gate
