@@ -8,5 +8,5 @@
 mod var_map;
 mod var_set;
 
-pub use crate::var_map::VarMap;
+pub use crate::var_map::{BITS_PER_DEFINITION, VarMap};
 pub use crate::var_set::VarSet;

@@ -24,7 +24,7 @@ mod table;
 const PLACES_PER_DEFINITION: usize = 3;
 
 /// Below so many indices for each definition of a circuit, each index has a bit.
-const BITS_PER_DEFINITION: usize = 32;
+pub const BITS_PER_DEFINITION: usize = 32;
 
 /// Values of variables. Where the largest index is not far above their number, which is most often,
 /// each index has its place; where it is farther above, each that a circuit defines. Otherwise few

@@ -10,21 +10,18 @@ ghost use Rattle.aig_core.specs.Parts.Parted.{AreParts};
 use crate::checks::faults::define_all;
 use crate::fault::CheckFault;
 use aig_circuit::{Circuit, Entry, Listing, OutOfMemory, Var};
-use aig_tables::VarSet;
+use aig_tables::{BITS_PER_DEFINITION, VarSet};
 use std::alloc::Global;
 
 /// How many parts there are. Of a million variables a part has some thousands, and a set of so many
 /// stays near the processor, where one of all variables would be waited for at each of them.
 const PARTS: usize = 256;
 
-/// From so many indices for each definition on, a set of variables has no bit for each index.
-const INDICES_PER_DEFINITION: usize = 32;
-
 /// Whether a set of what a circuit defines has no bit for each index.
 pub(super) fn is_spread(circuit: &Circuit) -> bool {
     let most = circuit
         .definition_count()
-        .saturating_mul(INDICES_PER_DEFINITION);
+        .saturating_mul(BITS_PER_DEFINITION);
     circuit.max_var as usize >= most
 }
 
