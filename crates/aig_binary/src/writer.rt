@@ -93,6 +93,13 @@ fn put_text<W: Sink>(output: &mut Output<W>, circuit: &Circuit)
     put_tail(output, circuit);
 }
 
+/// Puts the canonical binary text of a circuit.
+pub fn put_binary<W: Sink>(output: &mut Output<W>, ordered: &Ordered)
+    ensures { Put output.old output.new (binary_text ordered.now) }
+{
+    put_text(output, ordered.as_checked().circuit());
+}
+
 /// Writes the canonical binary text of a circuit, in slices of at most 8,192 bytes. It takes no
 /// memory and fails only where the sink fails; the sink then took a beginning of the text, and is
 /// not called again.
@@ -103,7 +110,7 @@ pub fn write_binary<W: Sink>(ordered: &Ordered, sink: &mut W) -> Result<(), Writ
         (W.past sink.new)) }
 {
     let mut output = Output::new(sink);
-    put_text(&mut output, ordered.as_checked().circuit());
+    put_binary(&mut output, ordered);
     let (sent, _sink) = output.finish();
     sent?;
     Ok(())

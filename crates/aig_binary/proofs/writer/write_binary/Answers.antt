@@ -6,6 +6,6 @@ pub returns-in_err-sent-clause-err : goal.returns-in_err-sent-clause-err
 returns-in_err-sent-clause-err g c =
     let found =
     beginning_sent _ _ _ _ _ c.new-output.ensures refl refl
-    (rw (c.circuit.ensures.value, c.as_checked.ensures.value) at c.put_text.ensures) c.finish-sent.ensures.put
+    c.put_binary.ensures c.finish-sent.ensures.put
     (search rules) in
     search rules
