@@ -4,3 +4,4 @@ pub mod Front
 pub mod Grammar
 pub mod Files
 pub mod FileSource
+pub mod TailRead

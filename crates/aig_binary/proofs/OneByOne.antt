@@ -6,7 +6,6 @@ use Rattle.std.proofs.Common.{drop, take, take-append-drop}
 use Rattle.std.specs.List.{list_all}
 use Rattle.std.proofs.lemmas.Bool.{cases_lt, lt-ltb, le-leb, le-ltb}
 use Rattle.std.proofs.Math.Bool.{and-false}
-use Rattle.std.proofs.lemmas.List.{drop_at}
 use Rattle.std.proofs.lemmas.List.Folds.{list_all-append}
 use mathlib.Core.Bool.{◌||◌}
 use Rattle.aig_circuit.specs.declared.circuit.Gate.{Gate}
@@ -236,12 +235,6 @@ rest_taken bytes text rest used cut = (
   cut ∙ ap (λ (t : List ℕ). text ++ t) (sym (take-append-drop used rest))
       ∙ sym (append_assoc text (take used rest) (drop used rest)),
 )
-
--- what follows them is told by its length
-pub rest_is : (bytes text rest : List ℕ) → bytes ≡ text ++ rest → drop (length bytes - length rest) bytes ≡ rest
-rest_is bytes text rest cut =
-    let n = length bytes - length rest in
-    ap (drop n) cut ∙ drop_at text rest n (omega (arith, ap length cut, length-append text rest))
 
 -- gates that were read, whatever comes behind the bytes
 module _ (v count : ℕ) (before found : List Gate) (bytes rest : List ℕ) (l : length found < count)

@@ -1,5 +1,5 @@
 //! Gates: each by two deltas, one gate after the other.
-ghost use Rattle.std.specs.Prelude.{◌≡◌, ◌+◌, ◌*◌, ◌^◌, ◌<◌, ◌≤◌, ◌++◌};
+ghost use Rattle.std.specs.Prelude.{◌≡◌, ◌+◌, ◌-◌, ◌*◌, ◌^◌, ◌<◌, ◌≤◌, ◌++◌};
 ghost use Rattle.std.specs.Prelude.{◌⊎◌, ◌↔◌, List, ℕ, Err, IfErr, IfOk, IfSome, Ok};
 ghost use Rattle.std.specs.Prelude.{IsTrue, OnOk, drop, length, nat_le};
 ghost use Rattle.std.specs.List.{list_all};
@@ -198,6 +198,8 @@ pub(crate) fn read_gates(
     requires fewer { length found ≤ count }
     ensures gates { GivesOrMemory (λ x. (x.0, x.1.now)) result
         (gates_from variable count found bytes.now) }
+    ensures last { IfOk result
+        (λ x. x.1.now ≡ drop (length bytes.now - length x.1.now) bytes.now) }
     ensures shorter { IfOk result (λ x. length x.1.now ≤ length bytes.now) }
 {
     let mut found = found;

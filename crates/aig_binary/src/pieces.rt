@@ -13,7 +13,7 @@ use crate::piecewise::Pieces;
 use crate::reader::{add_definitions, read_front};
 use aig_core::{Circuit, Gate, Listing};
 use aig_lines::Cursor;
-use aig_text::{Header, Limits, ReadFault, tail};
+use aig_text::{Header, Limits, ReadFault, Uncommented, tail};
 use std::alloc::Global;
 
 /// Takes gates of a binary file piece by piece. After a fault it holds that, and takes all bytes.
@@ -104,7 +104,7 @@ impl Pieces for BinaryReader {
         }
     }
 
-    fn finish(self, alloc: Global, bytes: &[u8]) -> Result<Circuit, ReadFault> {
+    fn finish(self, alloc: Global, bytes: &[u8]) -> Result<Uncommented, ReadFault> {
         let BinaryReader {
             header,
             circuit,

@@ -9,12 +9,13 @@ ghost use Rattle.aig_rows.specs.declared.fault.ReadFault.{ReadFault as Fault};
 ghost use Rattle.aig_lines.specs.Lines.{lines_of, HasNoLineFeed};
 ghost use Rattle.aig_rows.specs.Outcomes.{GivesOrMemory};
 ghost use Rattle.aig_text.specs.Begun.{IsDone, IsValid, ReadsOn, rest_of};
+ghost use Rattle.aig_text.specs.Reading.{HasRoomFor, with_last_comment};
 ghost use Rattle.aig_binary.specs.Sources.{ComesOn, NotAllCame, ReadsAs, ReadsFrom};
 
 use crate::source_fault::SourceFault;
 use aig_core::{Circuit, ReadError, Source, Window, read_to_end};
 use aig_lines::ended_lines;
-use aig_text::{AsciiReader, ReadFault};
+use aig_text::{AsciiReader, ReadFault, Uncommented};
 use std::alloc::Global;
 
 /// A reader that takes the bytes of a file piece by piece.
@@ -51,10 +52,13 @@ pub(crate) trait Pieces: Drop {
         ensures number { next_line self.new ≤ next_line self.old + result }
         ensures valid { is_valid self.new };
 
-    fn finish(self, alloc: Global, bytes: &[u8]) -> Result<Circuit, ReadFault>
+    fn finish(self, alloc: Global, bytes: &[u8]) -> Result<Uncommented, ReadFault>
         requires counted { next_line self + length bytes.now < 2 ^ 64 }
         requires valid { is_valid self }
-        ensures { GivesOrMemory (λ c. c) result (rest self bytes.now) };
+        ensures read { GivesOrMemory
+            (λ x. with_last_comment bytes.now x.comment_len x.circuit) result
+            (rest self bytes.now) }
+        ensures within { IfOk result (λ x. HasRoomFor x.comment_len bytes.now) };
 }
 
 impl Pieces for AsciiReader {
@@ -81,7 +85,7 @@ impl Pieces for AsciiReader {
         self.advance(bytes)
     }
 
-    fn finish(self, alloc: Global, bytes: &[u8]) -> Result<Circuit, ReadFault> {
+    fn finish(self, alloc: Global, bytes: &[u8]) -> Result<Uncommented, ReadFault> {
         self.finish(alloc, bytes)
     }
 }
@@ -157,6 +161,18 @@ fn read_pieces<R: Source, P: Pieces>(
     Ok(more)
 }
 
+/// The circuit that the last bytes tell to a reader. Its comment stays in their memory.
+fn finish_with<P: Pieces>(alloc: Global, reader: P, bytes: Vec<u8>) -> Result<Circuit, ReadFault>
+    requires counted { P.next_line reader + length bytes.items < 2 ^ 64 }
+    requires valid { P.is_valid reader }
+    ensures { GivesOrMemory (λ c. c) result (P.rest reader bytes.items) }
+{
+    match reader.finish(alloc, bytes.as_slice()) {
+        Ok(found) => found.with_comment_in(bytes),
+        Err(fault) => Err(fault),
+    }
+}
+
 pub(crate) fn read_rest<R: Source, P: Pieces>(
     alloc: Global,
     source: &mut R,
@@ -174,7 +190,7 @@ pub(crate) fn read_rest<R: Source, P: Pieces>(
     let mut window = window;
     let more = read_pieces(source, &mut window, &mut reader)?;
     let bytes = fetch_all(source, window, more)?;
-    match reader.finish(alloc, bytes.as_slice()) {
+    match finish_with(alloc, reader, bytes) {
         Ok(circuit) => Ok(circuit),
         Err(fault) => Err(SourceFault::File(fault)),
     }

@@ -189,7 +189,11 @@ fn read_unchecked(alloc: Global, bytes: &[u8], limits: Limits) -> Result<Circuit
 {
     let mut at = Cursor::new(bytes);
     let (header, circuit) = read_front(alloc, &mut at, limits)?;
-    BinaryReader::new(alloc, header, circuit, at.number).finish(alloc, at.rest)
+    let reader = BinaryReader::new(alloc, header, circuit, at.number);
+    match reader.finish(alloc, at.rest) {
+        Ok(found) => found.with_comment_of(alloc, at.rest),
+        Err(fault) => Err(fault),
+    }
 }
 
 /// Reads a binary file, within these limits. The error is the first fault of the text, or that

@@ -14,8 +14,8 @@ ghost use Rattle.aig_map.specs.Parts.Tables.{without_comment};
 
 use crate::fault::MapFault;
 use crate::map_block::{FirstLine, MapBlock, MappedGate};
-use aig_core::{Circuit, LARGEST, Listing, OutOfMemory, Var};
-use aig_text::canonical_number;
+use aig_core::{Circuit, LARGEST, Listing, Var};
+use aig_text::{canonical_number, last_bytes};
 use std::alloc::Global;
 
 #[inline(always)]
@@ -234,23 +234,6 @@ fn take_comment(alloc: Global, image: &mut Circuit) -> Vec<u8>
         Some(comment) => comment.into_vec(),
         None => Vec::new(alloc),
     }
-}
-
-/// The last bytes, so many, in the same memory, of which no more is kept.
-fn last_bytes(bytes: Vec<u8>, count: usize) -> Result<Vec<u8>, OutOfMemory>
-    requires { count ≤ length bytes.items }
-    ensures { IfOk result (λ last.
-        last.items ≡ drop (length bytes.items - count) bytes.items) }
-{
-    let mut bytes = bytes;
-    let len = bytes.len();
-    bytes.copy_within(len - count..len, 0);
-    bytes.truncate(count);
-    bytes.shrink_to_fit();
-    if bytes.capacity() > count {
-        return Err(OutOfMemory);
-    }
-    Ok(bytes)
 }
 
 /// A block that was taken off a circuit, and what is left.

@@ -1,7 +1,8 @@
 -- What a text is read as, or its first fault (this project's profile): the first line that is not right for its
 -- place, with the first kind that applies; only where every line is right, the first structural fault of the circuit.
-use Rattle.std.specs.Prelude.{◌≡◌, ◌+◌, ◌==◌, ◌||◌, ◌⊎◌, ◌++◌, ℕ, List, [], ◌∷◌, min, drop, length, slice_index}
-use Rattle.std.specs.Prelude.{Bool, false, nat_lt, nat_le, Option, None, Some, Result, Ok, Err, if◌then◌else◌}
+use Rattle.std.specs.Prelude.{◌≡◌, ◌+◌, ◌-◌, ◌==◌, ◌||◌, ◌⊎◌, ◌++◌, ◌≤◌, ℕ, List, [], ◌∷◌, min, drop, length}
+use Rattle.std.specs.Prelude.{slice_index, Bool, false, nat_lt, nat_le, Option, None, Some, IfSome, Result, Ok, Err}
+use Rattle.std.specs.Prelude.{if◌then◌else◌}
 use Rattle.std.specs.List.{list_any, before_first}
 use Rattle.std.specs.Str.{bytes_eq}
 use Rattle.aig_circuit.specs.declared.circuit.Circuit.{Circuit}
@@ -120,6 +121,15 @@ checked_symbol h before (Some s) = unless_wrong s (fault_in_symbol h before s)
 
 abbrev pub with_comment : Circuit → List ℕ → Circuit
 with_comment c bytes = record c { comment = Some bytes }
+
+-- these bytes are as many as a comment at their end, where there is one, or more
+abbrev pub HasRoomFor : Option ℕ → List ℕ → Type 0
+HasRoomFor len bytes = IfSome len (λ n. n ≤ length bytes)
+
+-- the circuit with the last of these bytes, so many, as its comment, where it has one
+abbrev pub with_last_comment : List ℕ → Option ℕ → Circuit → Circuit
+with_last_comment bytes None c = c
+with_last_comment bytes (Some len) c = with_comment c (drop (length bytes - len) bytes)
 
 abbrev pub with_symbol : Circuit → Symbol → Circuit
 with_symbol c s = record c { symbols = c.symbols ++ s ∷ [] }

@@ -7,6 +7,7 @@
 //! The definitions that matter most are `IsAsciiText`, `first_ascii_fault` and `ascii_text`.
 #![tactic(auto)]
 
+mod comment;
 mod header_line;
 pub mod laws;
 mod limits;
@@ -17,6 +18,7 @@ mod section;
 mod tail_lines;
 mod writer;
 
+pub use crate::comment::{Uncommented, last_bytes};
 pub use crate::header_line::{ASCII_WORD, HEADER_LEAST, HEADER_NUMBERS, Header};
 pub use crate::limits::Limits;
 pub use crate::parts::{first_word_is, header, tail};

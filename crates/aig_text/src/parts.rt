@@ -2,10 +2,12 @@
 ghost use Rattle.std.specs.Prelude.{◌≡◌, ◌≤◌, IfOk, OnErr};
 ghost use Rattle.aig_circuit.specs.Wellformed.{largest_index};
 ghost use Rattle.aig_core.specs.Names.{nothing_named};
-ghost use Rattle.aig_lines.specs.Lines.{lines_of};
+ghost use Rattle.aig_lines.specs.Lines.{bytes_of, lines_of};
 ghost use Rattle.aig_rows.specs.Outcomes.{GivesOrFails, GivesOrMemory};
-ghost use Rattle.aig_text.specs.Reading.{first_word_is, header_at, tail_at};
+ghost use Rattle.aig_text.specs.Reading.{HasRoomFor, first_word_is, header_at, tail_at};
+ghost use Rattle.aig_text.specs.Reading.{with_last_comment};
 
+use crate::comment::Uncommented;
 use crate::header_line::{Header, begins_with_word, read_header};
 use crate::limits::Limits;
 use crate::tail_lines::read_tail;
@@ -51,21 +53,28 @@ pub fn header(word: &[u8], at: &mut Cursor, limits: Limits) -> Result<Header, Re
     }
 }
 
-/// The circuit with the symbols and the comment of the lines from here on. If there are none, it
-/// takes no memory.
+/// The circuit with the symbols of the lines from here on, which have its comment. If there are
+/// none, it takes no memory.
 pub fn tail(
     alloc: Global,
     header: &Header,
     circuit: Circuit,
     at: Cursor,
-) -> Result<Circuit, ReadFault>
-    ensures { GivesOrMemory (λ c. c) result
+) -> Result<Uncommented, ReadFault>
+    ensures read { GivesOrMemory
+        (λ x. with_last_comment (bytes_of at.entry.lines) x.comment_len x.circuit) result
         (tail_at header.now nothing_named circuit at.entry.number at.entry.lines) }
+    ensures within { IfOk result (λ x. HasRoomFor x.comment_len (bytes_of at.entry.lines)) }
 {
     let mut circuit = circuit;
-    if let Err(fault) = read_tail(alloc, header, &mut circuit, at) {
-        drop(circuit); // for the proof
-        return Err(fault);
+    match read_tail(alloc, header, &mut circuit, at) {
+        Ok(comment_len) => Ok(Uncommented {
+            circuit,
+            comment_len,
+        }),
+        Err(fault) => {
+            drop(circuit); // for the proof
+            Err(fault)
+        }
     }
-    Ok(circuit)
 }

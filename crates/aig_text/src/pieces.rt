@@ -12,8 +12,10 @@ ghost use Rattle.aig_text.specs.Sections.{in_ascii, sections};
 ghost use Rattle.aig_text.specs.Begun.{IsDone, IsMissing, IsValid, IsWithinHeader};
 ghost use Rattle.aig_text.specs.Begun.{ReadsOn, header_then, rest_of};
 ghost use Rattle.aig_text.specs.Begun.{sections_from};
-ghost use Rattle.aig_text.specs.Reading.{circuit_at, empty_circuit, sections_at};
+ghost use Rattle.aig_text.specs.Reading.{HasRoomFor, circuit_at, empty_circuit, sections_at};
+ghost use Rattle.aig_text.specs.Reading.{with_last_comment};
 
+use crate::comment::Uncommented;
 use crate::header_line::{ASCII_WORD, Header};
 use crate::limits::Limits;
 use crate::parts::{header, tail};
@@ -104,7 +106,9 @@ impl Progress {
         requires max_var { header.now.max_var ≤ largest_index }
         requires limit { header.now.limit ≤ largest_index }
         requires within { IsWithinHeader header.now self }
-        ensures { GivesOrMemory (λ c. (c, at.new)) result (sections_from header.now self at.old) }
+        ensures read { GivesOrMemory (λ c. (c, at.new)) result
+            (sections_from header.now self at.old) }
+        ensures behind { OnOk result (IsBehind at.old at.new) }
     {
         let mut progress = self;
         if let Err(fault) = progress.read_lines(header, at) {
@@ -198,11 +202,14 @@ impl AsciiReader {
         lines.len() - at.rest.len()
     }
 
-    /// The circuit that the lines tell of which the last bytes are these.
-    pub fn finish(self, alloc: Global, bytes: &[u8]) -> Result<Circuit, ReadFault>
+    /// The circuit that the lines tell of which the last bytes are these, and its comment too.
+    pub fn finish(self, alloc: Global, bytes: &[u8]) -> Result<Uncommented, ReadFault>
         requires counted { self.number + length bytes.now < 2 ^ 64 }
         requires valid { IsValid self.header self.progress }
-        ensures { GivesOrMemory (λ c. c) result (rest_of self (lines_of bytes.now)) }
+        ensures read { GivesOrMemory
+            (λ x. with_last_comment bytes.now x.comment_len x.circuit) result
+            (rest_of self (lines_of bytes.now)) }
+        ensures within { IfOk result (λ x. HasRoomFor x.comment_len bytes.now) }
     {
         let AsciiReader {
             header,

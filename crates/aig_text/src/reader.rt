@@ -5,13 +5,14 @@ ghost use Rattle.aig_lines.specs.Lines.{lines_of};
 ghost use Rattle.aig_rows.specs.Outcomes.{GivesOrMemory};
 ghost use Rattle.aig_text.specs.Reading.{IsFirstFault, first_ascii_fault};
 ghost use Rattle.aig_text.specs.Reading.{kind_of, circuit_at, empty_circuit};
-ghost use Rattle.aig_text.specs.Reading.{unless_faulty};
+ghost use Rattle.aig_text.specs.Reading.{tail_at, unless_faulty};
 ghost use Rattle.aig_circuit.specs.Form.{IsInForm};
 ghost use Rattle.aig_core.specs.Fault.{first_structural_fault};
+ghost use Rattle.aig_core.specs.Names.{nothing_named};
 ghost use Rattle.aig_rows.specs.Reading.{want_of_memory};
 ghost use Rattle.aig_text.specs.AsciiGrammar.{IsAsciiText};
 
-use crate::header_line::ASCII_WORD;
+use crate::header_line::{ASCII_WORD, Header};
 use crate::limits::Limits;
 use crate::parts::{header, tail};
 use crate::pieces::Progress;
@@ -44,6 +45,23 @@ pub fn empty_circuit(alloc: Global, max_var: u32) -> Circuit
     }
 }
 
+/// The circuit with the symbols and the comment of the lines from here on.
+fn with_tail(
+    alloc: Global,
+    header: &Header,
+    circuit: Circuit,
+    at: Cursor,
+) -> Result<Circuit, ReadFault>
+    ensures { GivesOrMemory (λ c. c) result
+        (tail_at header.now nothing_named circuit at.entry.number at.entry.lines) }
+{
+    let rest = at.rest;
+    match tail(alloc, header, circuit, at) {
+        Ok(found) => found.with_comment_of(alloc, rest),
+        Err(fault) => Err(fault),
+    }
+}
+
 /// Definitions and uses are not checked here.
 fn read_unchecked(alloc: Global, bytes: &[u8], limits: Limits) -> Result<Circuit, ReadFault>
     ensures { GivesOrMemory (λ c. c) result (circuit_at limits.max_var (lines_of bytes.now)) }
@@ -51,7 +69,7 @@ fn read_unchecked(alloc: Global, bytes: &[u8], limits: Limits) -> Result<Circuit
     let mut at = Cursor::new(bytes);
     let header = header(ASCII_WORD, &mut at, limits)?;
     match Progress::new(alloc, &header).finish(&header, &mut at) {
-        Ok(circuit) => tail(alloc, &header, circuit, at),
+        Ok(circuit) => with_tail(alloc, &header, circuit, at),
         Err(fault) => Err(fault),
     }
 }

@@ -3,16 +3,16 @@ ghost use Rattle.std.specs.Prelude.{◌≡◌, ◌^◌, ◌<◌, drop, IfErr, If
 ghost use Rattle.aig_core.specs.Names.{nothing_named, with_name};
 ghost use Rattle.aig_rows.specs.CanonicalNumber.{is_padded};
 ghost use Rattle.aig_rows.specs.Kept.{kept_first};
-ghost use Rattle.aig_lines.specs.Lines.{line as line_of, line_bytes};
+ghost use Rattle.aig_lines.specs.Lines.{bytes_of, line as line_of, line_bytes};
 ghost use Rattle.aig_text.specs.Parts.Kept.{kept_symbol, position_at};
 ghost use Rattle.aig_rows.specs.Outcomes.{Gives, GivesOrMemory};
 ghost use Rattle.aig_text.specs.Scanning.{is_comment_line, kind_at, symbol, symbol_at};
 ghost use Rattle.aig_text.specs.Reading.{checked_symbol, count_named, tail_at};
-ghost use Rattle.aig_text.specs.Reading.{with_comment, with_symbol};
+ghost use Rattle.aig_text.specs.Reading.{HasRoomFor, with_last_comment, with_symbol};
 ghost use Rattle.aig_rows.specs.Reading.{at_line, want_of_memory};
 
 use crate::header_line::Header;
-use aig_core::{BorrowedSymbol, Circuit, Kind, Listing, NamedCounts, Names};
+use aig_core::{BorrowedSymbol, Circuit, Kind, NamedCounts, Names};
 use aig_lines::{Cursor, Line, split_line};
 use aig_rows::{Place, ReadFault, ReadKind, canonical_number, ends_line, leading_number};
 use std::alloc::{AllocError, Global};
@@ -146,14 +146,6 @@ fn read_symbol<'a>(
     })
 }
 
-fn add_comment(alloc: Global, circuit: &mut Circuit, bytes: &[u8]) -> Result<(), ReadFault>
-    ensures ok { OnOk result (circuit.new ≡ with_comment circuit.old bytes.now) }
-    ensures err { IfErr result (λ e. e ≡ want_of_memory) }
-{
-    circuit.comment = Some(Listing::from_vec(Vec::from_slice(alloc, bytes)?));
-    Ok(())
-}
-
 #[inline(always)]
 fn is_position_padded(text: &[u8]) -> bool
     ensures { result ≡ is_padded (drop 1 text.now) }
@@ -185,22 +177,24 @@ fn put_symbol(
     Ok(())
 }
 
-/// Adds the symbols and the comment of the lines from here on, where these have names already.
+/// Adds the symbols of the lines from here on, where these have names already. Answers how many of
+/// the last bytes are the comment, if there is one.
 fn read_tail_lines(
-    alloc: Global,
     header: &Header,
     names: &mut Names,
     circuit: &mut Circuit,
     at: Cursor,
-) -> Result<(), ReadFault>
-    ensures { GivesOrMemory (λ _. circuit.new) result
+) -> Result<Option<usize>, ReadFault>
+    ensures read { GivesOrMemory
+        (λ len. with_last_comment (bytes_of at.entry.lines) len circuit.new) result
         (tail_at header.now names.old circuit.old at.entry.number at.entry.lines) }
+    ensures within { IfOk result (λ len. HasRoomFor len (bytes_of at.entry.lines)) }
 {
     let mut rest = at.rest;
     let mut number = at.number;
     while let Some((line, after)) = split_line(rest) {
         if is_comment_line(line) {
-            return add_comment(alloc, circuit, after);
+            return Ok(Some(after.len()));
         }
         let symbol = read_symbol(header, names, line, number)?;
         let (bytes, _) = rest.split_at(rest.len() - after.len());
@@ -208,7 +202,7 @@ fn read_tail_lines(
         rest = after;
         number += 1;
     }
-    Ok(())
+    Ok(None)
 }
 
 /// There are at most as many symbols as things to name, each in a line of at least three bytes.
@@ -227,18 +221,24 @@ fn reserve_symbols(header: &Header, circuit: &mut Circuit, text: &[u8]) -> Resul
         .reserve(things.min(text.len() / 3), text.len())
 }
 
-/// Without symbols and a comment it takes no memory.
+/// Adds the symbols of the lines from here on, and answers how many of the last bytes are the
+/// comment, if there is one. Without symbols it takes no memory.
 pub(crate) fn read_tail(
     alloc: Global,
     header: &Header,
     circuit: &mut Circuit,
     at: Cursor,
-) -> Result<(), ReadFault>
-    ensures { GivesOrMemory (λ _. circuit.new) result
+) -> Result<Option<usize>, ReadFault>
+    ensures read { GivesOrMemory
+        (λ len. with_last_comment (bytes_of at.entry.lines) len circuit.new) result
         (tail_at header.now nothing_named circuit.old at.entry.number at.entry.lines) }
+    ensures within { IfOk result (λ len. HasRoomFor len (bytes_of at.entry.lines)) }
 {
-    if at.rest.is_empty() {
-        return Ok(());
+    let Some((line, after)) = split_line(at.rest) else {
+        return Ok(None);
+    };
+    if is_comment_line(line) {
+        return Ok(Some(after.len()));
     }
     let counts = NamedCounts {
         inputs: header.inputs,
@@ -251,7 +251,7 @@ pub(crate) fn read_tail(
     };
     reserve_symbols(header, circuit, at.rest)?;
     let mut names = Names::new(alloc, counts)?;
-    let read = read_tail_lines(alloc, header, &mut names, circuit, at);
+    let read = read_tail_lines(header, &mut names, circuit, at);
     drop(names); // for the proof
     read
 }

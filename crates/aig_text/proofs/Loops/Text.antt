@@ -1,7 +1,7 @@
 -- Reading a text and its tail one line after another, also where its bytes come in pieces.
 use Rattle.std.proofs.Common.{◌≡◌, ◌+◌, ◌∷◌, ◌∙◌, ◌⊎◌, ◌-◌, ◌++◌, ◌<◌, ◌≤◌, ℕ, List, [], length, true, false, Result}
 use Rattle.std.proofs.Common.{Ok, Err, refl, ap, sym, inl, inr, take, arith, drop, append-nil}
-use Rattle.std.specs.Prelude.{OnOk, IfErr, OnErr}
+use Rattle.std.specs.Prelude.{OnErr}
 use Rattle.std.proofs.lemmas.List.{length-append, take-append-le, take_all}
 use Rattle.std.proofs.Math.Seq.{drop-append_seam}
 use Rattle.aig_circuit.specs.declared.circuit.Circuit.{Circuit}
@@ -10,11 +10,11 @@ use Rattle.aig_core.specs.declared.names.Names.{Names}
 use Rattle.aig_core.specs.Names.{with_name, nothing_named}
 use Rattle.aig_lines.specs.Lines.{Line, bytes_of, line_bytes, lines_of, Ahead, ahead, IsBehind, AreEnded, with_lines}
 use Rattle.aig_lines.specs.Lines.{HasNoLineFeed}
-use Rattle.aig_lines.proofs.Cutting.{no_lines, pieces, some_lines}
+use Rattle.aig_lines.proofs.Cutting.{pieces, some_lines}
 use Rattle.aig_lines.proofs.Taken.{IsTaken, left_fits, lines_cut, taken}
 use Rattle.aig_rows.specs.declared.fault.ReadFault.{ReadFault}
 use Rattle.aig_rows.specs.Reading.{◌>>=◌, at_line, want_of_memory, Found}
-use Rattle.aig_rows.specs.Outcomes.{GivesOrMemory, GivesOrFails}
+use Rattle.aig_rows.specs.Outcomes.{GivesOrFails}
 use Rattle.aig_rows.specs.declared.fault.ReadKind.TheVariants as kinds
 use Rattle.aig_rows.proofs.Loops.FirstRows.{found_joined, refused_joined, found_behind}
 use Rattle.aig_text.specs.Sections.{Header, ascii_word, sections, in_ascii}
@@ -29,9 +29,6 @@ module _ (h : Header) (before : Names) (c : Circuit) (n : ℕ) where
   pub no_tail : (bytes : List ℕ) → lines_of bytes ≡ [] → tail_at h before c n (lines_of bytes) ≡ Ok c
   unfolding tail_at
   no_tail bytes none = rw none refl
-
-  pub empty_tail : (bytes : List ℕ) → length bytes ≡ 0 → tail_at h before c n (lines_of bytes) ≡ Ok c
-  empty_tail bytes none = no_tail bytes (no_lines bytes none)
 
   pub comment_tail : (bytes rest : List ℕ) (l : Line) → lines_of bytes ≡ l ∷ lines_of rest → is_comment_line l ≡ true
       → tail_at h before c n (lines_of bytes) ≡ Ok (with_comment c rest)
@@ -59,18 +56,16 @@ front_of xs ys =
     ap (λ (n : ℕ). take n (xs ++ ys)) (let all = length-append xs ys in omega (arith, all))
     ∙ take-append-le (length xs) xs ys (omega arith) ∙ take_all (length xs) xs (omega arith)
 
+pub line_then : (bytes after : List ℕ) (l : Line) → lines_of bytes ≡ l ∷ lines_of after
+    → bytes ≡ line_bytes l ++ after
+line_then bytes after l are =
+    sym (pieces bytes).joined ∙ ap bytes_of are ∙ ap (λ (t : List ℕ). line_bytes l ++ t) (pieces after).joined
+
 pub first_bytes : (bytes after : List ℕ) (l : Line) → lines_of bytes ≡ l ∷ lines_of after
     → take (length bytes - length after) bytes ≡ line_bytes l
 first_bytes bytes after l are =
-    let whole : bytes ≡ line_bytes l ++ after =
-    sym (pieces bytes).joined ∙ ap bytes_of are ∙ ap (λ (t : List ℕ). line_bytes l ++ t) (pieces after).joined in
-    ap (λ (t : List ℕ). take (length t - length after) t) whole ∙ front_of (line_bytes l) after
-
--- what a function that may want memory did to the circuit is what reading gives
-pub done_or_memory : (r : Result (Unit {0}) ReadFault) (c d : Circuit) (read : Result Circuit ReadFault) → read ≡ Ok d
-    → OnOk r (c ≡ d) → IfErr r (λ e. e ≡ want_of_memory) → GivesOrMemory (λ _. c) r read
-done_or_memory (Ok u) c d read h ok err = h ∙ ap (λ (e : Circuit). Ok e) (sym ok)
-done_or_memory (Err e) c d read h ok err = inl err
+    ap (λ (t : List ℕ). take (length t - length after) t) (line_then bytes after l are)
+    ∙ front_of (line_bytes l) after
 
 -- The steps of reading a text, one after another.
 pub no_header : (limit : ℕ) (ls : List Line) (e : ReadFault) → header_at ascii_word limit (ahead 1 ls) ≡ Err e

@@ -2,9 +2,10 @@ use Rattle.std.proofs.Common.{◌≡◌, ◌++◌, ◌+◌, ◌<◌, ◌∙◌, 
 use Rattle.std.proofs.Common.{arith, drop, refl}
 use Rattle.aig_rows.specs.declared.fault.ReadKind.{ReadKind}
 use Rattle.aig_rows.specs.declared.fault.Place.TheVariants as places
+use Rattle.aig_text.proofs.LastBytes.{rest_is}
 use Rattle.aig_binary.specs.Begun.{gates_from}
 use Rattle.aig_binary.specs.BinaryReading.{gate_at}
-use Rattle.aig_binary.proofs.OneByOne.{gate_on, gate_refused, gate_taken, rest_is, rest_taken}
+use Rattle.aig_binary.proofs.OneByOne.{gate_on, gate_refused, gate_taken, rest_taken}
 use Rattle.aig_binary.proofs.gates.read_first_gates.Goals as goal
 
 pub returns-in-Err : goal.returns-in-Err

@@ -1,4 +1,4 @@
-use Rattle.std.proofs.Common.{◌∙◌, ◌+◌, Err, ℕ, inr, ap, arith, sym}
+use Rattle.std.proofs.Common.{◌∙◌, ◌+◌, Err, ℕ, inr, ap, arith, drop, length, length-drop, sym}
 use Rattle.aig_binary.proofs.OneByOne.{alone_cut, alone_done, alone_wrong}
 use Rattle.aig_rows.specs.declared.fault.Place.TheVariants as places
 use Rattle.aig_rows.specs.declared.fault.ReadKind.TheVariants as kinds
@@ -19,3 +19,10 @@ returns-clause-gates c =
     rw c.split_at.ensures.back
     (alone_done c.args.variable c.args.count c.args.found c.read_first_gates.new.found c.args.bytes.now _
     c.in-Ok.ensures.on (omega (arith, c.len-read.ensures, c.if-read-count.false)))
+
+pub returns-clause-last : goal.returns-clause-last
+returns-clause-last c =
+    let back = c.split_at.ensures.back in
+    back
+    ∙ ap (λ (k : ℕ). drop k c.args.bytes.now)
+    (omega (arith, ap length back, length-drop c.in-Ok.used c.args.bytes.now, c.in-Ok.ensures.within))

@@ -8,12 +8,12 @@ returns-in-Ok g c =
     rest_read (p.rest c.args.reader) (p.rest c.read_pieces.new.reader) c.args.window
     c.read_pieces.new.window c.in_ok-bytes.bytes.items c.in_ok-more.more _ _ _ (Ok c.in-Ok.circuit)
     c.in_ok-more.ensures.ok c.in_ok-bytes.ensures.ok
-    (rw c.as_slice.ensures.value at c.in-Ok.ensures)
+    c.in-Ok.ensures
 
-pub returns : goal.returns
-returns g c =
+pub returns-in-Err : goal.returns-in-Err
+returns-in-Err g c =
     let p = g.P.Pieces in
     rest_read (p.rest c.args.reader) (p.rest c.read_pieces.new.reader) c.args.window
     c.read_pieces.new.window c.in_ok-bytes.bytes.items c.in_ok-more.more _ _ _ (Err c.in-Err.fault)
     c.in_ok-more.ensures.ok c.in_ok-bytes.ensures.ok
-    (rw c.as_slice.ensures.value at c.in-Err.ensures)
+    c.in-Err.ensures

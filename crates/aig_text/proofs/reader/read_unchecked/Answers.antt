@@ -12,10 +12,10 @@ returns-in-Err c =
     no_sections c.args.limits.max_var
     (lines_of c.args.bytes.now) c.header.new.at c.in_ok-header.header c.in-Err.fault
     (rw c.new-at.ensures at c.in_ok-header.ensures.header)
-    (rw (c.new.ensures.from c.header.new.at) at c.in-Err.ensures)
+    (rw (c.new.ensures.from c.header.new.at) at c.in-Err.ensures.read)
 
 pub returns-in-Ok : goal.returns-in-Ok
 returns-in-Ok c =
     let after = c.finish.new.at in
-    let numbered = sym (c.new.ensures.from c.header.new.at) ∙ c.in-Ok.ensures in
+    let numbered = sym (c.new.ensures.from c.header.new.at) ∙ c.in-Ok.ensures.read in
     search (rules, tail_follows)

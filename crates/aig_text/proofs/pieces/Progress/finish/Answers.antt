@@ -3,16 +3,17 @@ use Rattle.aig_rows.specs.declared.fault.ReadFault.{ReadFault}
 use Rattle.aig_text.proofs.Loops.Sections.{alone_done, alone_short, alone_wrong}
 use Rattle.aig_text.proofs.pieces.Progress.finish.Goals as goal
 
-pub returns-in-Err : goal.returns-in-Err
-returns-in-Err c = alone_wrong c.args.header.now c.args.self c.args.at.now c.in-Err.fault c.in-Err.ensures.err
+pub returns-in-Err-clause-read : goal.returns-in-Err-clause-read
+returns-in-Err-clause-read c =
+    alone_wrong c.args.header.now c.args.self c.args.at.now c.in-Err.fault c.in-Err.ensures.err
 
-pub returns-then-not-is_done : goal.returns-then-not-is_done
-returns-then-not-is_done c =
+pub returns-then-not-is_done-clause-read : goal.returns-then-not-is_done-clause-read
+returns-then-not-is_done-clause-read c =
     inr (alone_short c.args.header.now c.args.self c.read_lines.new.self c.args.at.now c.read_lines.new.at
     c.in_default.ensures.on c.in_default.ensures.all (search rules)
     ∙ ap (λ (e : ReadFault). Err e) (sym c.missing_line.ensures))
 
-pub returns : goal.returns
-returns c =
+pub returns-clause-read : goal.returns-clause-read
+returns-clause-read c =
     alone_done c.args.header.now c.args.self c.read_lines.new.self c.args.at.now c.read_lines.new.at
     c.in_default.ensures.on (search rules)
