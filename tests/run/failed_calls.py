@@ -83,10 +83,6 @@ class Calls:
         # the last time of a dump is sent alone, but for that of a witness
         counts += [len(lines) - 1] * ("--vcd" in self.words and "--witness" not in self.words)
         texts = [b"".join(lines[first:last]) for first, last in itertools.pairwise([0, *counts, len(lines)])]
-        if "--keep-map" in self.words:
-            # the map follows the image by writes of its own
-            image, mark, rest = self.row.output.partition(b"c\naigmap ")
-            texts = [image, mark + rest]
         size = piece or len(self.row.output)
         return [text[at : at + size] for text in texts for at in range(0, len(text), size)]
 

@@ -1,19 +1,15 @@
 -- The text of a map block, part by part as it is put.
-use Rattle.std.proofs.Common.{◌≡◌, ◌++◌, ◌<◌, ◌∙◌, rules, ℕ, List, length, append_assoc}
-use Rattle.std.proofs.Common.{get_or, ap, flat_map, arith}
-use Rattle.std.proofs.lemmas.List.{length-map, get_or_default, get_or-map}
+use Rattle.std.proofs.Common.{◌≡◌, ◌++◌, ◌∙◌, rules, ℕ, List, length, append_assoc, ap, flat_map}
+use Rattle.std.proofs.lemmas.List.{length-map}
 use Rattle.std.proofs.lemmas.List.Concat.{flat_map-append}
 use Rattle.std.proofs.lemmas.List.Folds.{flat_map-map}
-use Rattle.aig_circuit.specs.declared.circuit.Gate.{Gate}
 use Rattle.aig_circuit.specs.declared.circuit.Circuit.{Circuit}
-use Rattle.aig_topo.proofs.Ordering.Ranked.{at, no_gate}
 use Rattle.aig_text.specs.AsciiText.{numbers_text}
 use Rattle.aig_image.specs.Relabelled.{relabelled, relabelled_gate, relabelled_latch}
 use Rattle.aig_map.specs.declared.map_block.MapBlock.{MapBlock}
 use Rattle.aig_map.specs.declared.map_block.MappedGate.{MappedGate}
 use Rattle.aig_map.specs.MapBlock.{first_row, variable_row, mapped_row, block_rows, first_line_text, last_line}
-use Rattle.aig_map.specs.MapBlock.{block_text, mapped_gate}
-use Rattle.aig_map.specs.Parts.Kept.{AreRelabelled, recorded_by}
+use Rattle.aig_map.specs.MapBlock.{block_text}
 
 -- three sections and the last line
 in_turn : (a b d last : List ℕ) → a ++ (b ++ (d ++ last)) ≡ ((a ++ b) ++ d) ++ last
@@ -37,23 +33,6 @@ module _ (b : MapBlock) where
       ++ (flat_map of_gate b.gates ++ last_line))) ≡ block_text b
   unfolding block_text
   parts_text = search (rules, in_turn, rows_text)
-
-pub as_many_old : (f : ℕ → ℕ) (old : List Gate) (variables : List ℕ) (gates : List Gate)
-    → AreRelabelled f old variables gates → length gates ≡ length old
-as_many_old f old variables gates are = ap length are.1 ∙ length-map old (relabelled_gate f)
-
-pub small_at : (f : ℕ → ℕ) (old : List Gate) (variables : List ℕ) (gates : List Gate)
-    → AreRelabelled f old variables gates → (k : ℕ) → k < length gates → k < length old
-small_at f old variables gates are k low = omega (arith, low, as_many_old f old variables gates are)
-
--- what is recorded of a gate by what it became
-pub recorded_is : (f : ℕ → ℕ) (first : ℕ) (old : List Gate) (variables : List ℕ) (gates : List Gate) (k var : ℕ)
-    (new : Gate)
-    → AreRelabelled f old variables gates → k < length gates
-    → var ≡ get_or variables k var → new ≡ get_or gates k new
-    → recorded_by first var new ≡ mapped_gate f first (at old k)
-recorded_is f first old variables gates k var new are low var_is new_is =
-    search (rules, as_many_old, length-map, get_or_default, get_or-map, no_gate, at)
 
 module _ (f : ℕ → ℕ) (c new : Circuit) (is : new ≡ relabelled f c) where
   -- there are as many of each

@@ -4,3 +4,4 @@ pub mod BlockText
 pub mod BlockReading
 pub mod Confirming
 pub mod Restoring
+pub mod NewPlaces

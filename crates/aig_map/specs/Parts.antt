@@ -4,5 +4,6 @@ pub mod Had
 pub mod MapOutcomes
 pub mod Placed
 pub mod Tables
+pub mod NewPlace
 pub mod Turns
 pub mod Kept

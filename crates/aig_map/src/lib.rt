@@ -10,6 +10,7 @@
 
 mod confirmed;
 mod fault;
+mod kept_map;
 mod map_block;
 mod map_reading;
 mod map_text;
@@ -20,10 +21,11 @@ mod undone;
 
 pub use crate::confirmed::tells_comment;
 pub use crate::fault::MapFault;
+pub use crate::kept_map::{KeptMap, KeptVariables};
 pub use crate::map_block::{MapBlock, MappedGate};
 pub use crate::map_reading::{TakenBlock, take_block};
 pub use crate::map_text::{map_comment, put_map_comment};
 pub use crate::recorded::{Recorded, into_recorded};
-pub use crate::recording::{KeptVariables, keep_variables, record_map, record_new_map};
+pub use crate::recording::{keep_variables, record_map, record_new_map};
 pub use crate::turns::{positions_by_place, tells_order};
 pub use crate::undone::{SourceVariables, make_undone, source_variables};

@@ -1,5 +1,5 @@
 //! The text of a map block.
-ghost use Rattle.std.specs.Prelude.{◌≡◌, ◌++◌, [], IfOk, OnOk};
+ghost use Rattle.std.specs.Prelude.{◌≡◌, ◌++◌, [], length, IfOk, OnOk};
 ghost use Rattle.std.specs.List.{flat_map};
 ghost use Rattle.std.specs.Option.{unwrap_or};
 ghost use Rattle.aig_io.specs.Devices.{CanFail, took};
@@ -8,8 +8,9 @@ ghost use Rattle.aig_text.specs.AsciiText.{numbers_text};
 ghost use Rattle.aig_map.specs.declared.map_block.MappedGate.{MappedGate as MappedRecord};
 ghost use Rattle.aig_map.specs.MapBlock.{block_text, first_line_text, first_row};
 ghost use Rattle.aig_map.specs.MapBlock.{mapped_row, variable_row};
+ghost use Rattle.aig_map.specs.Parts.NewPlace.{gate_told, gates_told};
 
-use crate::map_block::{MapBlock, MappedGate};
+use crate::kept_map::{KeptMap, NewPlace};
 use aig_core::{DeviceFault, Listing, OutOfMemory, Output, Sink, Var, VecSink};
 use aig_text::put_numbers;
 use std::alloc::Global;
@@ -17,14 +18,14 @@ use std::alloc::Global;
 /// The version of the map block's form.
 const VERSION: u64 = 1;
 
-fn put_first_line<W: Sink>(output: &mut Output<W>, block: &MapBlock)
+fn put_first_line<W: Sink>(output: &mut Output<W>, block: &KeptMap)
     ensures { Put output.old output.new (first_line_text (first_row block.now)) }
 {
     let others = [
         u64::from(block.max_var),
-        block.inputs.len() as u64,
-        block.latches.len() as u64,
-        block.gates.len() as u64,
+        block.variables.inputs.len() as u64,
+        block.variables.latches.len() as u64,
+        block.variables.gates.len() as u64,
         u64::from(block.has_comment),
     ];
     output.put(b"aigmap ");
@@ -41,37 +42,46 @@ fn put_variables<W: Sink>(output: &mut Output<W>, variables: &[Var])
 }
 
 #[inline(always)]
-fn put_gate<W: Sink>(output: &mut Output<W>, gate: &MappedGate)
-    ensures { Put output.old output.new (numbers_text (mapped_row gate.now)) }
+fn put_gate<W: Sink>(output: &mut Output<W>, var: Var, new_place: NewPlace)
+    ensures { Put output.old output.new (numbers_text (mapped_row (gate_told var new_place))) }
 {
-    let others = [u64::from(gate.place), u64::from(gate.exchanged)];
-    put_numbers(output, u64::from(gate.var.0), &others);
+    let others = [
+        u64::from(new_place.place()),
+        u64::from(new_place.is_exchanged()),
+    ];
+    put_numbers(output, u64::from(var.0), &others);
 }
 
 #[inline(never)]
-fn put_gates<W: Sink>(output: &mut Output<W>, gates: &[MappedGate])
+fn put_gates<W: Sink>(output: &mut Output<W>, variables: &[Var], new_places: &[NewPlace])
+    requires { length new_places.now ≡ length variables.now }
     ensures { Put output.old output.new (flat_map
-        (λ (g : MappedRecord). numbers_text (mapped_row g)) gates.now) }
+        (λ (g : MappedRecord). numbers_text (mapped_row g))
+        (gates_told variables.now new_places.now)) }
 {
-    for gate in gates {
-        put_gate(output, gate);
+    for (at, new_place) in new_places.iter().enumerate() {
+        put_gate(output, variables[at], *new_place);
     }
 }
 
-fn put_block<W: Sink>(output: &mut Output<W>, block: &MapBlock)
+fn put_block<W: Sink>(output: &mut Output<W>, block: &KeptMap)
     ensures { Put output.old output.new (block_text block.now) }
 {
     put_first_line(output, block);
-    put_variables(output, block.inputs.as_slice());
-    put_variables(output, block.latches.as_slice());
-    put_gates(output, block.gates.as_slice());
+    put_variables(output, block.variables.inputs.as_slice());
+    put_variables(output, block.variables.latches.as_slice());
+    put_gates(
+        output,
+        block.variables.gates.as_slice(),
+        block.new_places.as_slice(),
+    );
     output.put(b"aigmap end\n");
 }
 
 /// Puts the comment of a mapped image: the map block, and then what the source's own comment holds.
 pub fn put_map_comment<W: Sink>(
     output: &mut Output<W>,
-    block: &MapBlock,
+    block: &KeptMap,
     comment: &Option<Listing<u8>>,
 )
     ensures { Put output.old output.new (block_text block.now ++ unwrap_or comment.now []) }
@@ -83,7 +93,7 @@ pub fn put_map_comment<W: Sink>(
 }
 
 fn write_comment<W: Sink>(
-    block: &MapBlock,
+    block: &KeptMap,
     comment: &Option<Listing<u8>>,
     sink: &mut W,
 ) -> Result<(), DeviceFault>
@@ -100,7 +110,7 @@ fn write_comment<W: Sink>(
 /// The comment of a mapped image, in memory.
 pub fn map_comment(
     alloc: Global,
-    block: &MapBlock,
+    block: &KeptMap,
     comment: &Option<Listing<u8>>,
 ) -> Result<Listing<u8>, OutOfMemory>
     ensures { IfOk result (λ r. r ≡ block_text block.now ++ unwrap_or comment.now []) }

@@ -1,10 +1,6 @@
 -- The text of a mapped image: that of the image without a comment, and behind it the comment section.
-use Rattle.std.proofs.Common.{◌≡◌, ◌++◌, ◌∙◌, ℕ, List, [], Option, None, ap, sym, append_assoc, flat_map, Result, Ok}
-use Rattle.std.proofs.Common.{Err, OnErr, OnOk}
+use Rattle.std.proofs.Common.{◌≡◌, ◌++◌, ◌∙◌, ℕ, List, [], Option, None, ap, append_assoc, flat_map}
 use Rattle.std.proofs.lemmas.List.{append-nil}
-use Rattle.aig_io.specs.Devices.{Past, TookBeginning, took}
-use Rattle.aig_io.proofs.Puts.{beginning_after, beginning_longer}
-use Rattle.aig_io.proofs.Took.{took_twice}
 use Rattle.aig_circuit.specs.declared.circuit.Circuit.{Circuit}
 use Rattle.aig_text.specs.AsciiText.{comment_text, header_text, line_text, symbol_text}
 use Rattle.aig_text.specs.Sections.{header_row}
@@ -12,15 +8,6 @@ use Rattle.aig_binary.specs.BinaryGrammar.{binary_rows_of, binary_word}
 use Rattle.aig_binary.specs.BinaryText.{binary_text, gate_text}
 use Rattle.aig_map.specs.declared.map_block.MapBlock.{MapBlock}
 use Rattle.aig_map.specs.Parts.Kept.{with_block}
-
--- what follows from a clause
-pub on_ok : {A E : Type 0} (r : Result A E) (P Q : Type 0) → (P → Q) → OnOk r P → OnOk r Q
-on_ok (Ok x) P Q then p = then p
-on_ok (Err e) P Q then p = p
-
-pub on_err : {A E : Type 0} (r : Result A E) (P Q : Type 0) → (P → Q) → OnErr r P → OnErr r Q
-on_err (Ok x) P Q then p = p
-on_err (Err e) P Q then p = then p
 
 -- a text behind four others, the last of them empty
 behind : (a b d s t : List ℕ) → (a ++ (b ++ (d ++ (s ++ [])))) ++ t ≡ a ++ (b ++ (d ++ (s ++ t)))
@@ -47,18 +34,5 @@ module _ (whole plain : Circuit) (block : MapBlock) (comment : Option (List ℕ)
       ∙ behind (header_text binary_word (header_row plain)) (flat_map line_text (binary_rows_of plain))
       (flat_map gate_text plain.gates) (flat_map symbol_text plain.symbols) (section made)
 
-  text_is : binary_text plain ++ section whole ≡ binary_text whole
+  pub text_is : binary_text plain ++ section whole ≡ binary_text whole
   text_is = rw is made_text
-
-  pub both_took : (a b c : Past) → b ≡ took (binary_text plain) a → c ≡ took (section whole) b
-      → c ≡ took (binary_text whole) a
-  both_took a b c p q = rw (← text_is) (took_twice a b c (binary_text plain) (section whole) p q)
-
-  pub front_began : (a b : Past) → TookBeginning (binary_text plain) a b → TookBeginning (binary_text whole) a b
-  front_began a b p = rw (← text_is) (beginning_longer a b [] (binary_text plain) (section whole) p)
-
-  pub section_began : (a b c : Past) → b ≡ took (binary_text plain) a → TookBeginning (section whole) b c
-      → TookBeginning (binary_text whole) a c
-  section_began a b c p q =
-      rw (← text_is) (beginning_after a b c [] [] (binary_text plain) (section whole)
-      (record { sent = binary_text plain; past = p; order = sym (append-nil (binary_text plain)) }) q)

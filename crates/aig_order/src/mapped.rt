@@ -5,7 +5,6 @@ ghost use Rattle.aig_io.specs.Output.{Put};
 ghost use Rattle.aig_circuit.specs.declared.circuit.TheConstants.{LARGEST};
 ghost use Rattle.aig_circuit.specs.Wellformed.{IsWellFormed};
 ghost use Rattle.aig_checked.specs.BinaryOrder.{IsNumberedInOrder};
-ghost use Rattle.aig_text.specs.AsciiText.{comment_text};
 ghost use Rattle.aig_binary.specs.BinaryText.{binary_text};
 ghost use Rattle.aig_image.specs.Parts.Numbers.{number_of, IsRenumberingOf};
 ghost use Rattle.aig_image.specs.Relabelled.{FitIntoLiterals, relabelled};
@@ -13,14 +12,14 @@ ghost use Rattle.aig_image.specs.Reordered.{with_operands_sorted};
 ghost use Rattle.aig_map.specs.MapBlock.{IsMappedImage};
 ghost use Rattle.aig_map.specs.Parts.Kept.{AreVariablesOf, with_block};
 
-use aig_binary::write_binary;
+use aig_binary::put_binary;
 use aig_core::{
     Checked, Circuit, LARGEST, Listing, Ordered, OutOfMemory, Output, Sink, Steps, Var,
     is_numbered_in_order,
 };
 use aig_image::{Labels, Renumbering, relabel, sort_operands};
 use aig_map::{
-    KeptVariables, MapBlock, keep_variables, map_comment, put_map_comment, record_map,
+    KeptMap, KeptVariables, keep_variables, map_comment, put_map_comment, record_map,
     record_new_map,
 };
 use aig_text::WriteFault;
@@ -33,7 +32,7 @@ use std::marker::Model;
 pub struct MappedImage {
     /// The image without a comment.
     plain: Ordered,
-    block: MapBlock,
+    block: KeptMap,
     /// What the comment holds behind the block, if the source had one.
     comment: Option<Listing<u8>>,
 }
@@ -51,7 +50,7 @@ impl Model for MappedImage {
 }
 
 impl MappedImage {
-    fn new(image: Ordered, block: MapBlock) -> Self
+    fn new(image: Ordered, block: KeptMap) -> Self
         ensures { result ≡ with_block block image }
     {
         let found = image.into_checked().into_circuit();
@@ -77,25 +76,12 @@ impl MappedImage {
         Ok(Ordered::from_well_ordered(Circuit { comment, ..found }))
     }
 
-    fn put_comment<W: Sink>(&self, output: &mut Output<W>)
-        ensures { Put output.old output.new (comment_text self.now.comment) }
+    fn put<W: Sink>(&self, output: &mut Output<W>)
+        ensures { Put output.old output.new (binary_text self.now) }
     {
+        put_binary(output, &self.plain);
         output.put(b"c\n");
         put_map_comment(output, &self.block, &self.comment);
-    }
-
-    fn write_comment<W: Sink>(&self, sink: &mut W) -> Result<(), WriteFault>
-        requires { CanFail (W.past sink.old) }
-        ensures ok { OnOk result (W.past sink.new
-            ≡ took (comment_text self.now.comment) (W.past sink.old)) }
-        ensures err { OnErr result (TookBeginning (comment_text self.now.comment)
-            (W.past sink.old) (W.past sink.new)) }
-    {
-        let mut output = Output::new(sink);
-        self.put_comment(&mut output);
-        let (sent, _sink) = output.finish();
-        sent?;
-        Ok(())
     }
 }
 
@@ -108,8 +94,11 @@ pub fn write_mapped<W: Sink>(image: &MappedImage, sink: &mut W) -> Result<(), Wr
     ensures err { OnErr result (TookBeginning (binary_text image.now) (W.past sink.old)
         (W.past sink.new)) }
 {
-    write_binary(&image.plain, sink)?;
-    image.write_comment(sink)
+    let mut output = Output::new(sink);
+    image.put(&mut output);
+    let (sent, _sink) = output.finish();
+    sent?;
+    Ok(())
 }
 
 /// What labels each variable with itself. One that is too large for a literal, as no circuit has

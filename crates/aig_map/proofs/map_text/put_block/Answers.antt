@@ -4,8 +4,10 @@ use Rattle.aig_map.proofs.map_text.put_block.Goals as goal
 
 pub returns : goal.returns
 returns g c =
-    rw (← parts_text c.args.block.now)
-    (put_twice _ _ _ _ _ c.put_first_line.ensures
-    (put_twice _ _ _ _ _ (rw c.as_slice.ensures at c.put_variables.ensures)
-    (put_twice _ _ _ _ _ (rw c.as_slice-2.ensures at c.put_variables-2.ensures)
-    (put_twice _ _ _ _ _ (rw c.as_slice-3.ensures at c.put_gates.ensures) c.put.ensures.put))))
+    rw (← parts_text c.args.block.now, ← c.block.view_is)
+    (put_twice _ _ _ _ _ (rw (← c.block.view_is) at c.put_first_line.ensures)
+    (put_twice _ _ _ _ _ (rw c.as_slice.ensures.value at c.put_variables.ensures)
+    (put_twice _ _ _ _ _ (rw c.as_slice-2.ensures.value at c.put_variables-2.ensures)
+    (put_twice _ _ _ _ _
+    (rw (c.as_slice-3.ensures.value, c.as_slice-4.ensures.value) at c.put_gates.ensures)
+    c.put.ensures.put))))

@@ -1,5 +1,8 @@
-use Rattle.std.proofs.Common.{◌≡◌, ◌∙◌, rules, ap, subst, sym}
+use Rattle.std.proofs.Common.{◌≡◌, ◌∙◌, ◌≤◌, rules, ap, subst, sym}
+use Rattle.std.specs.List.{AllByRecursion}
 use Rattle.aig_circuit.specs.declared.circuit.Circuit.{Circuit}
+use Rattle.aig_circuit.specs.declared.circuit.Gate.{Gate}
+use Rattle.aig_circuit.specs.declared.circuit.TheConstants.{LARGEST}
 use Rattle.aig_checked.specs.BinaryOrder.{IsInBinaryOrder}
 use Rattle.aig_circuit.specs.Wellformed.{IsWellFormed}
 use Rattle.aig_circuit.proofs.Checking.{definitions_fit}
@@ -9,10 +12,16 @@ use Rattle.aig_map.specs.MapBlock.{IsMappedImage}
 use Rattle.aig_map.specs.Parts.Kept.{with_block}
 use Rattle.aig_map.proofs.BlockText.{as_many_gates, as_many_inputs, as_many_latches}
 use Rattle.aig_map.proofs.Mapping.{all_sorted, few_before_gates, is_mapped_image, made, made_is}
+use Rattle.aig_map.proofs.NewPlaces.{fit_by}
 use Rattle.aig_order.proofs.mapped.image_in_order.Goals as goal
 
 pub record_new_map-requires-clause-fits : goal.record_new_map-requires-clause-fits
 record_new_map-requires-clause-fits c = search (rules, few_before_gates, as_many_inputs, as_many_latches)
+
+pub record_new_map-requires-clause-small : goal.record_new_map-requires-clause-small
+record_new_map-requires-clause-small c =
+    subst (λ (d : Circuit). AllByRecursion (λ (g : Gate). g.var ≤ LARGEST) d.gates) (sym c.by_numbers-new.ensures)
+    (fit_by (number_of c.args.renumbering.numbers) c.requires.of_it.small c.args.circuit.gates)
 
 pub sort_all-requires : goal.sort_all-requires
 sort_all-requires c = search (rules, definitions_fit, as_many_inputs, as_many_latches, as_many_gates)
