@@ -25,7 +25,10 @@ KINDS = {it.__name__.rpartition(".")[2]: it for it in MODULES}
 def cases(program, folder, kinds, number):
     """Each case that is asked for: its name, the function that judges it, and what that is called with."""
     for kind in kinds:
-        for at, case in enumerate(KINDS[kind].cases(program, folder)):
+        # kinds run side by side, and their files have the same names
+        own = Path(folder) / kind
+        own.mkdir()
+        for at, case in enumerate(KINDS[kind].cases(program, str(own))):
             if number in (None, at):
                 yield f"{kind} {at}", *case
 
