@@ -233,7 +233,7 @@ def main():
     if not GNU_TIME:
         end(MISSING, "no GNU time, by which memory is measured (Debian's package time)")
     os.makedirs(generate.OUT, exist_ok=True)
-    contenders = [Contender(given.program, GLIBC_TUNABLES=launcher_memory())]
+    contenders = [Contender(given.program, GLIBC_TUNABLES=launcher_memory(), LD_BIND_NOW="1")]
     if not given.peer:
         make_peer()
     contenders.append(Contender(given.peer or PEER))

@@ -529,15 +529,15 @@ else
 fi
 
 # --- what the program is told of memory ---
-unasked() { ( unset GLIBC_TUNABLES && "$@" ); }
-asked() { ( export GLIBC_TUNABLES=glibc.malloc.check=0 && "$@" ); }
-printf '#!/bin/sh\nprintf "%%s\\n" "$GLIBC_TUNABLES"\n' > "$work/program"
+unasked() { ( unset GLIBC_TUNABLES LD_BIND_NOW && "$@" ); }
+asked() { ( export GLIBC_TUNABLES=glibc.malloc.check=0 LD_BIND_NOW= && "$@" ); }
+printf '#!/bin/sh\nprintf "%%s, %%s\\n" "$GLIBC_TUNABLES" "$LD_BIND_NOW"\n' > "$work/program"
 chmod +x "$work/program"
 edit
 heap=glibc.malloc.mmap_threshold=33554432:glibc.malloc.trim_threshold=1073741824:glibc.malloc.top_pad=4194304
-wants "glibc.malloc.hugetlb=1:$heap\n" "$proves" 0
+wants "glibc.malloc.hugetlb=1:$heap, 1\n" "$proves" 0
 check 'large pages are asked for' unasked launch
-wants 'glibc.malloc.check=0\n' '' 0
+wants 'glibc.malloc.check=0, \n' '' 0
 check 'unless something else is' asked launch
 
 # --- a limit on the size of files: the signal for a write above it ---
