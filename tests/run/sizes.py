@@ -81,8 +81,10 @@ def memory(most):
     before, hard = resource.getrlimit(resource.RLIMIT_AS)
     # the limit is that of this process, and each run has it from here
     resource.setrlimit(resource.RLIMIT_AS, (most if before == resource.RLIM_INFINITY else min(most, before), hard))
-    yield
-    resource.setrlimit(resource.RLIMIT_AS, (before, hard))
+    try:
+        yield
+    finally:
+        resource.setrlimit(resource.RLIMIT_AS, (before, hard))
 
 
 def is_same(first, second):
