@@ -4,6 +4,7 @@
 #
 #     tests/run/launcher.sh
 . "$(dirname "${BASH_SOURCE[0]}")/../lib/judge.sh"
+. "$top/tests/lib/pages.sh"
 . "$top/tests/lib/streams.sh"
 need_program
 
@@ -539,6 +540,14 @@ wants "glibc.malloc.hugetlb=1:$heap, 1\n" "$proves" 0
 check 'large pages are asked for' unasked launch
 wants 'glibc.malloc.check=0, \n' '' 0
 check 'unless something else is' asked launch
+every_run() { for _ in {1..8}; do unasked asked_for "$top/aiger"; done | sort -u; }
+read -r pages 2> /dev/null < /sys/kernel/mm/transparent_hugepage/enabled
+if [[ $pages = *'[madvise]'* ]]; then
+    wants 'yes\n' '' 0
+    check 'and each run gets them' every_run
+else
+    skip 1 'the system gives large pages to all, or to none'
+fi
 
 # --- a limit on the size of files: the signal for a write above it ---
 signalled() { look_again && RT=$work/rt env --default-signal=XFSZ "$tree/aiger" "$@"; }

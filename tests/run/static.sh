@@ -5,6 +5,7 @@
 #     tests/run/static.sh PROGRAM
 export AIGER=$1
 . "$(dirname "${BASH_SOURCE[0]}")/../lib/judge.sh"
+. "$top/tests/lib/pages.sh"
 . "$top/tests/lib/streams.sh"
 need_program
 
@@ -31,25 +32,6 @@ else
 fi
 
 # --- large pages ---
-# asked_for WORD..: whether memory of the program that the words run is marked for large pages, once it has read a part of a
-# circuit
-asked_for() {
-    local from child marked
-    rm -f "$work/pipe"
-    mkfifo "$work/pipe"
-    "$@" aigtoaig - /dev/null < "$work/pipe" > /dev/null 2>&1 &
-    child=$!
-    exec {from}> "$work/pipe"
-    { echo 'aag 400000 400000 0 0 0'; seq 2 2 400000; } >&"$from"
-    for _ in {1..100}; do
-        marked=$(grep -c '^VmFlags:.* hg' "/proc/$child/smaps")
-        [ "$marked" = 0 ] || break
-        sleep 0.01
-    done
-    exec {from}>&-
-    wait "$child"
-    [ "$marked" != 0 ] && echo yes || echo no
-}
 read -r pages 2> /dev/null < /sys/kernel/mm/transparent_hugepage/enabled
 if [[ $pages = *'[madvise]'* ]]; then
     wants 'yes\n' '' 0
