@@ -153,6 +153,13 @@ typedef struct aigtools_counts {
 /*
  * Converts an AIGER file, ASCII or binary, to the canonical text of its circuit, as `aiger aigtoaig`. The same input
  * and options always make the same bytes. Pass a likely size first: to ask for the length takes a whole conversion.
+ *
+ *     uint8_t text[4096], words[80];
+ *     aigtools_outcome outcome;
+ *     if (aigtools_convert(AIGTOOLS_ASCII, AIGTOOLS_LARGEST, file, length, text, sizeof text, &outcome) == AIGTOOLS_DONE)
+ *         fwrite(text, 1, outcome.length, stdout);
+ *     else
+ *         printf("%.*s\n", (int)aigtools_message(&outcome, words, sizeof words), (const char *)words);
  */
 uint32_t aigtools_convert(uint32_t options, uint32_t max_var, const uint8_t *input, size_t input_length,
                           uint8_t *output, size_t output_length, aigtools_outcome *outcome);
@@ -267,7 +274,15 @@ uint32_t aigtools_read(uint32_t options, uint32_t max_var, const uint8_t *input,
 /*
  * Writes the AIGER file of a circuit in arrays, binary or ASCII, as aigtools_convert writes that of a file. It takes no
  * numbers: words_length is aigtools_words(counts), and bytes_length is aigtools_bytes(counts). The entries are judged
- * as the lines of a file, and a wrong one is told by its first word (AIGTOOLS_WORD).
+ * as the lines of a file, and a wrong one is told by its first word (AIGTOOLS_WORD). Two inputs and their conjunction:
+ *
+ *     const uint32_t words[] = {2, 4, 6, 6, 4, 2};
+ *     aigtools_counts counts = {0};
+ *     counts.max_var = 3, counts.inputs = 2, counts.outputs = 1, counts.gates = 1;
+ *     uint8_t text[64], names[1] = {0};
+ *     aigtools_outcome outcome;
+ *     aigtools_write(AIGTOOLS_ASCII, &counts, words, 6, names, 0, text, sizeof text, &outcome);
+ *     fwrite(text, 1, outcome.length, stdout);
  */
 uint32_t aigtools_write(uint32_t options, const aigtools_counts *counts,
                         const uint32_t *words, size_t words_length, const uint8_t *bytes, size_t bytes_length,
@@ -289,7 +304,12 @@ uint32_t aigtools_write(uint32_t options, const aigtools_counts *counts,
  *     constraints        behind the bad states
  *     next states        behind the constraints: one for each latch, which is its state in the step that follows
  *
- * So value v is that of variable v, up to max_var.
+ * So value v is that of variable v, up to max_var. The state of the next step is copied from the end:
+ *
+ *     size_t length = aigtools_values_length(&counts);
+ *     uint8_t *state = values + 1 + counts.inputs;
+ *     if (aigtools_step(&counts, words, words_length, values, length, &outcome) == AIGTOOLS_DONE)
+ *         memcpy(state, values + length - counts.latches, counts.latches);
  */
 uint32_t aigtools_step(const aigtools_counts *counts, const uint32_t *words, size_t words_length,
                        uint8_t *values, size_t values_length, aigtools_outcome *outcome);
@@ -333,7 +353,13 @@ static inline size_t aigtools_values_length(const aigtools_counts *counts) {
     return UINT64_C(1) + counts->max_var + counts->outputs + counts->bad + counts->constraints + counts->latches;
 }
 
-/* Where a section begins. */
+/*
+ * Where a section begins. To go over the gates:
+ *
+ *     const uint32_t *gate = aigtools_gates(&counts, words);
+ *     for (uint32_t left = counts.gates; left != 0; left--, gate += 3)
+ *         printf("%u = %u & %u\n", gate[0], gate[1], gate[2]);
+ */
 static inline const uint32_t *aigtools_inputs(const aigtools_counts *counts, const uint32_t *words) {
     (void)counts;
     return words;

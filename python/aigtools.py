@@ -111,6 +111,12 @@ class Refused(ValueError):
     gate      the gate of a binary file, counted from 1, where it is wrong in one
     subject   the variable, the literal or the bad state that the fault names, or 0
     entry     of a circuit, the name and the index of what is wrong, as ("gates", 0)
+
+    >>> try:
+    ...     read(b"aag 3 1 0 0 1\\n2\\n6 4 2\\n")
+    ... except Refused as refused:
+    ...     print(refused.kind.name, refused.line, refused.subject, refused)
+    UNDEFINED None 4 literal 4 not defined
     """
 
     def __init__(
@@ -477,6 +483,8 @@ def simulate(
     properties   show bad states and constraints too
     vcd          write the trace as a waveform (Value Change Dump), with them; without properties
 
+    >>> simulate(b"aag 1 1 0 0 0 1\\n2\\n3\\n", b"0\\n1\\n", properties=True)
+    b' 0   1 \\n 1   0 \\n.\\n'
     >>> simulate(b"aag 1 1 0 1 0\\n2\\n3\\n", b"0\\n1\\n", vcd=True).splitlines()[-9:]
     [b'0i0', b'1o0', b'#1', b'1i0', b'0o0', b'#2', b'zi0', b'zo0', b'#3']
     """
@@ -500,8 +508,11 @@ def _room_of_dump(model: bytes, steps: bytes) -> int:
 def confirm(model: Data, witness: Data, *, max_var: int = LARGEST) -> Optional[int]:
     """The first step, counted from 0, at which a witness shows the bad state that it claims, or None.
 
-    >>> confirm(b"aag 1 0 1 0 0 1\\n2 3\\n2\\n", b"1\\nb0\\n0\\n\\n\\n.\\n")
+    >>> toggle = b"aag 1 0 1 0 0 1\\n2 3\\n2\\n"
+    >>> confirm(toggle, b"1\\nb0\\n0\\n\\n\\n.\\n")
     1
+    >>> confirm(toggle, b"1\\nb0\\n0\\n\\n.\\n") is None
+    True
     """
     model, witness = _bytes(model), _bytes(witness)
     outcome = _Outcome()
@@ -571,7 +582,15 @@ def _words(given: Iterable[int]) -> array:
 
 
 class Entries(Sequence):
-    """Latches or gates: a sequence of named tuples over the array ``words``, which has three numbers for each."""
+    """Latches or gates: a sequence of named tuples over the array ``words``, which has three numbers for each.
+
+    >>> gates = Circuit(inputs=[2, 4], gates=[(6, 4, 2), (8, 7, 3)]).gates
+    >>> gates[-1].left, list(gates.words[::3])
+    (7, [6, 8])
+    >>> gates.words[4] ^= 1
+    >>> gates
+    [Gate(literal=6, left=4, right=2), Gate(literal=8, left=6, right=3)]
+    """
 
     def __init__(self, entry: Callable[[int, int, int], Any], given: Iterable[Any]) -> None:
         self.entry = entry
@@ -719,7 +738,11 @@ class Circuit:
         return read(self.write(ascii=True), ordered=True)
 
     def first_state(self) -> bytes:
-        """A byte for each latch: its reset, or 2 where it is uninitialised."""
+        """A byte for each latch: its reset, or 2 where it is uninitialised.
+
+        >>> Circuit(latches=[(2, 4, 0), (4, 2, 1), (6, 6, 6)]).first_state()
+        b'\\x00\\x01\\x02'
+        """
         return bytes(min(reset, 2) for reset in self.latches.words[2::3])
 
     def step(self, inputs: Iterable[int], state: Optional[Iterable[int]] = None) -> Step:

@@ -2,7 +2,8 @@
 """The library libaigtools beside the linked program: what it answers to the rows of tests/rows/all.sh, to inputs that are
 changed by chance, to those of megabytes, to memory that is refused, to outputs that are too short, and from threads at
 once; its symbols; that its header, its Python module and its sources have the same numbers, and their structs the same
-form; that each option of a command is one of a call; and the programs of examples/c and examples/python over it.
+form; that each option of a command is one of a call; the examples of the header and of the Python module, and the
+programs of examples/c and examples/python, over it.
 
     tests/run/library.py FOLDER PROGRAM     FOLDER holds libaigtools.a and libaigtools.so.1, as release/library makes them
 """
@@ -628,6 +629,43 @@ def check_layout():
         judge(f"the form of {name} in the sources", there == wanted, there)
 
 
+# The examples of the header, a function each, over what they take as given: a file, its circuit, the values of a step.
+EXAMPLES = '''#include "aigtools.h"
+#include <stdio.h>
+#include <string.h>
+static const char toggle[] = "aag 5 1 1 1 3\\n2\\n4 10\\n4\\n6 4 2\\n8 5 3\\n10 9 7\\n";
+static const uint8_t *file = (const uint8_t *)toggle;
+static const size_t length = sizeof toggle - 1, words_length = 14;
+static uint32_t words[14];
+static uint8_t values[8] = {0, 1};
+static aigtools_counts counts;
+static aigtools_outcome outcome;
+FUNCTIONS
+int main(void) {
+    uint8_t names[1];
+    aigtools_read(0, AIGTOOLS_LARGEST, file, length, words, words_length, names, 1, &counts, &outcome);
+    CALLS
+    printf("%d\\n", values[2]);
+    return 0;
+}
+'''
+EXAMPLE = re.compile(r"(?:^ \*     .*\n)*^ \*     .*[;}]\n(?! \*     )", re.M)
+SAID = "aag 5 1 1 1 3\n2\n4 10\n4\n6 4 2\n8 5 3\n10 9 7\naag 3 2 0 1 1\n2\n4\n6\n6 4 2\n6 = 4 & 2\n8 = 5 & 3\n10 = 9 & 7\n1\n"
+
+
+def check_header(folder):
+    """The examples of the header run, one after the other."""
+    found = EXAMPLE.findall((TOP / "include/aigtools.h").read_text())
+    made = [f"static void example_{at}(void) {{\n{it.replace(' *     ', '    ')}}}" for at, it in enumerate(found)]
+    calls = " ".join(f"example_{at}();" for at in range(len(found)))
+    with tempfile.TemporaryDirectory() as work:
+        source = Path(work, "header.c")
+        source.write_text(EXAMPLES.replace("FUNCTIONS", "\n".join(made)).replace("CALLS", calls))
+        if compiled("the examples of the header", Path(work, "header"), source, Path(folder, "libaigtools.a")):
+            ran = subprocess.run([Path(work, "header")], stdout=subprocess.PIPE, text=True, check=False)
+            judge("the examples of the header", (ran.stdout, ran.returncode) == (SAID, 0), found, ran)
+
+
 def check_numbers(program):
     """The header, the Python module and the sources have the same numbers, and the versions are the same."""
     sources = [(TOP / f"crates/aig_library/src/{name}.rt").read_text() for name in ("kind", "outcome", "asked")]
@@ -739,6 +777,7 @@ def main(folder, program):
     check_examples(folder, program)
     check_symbols(folder)
     check_layout()
+    check_header(folder)
     check_numbers(program)
     check_options(program)
     check_arguments()
