@@ -156,7 +156,8 @@ typedef struct aigtools_counts {
  *
  *     uint8_t text[4096], words[80];
  *     aigtools_outcome outcome;
- *     if (aigtools_convert(AIGTOOLS_ASCII, AIGTOOLS_LARGEST, file, length, text, sizeof text, &outcome) == AIGTOOLS_DONE)
+ *     if (aigtools_convert(AIGTOOLS_ASCII, AIGTOOLS_LARGEST, input, input_length,
+ *                          text, sizeof text, &outcome) == AIGTOOLS_DONE)
  *         fwrite(text, 1, outcome.length, stdout);
  *     else
  *         printf("%.*s\n", (int)aigtools_message(&outcome, words, sizeof words), (const char *)words);
@@ -191,6 +192,10 @@ uint32_t aigtools_answer(uint32_t bad, uint32_t frames, uint32_t max_var, const 
  * Checks a refutation of these clauses (DRAT, text or binary) that a solver wrote, as `aiger aigunroll --refutation`;
  * pass the same `bad` and frames. AIGTOOLS_DONE: no run of at most so many steps reaches the bad state, or any, with all
  * constraints kept. That is proved, whatever the solver said.
+ *
+ *     if (aigtools_refute(0, 20, AIGTOOLS_LARGEST, model, model_length,
+ *                         refutation, refutation_length, &outcome) == AIGTOOLS_DONE)
+ *         puts("none within 20");
  */
 uint32_t aigtools_refute(uint32_t bad, uint32_t frames, uint32_t max_var, const uint8_t *model, size_t model_length,
                          const uint8_t *refutation, size_t refutation_length, aigtools_outcome *outcome);
@@ -215,7 +220,13 @@ uint32_t aigtools_never(uint32_t bad, uint32_t max_var, const uint8_t *model, si
 
 /*
  * Simulates the circuit of an AIGER file over a stimulus, as `aiger aigsim --batch`. The text is the trace, or, with
- * AIGTOOLS_VCD, its waveform (a Value Change Dump). A bad line of the stimulus leaves no text.
+ * AIGTOOLS_VCD, its waveform (a Value Change Dump). A bad line of the stimulus leaves no text. Two steps of a model with
+ * one input:
+ *
+ *     const uint8_t steps[] = {'1', '\n', '0', '\n'};
+ *     uint8_t text[4096];
+ *     aigtools_simulate(0, AIGTOOLS_LARGEST, model, model_length, steps, sizeof steps, text, sizeof text, &outcome);
+ *     fwrite(text, 1, outcome.length, stdout);
  */
 uint32_t aigtools_simulate(uint32_t options, uint32_t max_var, const uint8_t *model, size_t model_length,
                            const uint8_t *stimulus, size_t stimulus_length,
@@ -224,6 +235,9 @@ uint32_t aigtools_simulate(uint32_t options, uint32_t max_var, const uint8_t *mo
 /*
  * Judges a witness file for the circuit of an AIGER file, as `aiger aigsim --witness`: AIGTOOLS_DONE, and
  * outcome->number is the first step that shows the bad state, or AIGTOOLS_NOT_CONFIRMED.
+ *
+ *     if (aigtools_witness(AIGTOOLS_LARGEST, model, model_length, witness, witness_length, &outcome) == AIGTOOLS_DONE)
+ *         printf("confirmed %lu\n", (unsigned long)outcome.number);
  */
 uint32_t aigtools_witness(uint32_t max_var, const uint8_t *model, size_t model_length,
                           const uint8_t *witness, size_t witness_length, aigtools_outcome *outcome);

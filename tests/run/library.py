@@ -629,41 +629,43 @@ def check_layout():
         judge(f"the form of {name} in the sources", there == wanted, there)
 
 
-# The examples of the header, a function each, over what they take as given: a file, its circuit, the values of a step.
-EXAMPLES = '''#include "aigtools.h"
-#include <stdio.h>
-#include <string.h>
-static const char toggle[] = "aag 5 1 1 1 3\\n2\\n4 10\\n4\\n6 4 2\\n8 5 3\\n10 9 7\\n";
-static const uint8_t *file = (const uint8_t *)toggle;
-static const size_t length = sizeof toggle - 1, words_length = 14;
-static uint32_t words[14];
-static uint8_t values[8] = {0, 1};
-static aigtools_counts counts;
-static aigtools_outcome outcome;
-FUNCTIONS
-int main(void) {
-    uint8_t names[1];
-    aigtools_read(0, AIGTOOLS_LARGEST, file, length, words, words_length, names, 1, &counts, &outcome);
-    CALLS
-    printf("%d\\n", values[2]);
-    return 0;
-}
-'''
+# An example of the header, whose last line ends so; and what all of them print, over what header.c gives them.
 EXAMPLE = re.compile(r"(?:^ \*     .*\n)*^ \*     .*[;}]\n(?! \*     )", re.M)
-SAID = "aag 5 1 1 1 3\n2\n4 10\n4\n6 4 2\n8 5 3\n10 9 7\naag 3 2 0 1 1\n2\n4\n6\n6 4 2\n6 = 4 & 2\n8 = 5 & 3\n10 = 9 & 7\n1\n"
+SAID = """aag 5 1 1 1 3 2
+2
+4 10
+4
+0
+4
+6 4 2
+8 5 3
+10 9 7
+none within 20
+0 1 0 1
+1 0 1 1
+.
+confirmed 1
+aag 3 2 0 1 1
+2
+4
+6
+6 4 2
+6 = 4 & 2
+8 = 5 & 3
+10 = 9 & 7
+"""
 
 
 def check_header(folder):
     """The examples of the header run, one after the other."""
     found = EXAMPLE.findall((TOP / "include/aigtools.h").read_text())
-    made = [f"static void example_{at}(void) {{\n{it.replace(' *     ', '    ')}}}" for at, it in enumerate(found)]
-    calls = " ".join(f"example_{at}();" for at in range(len(found)))
     with tempfile.TemporaryDirectory() as work:
-        source = Path(work, "header.c")
-        source.write_text(EXAMPLES.replace("FUNCTIONS", "\n".join(made)).replace("CALLS", calls))
-        if compiled("the examples of the header", Path(work, "header"), source, Path(folder, "libaigtools.a")):
+        blocks = "".join(f"{{\n{it}}}\n" for it in found)
+        Path(work, "examples.inc").write_text(re.sub(r"^ \* {5}", "    ", blocks, flags=re.M))
+        words = f"-I{work}", TOP / "tests/run/header.c", Path(folder, "libaigtools.a")
+        if compiled("the examples of the header", Path(work, "header"), *words):
             ran = subprocess.run([Path(work, "header")], stdout=subprocess.PIPE, text=True, check=False)
-            judge("the examples of the header", (ran.stdout, ran.returncode) == (SAID, 0), found, ran)
+            judge("what the examples of the header print", (ran.stdout, ran.returncode) == (SAID, 0), ran.stdout, SAID)
 
 
 def check_numbers(program):
