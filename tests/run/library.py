@@ -670,12 +670,13 @@ def check_header(folder):
 
 def check_numbers(program):
     """The header, the Python module and the sources have the same numbers, and the versions are the same."""
-    sources = [(TOP / f"crates/aig_library/src/{name}.rt").read_text() for name in ("kind", "outcome", "asked")]
-    there = dict(re.findall(r"pub const ([A-Z_]+): u32 = (\d+);", "".join(sources)))
+    variants = re.findall(r"^    ([A-Z]\w+) = (\d+),$", (TOP / "crates/aig_fault/src/kind.rt").read_text(), re.M)
+    kinds = {re.sub(r"\B([A-Z])", r"_\1", name).upper(): number for name, number in variants}
+    sources = [(TOP / f"crates/aig_library/src/{name}.rt").read_text() for name in ("outcome", "asked")]
+    there = kinds | dict(re.findall(r"pub const ([A-Z_]+): u32 = (\d+);", "".join(sources)))
     here = dict(re.findall(r"\bAIGTOOLS_([A-Z_]+) = (\d+)", (TOP / "include/aigtools.h").read_text()))
     judge("AIGTOOLS_NO_FAULT is 0", here.pop("NO_FAULT") == "0")
     judge("the numbers of the header", here == there, here, there)
-    kinds = dict(re.findall(r"pub const ([A-Z_]+): u32 = (\d+);", sources[0]))
     judge("the kinds of the Python module", {it.name: str(it.value) for it in aigtools.Kind} == kinds, kinds)
     others = {name: str(getattr(aigtools, f"_{name}", None)) for name in here.keys() - kinds.keys()}
     judge("the other numbers of the Python module", others.items() <= here.items(), others)

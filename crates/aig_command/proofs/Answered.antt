@@ -13,9 +13,11 @@ use Rattle.clap.proofs.OnLiterals.{clap_on_literals}
 use Rattle.clap.proofs.WalkLemmas.{list_any-map}
 use Rattle.aig_command.specs.Aiger.{aiger}
 use Rattle.aig_command.specs.Asked.{Asked, AsksWithinLimits, asked_by, command_of, faults}
-use Rattle.aig_command.specs.Answer.{IsAnswer, IsCommand, IsErrorAnswer, IsUsage, IsWrong, asks_for, is_option, texts}
+use Rattle.aig_command.specs.Answer.{IsAnswer, IsCommand, IsErrorAnswer, IsUsage, IsWrong, asks_for, is_option, no_names}
+use Rattle.aig_command.specs.Answer.{texts}
 use Rattle.aig_command.specs.declared.request.Command.{Command}
 use Rattle.aig_command.specs.declared.request.Command.TheVariants as commands
+use Rattle.aig_command.specs.declared.request.Names.{Names}
 use Rattle.aig_command.specs.declared.usage.Usage.{Usage}
 use Rattle.aig_command.specs.declared.usage.Usage.TheVariants as usage
 use Rattle.aig_command.proofs.Entered.{known}
@@ -31,48 +33,24 @@ pub free : is_simple_and_free aiger ≡ true
 unfolding clap_on_literals
 free = refl
 
-abbrev Answers : Option Asked → Result Command Usage → Type 0
+abbrev Answers : Option Asked → Result (Names × Command) Usage → Type 0
 Answers o r = IfSome o (λ asked. IsAnswer asked r)
 
-is_command : (words : List Text) (o : Option Asked) (r : Result Command Usage) → command_of words ≡ o
-    → is_some o ≡ true → Answers o r → IfOk r (IsCommand words)
+is_command : (words : List Text) (o : Option Asked) (r : Result (Names × Command) Usage) → command_of words ≡ o
+    → is_some o ≡ true → Answers o r → IfOk r (λ answer. IsCommand words answer.0 answer.1)
 is_command words None r is some h = absurd (true≢false (sym some))
-is_command words (Some asked) (Ok (commands.ToAig request)) is some h = is ∙ ap Some h
-is_command words (Some asked) (Ok (commands.Sim request)) is some h = is ∙ ap Some h
-is_command words (Some asked) (Ok (commands.Unroll request)) is some h = is ∙ ap Some h
-is_command words (Some asked) (Ok (commands.Reach request)) is some h = is ∙ ap Some h
-is_command words (Some asked) (Ok (commands.Invariant request)) is some h = is ∙ ap Some h
-is_command words (Some asked) (Ok (commands.Help text)) is some h = absurd h
-is_command words (Some asked) (Ok (commands.Version text)) is some h = absurd h
+is_command words (Some asked) (Ok (names, commands.Help text)) is some h = absurd h
+is_command words (Some asked) (Ok (names, commands.Version text)) is some h = absurd h
+is_command words (Some asked) (Ok (names, command)) is some h = is ∙ ap Some h
 is_command words (Some asked) (Err reason) is some h = tt
 
-is_usage : (words : List Text) (o : Option Asked) (r : Result Command Usage) → command_of words ≡ o
+is_usage : (words : List Text) (o : Option Asked) (r : Result (Names × Command) Usage) → command_of words ≡ o
     → is_some o ≡ true → Answers o r → IfErr r (IsUsage words)
 is_usage words None r is some h = absurd (true≢false (sym some))
-is_usage words (Some asked) (Ok command) is some h = tt
+is_usage words (Some asked) (Ok answer) is some h = tt
 is_usage words (Some asked) (Err usage.OutOfMemory) is some h = tt
 is_usage words (Some asked) (Err (usage.Words text)) is some h = absurd h
-is_usage words (Some asked) (Err usage.KeepMapNeedsBinary) is some h = is ∙ ap Some h
-is_usage words (Some asked) (Err usage.KeepMapExcludesStrip) is some h = is ∙ ap Some h
-is_usage words (Some asked) (Err usage.KeepMapExcludesUndoMap) is some h = is ∙ ap Some h
-is_usage words (Some asked) (Err usage.OutputsAsBadExcludesKeepMap) is some h = is ∙ ap Some h
-is_usage words (Some asked) (Err usage.OutputsAsBadExcludesUndoMap) is some h = is ∙ ap Some h
-is_usage words (Some asked) (Err usage.BothStandardInput) is some h = is ∙ ap Some h
-is_usage words (Some asked) (Err usage.CompressedOutput) is some h = is ∙ ap Some h
-is_usage words (Some asked) (Err usage.WitnessAlone) is some h = is ∙ ap Some h
-is_usage words (Some asked) (Err usage.VcdExcludesProperties) is some h = is ∙ ap Some h
-is_usage words (Some asked) (Err usage.CnfExcludesAscii) is some h = is ∙ ap Some h
-is_usage words (Some asked) (Err usage.AnswerAlone) is some h = is ∙ ap Some h
-is_usage words (Some asked) (Err usage.RefutationAlone) is some h = is ∙ ap Some h
-is_usage words (Some asked) (Err usage.BadNeedsClauses) is some h = is ∙ ap Some h
-is_usage words (Some asked) (Err usage.BothAreStandardInput) is some h = is ∙ ap Some h
-is_usage words (Some asked) (Err usage.RefutationIsModel) is some h = is ∙ ap Some h
-is_usage words (Some asked) (Err usage.FramesNeeded) is some h = is ∙ ap Some h
-is_usage words (Some asked) (Err usage.InvariantAlone) is some h = is ∙ ap Some h
-is_usage words (Some asked) (Err usage.InvariantNeedsClauses) is some h = is ∙ ap Some h
-is_usage words (Some asked) (Err usage.InvariantIsModel) is some h = is ∙ ap Some h
-is_usage words (Some asked) (Err usage.RefutationIsInvariant) is some h = is ∙ ap Some h
-is_usage words (Some asked) (Err usage.SyncNeedsDestination) is some h = is ∙ ap Some h
+is_usage words (Some asked) (Err reason) is some h = is ∙ ap Some h
 
 module _ (words : List Text) (m : ArgMatches) (h : HasMatchesOf aiger words m) (e : faults words ≡ []) where
   pub rows_known : is_some (option_and_then asked_by (subcommand_rows_of m)) ≡ true
@@ -86,22 +64,17 @@ module _ (words : List Text) (m : ArgMatches) (h : HasMatchesOf aiger words m) (
       ap (λ (ks : Kinds). cond (length ks == 0) (option_and_then asked_by (subcommand_of aiger words)) None) e
       ∙ ap (option_and_then asked_by) (sym (h simple).1)
 
-  pub taken_command : (r : Result Command Usage) → Answers (option_and_then asked_by (subcommand_rows_of m)) r
-      → IfOk r (IsCommand words)
+  pub taken_command : (r : Result (Names × Command) Usage)
+      → Answers (option_and_then asked_by (subcommand_rows_of m)) r
+      → IfOk r (λ answer. IsCommand words answer.0 answer.1)
   taken_command r = is_command words (option_and_then asked_by (subcommand_rows_of m)) r command_is rows_known
 
-  pub taken_usage : (r : Result Command Usage) → Answers (option_and_then asked_by (subcommand_rows_of m)) r
+  pub taken_usage : (r : Result (Names × Command) Usage)
+      → Answers (option_and_then asked_by (subcommand_rows_of m)) r
       → IfErr r (IsUsage words)
   taken_usage r = is_usage words (option_and_then asked_by (subcommand_rows_of m)) r command_is rows_known
 
 -- ---- arguments that are not taken
-
-abbrev is_memory : ErrorKind → Bool
-is_memory kinds.OutOfMemory = true
-is_memory kind = false
-
-no_memory : (kind shown : ErrorKind) → is_memory shown ≡ false → kind ≡ shown → kind ≢ kinds.OutOfMemory
-no_memory kind shown other e m = true≢false (ap is_memory (sym m ∙ e) ∙ other)
 
 untaken : (b : Bool) (P : Type 0) → (P → ⊥) → (b ≡ true → P) → b ≡ false
 untaken true P never h = absurd (never (h refl))
@@ -119,43 +92,19 @@ module _ (words : List Text) (kind : ErrorKind) (passes : takes aiger words ≡ 
       let untaken_words = untaken (takes aiger words) (kind ≡ kinds.OutOfMemory) other passes in
       (is_among kind (faults words) other fails, untaken_words)
 
-  pub refused_command : (r : Result Command Usage) → IsErrorAnswer kind words r → IfOk r (IsCommand words)
+  pub refused_command : (r : Result Command Usage) → IsErrorAnswer kind words r → IfOk r (IsCommand words no_names)
   refused_command (Ok (commands.Help text)) h =
-      (subst (IsWrong words) h.0 (is_wrong (no_memory kind kinds.DisplayHelp refl h.0)), h.1, h.2)
+      (subst (IsWrong words) h.0 (is_wrong (λ memory. cc (h.0))), h.1, h.2, refl)
   refused_command (Ok (commands.Version text)) h =
-      (subst (IsWrong words) h.0 (is_wrong (no_memory kind kinds.DisplayVersion refl h.0)), h.1, h.2)
-  refused_command (Ok (commands.ToAig request)) h = absurd h
-  refused_command (Ok (commands.Sim request)) h = absurd h
-  refused_command (Ok (commands.Unroll request)) h = absurd h
-  refused_command (Ok (commands.Reach request)) h = absurd h
-  refused_command (Ok (commands.Invariant request)) h = absurd h
+      (subst (IsWrong words) h.0 (is_wrong (λ memory. cc (h.0))), h.1, h.2, refl)
+  refused_command (Ok command) h = absurd h
   refused_command (Err reason) h = tt
 
   pub refused_usage : (r : Result Command Usage) → IsErrorAnswer kind words r → IfErr r (IsUsage words)
   refused_usage (Ok command) h = tt
   refused_usage (Err usage.OutOfMemory) h = tt
   refused_usage (Err (usage.Words text)) h = (kind, is_wrong h.0, h.1, h.2, h.3)
-  refused_usage (Err usage.KeepMapNeedsBinary) h = absurd h
-  refused_usage (Err usage.KeepMapExcludesStrip) h = absurd h
-  refused_usage (Err usage.KeepMapExcludesUndoMap) h = absurd h
-  refused_usage (Err usage.OutputsAsBadExcludesKeepMap) h = absurd h
-  refused_usage (Err usage.OutputsAsBadExcludesUndoMap) h = absurd h
-  refused_usage (Err usage.BothStandardInput) h = absurd h
-  refused_usage (Err usage.CompressedOutput) h = absurd h
-  refused_usage (Err usage.WitnessAlone) h = absurd h
-  refused_usage (Err usage.VcdExcludesProperties) h = absurd h
-  refused_usage (Err usage.CnfExcludesAscii) h = absurd h
-  refused_usage (Err usage.AnswerAlone) h = absurd h
-  refused_usage (Err usage.RefutationAlone) h = absurd h
-  refused_usage (Err usage.BadNeedsClauses) h = absurd h
-  refused_usage (Err usage.BothAreStandardInput) h = absurd h
-  refused_usage (Err usage.RefutationIsModel) h = absurd h
-  refused_usage (Err usage.FramesNeeded) h = absurd h
-  refused_usage (Err usage.InvariantAlone) h = absurd h
-  refused_usage (Err usage.InvariantNeedsClauses) h = absurd h
-  refused_usage (Err usage.InvariantIsModel) h = absurd h
-  refused_usage (Err usage.RefutationIsInvariant) h = absurd h
-  refused_usage (Err usage.SyncNeedsDestination) h = absurd h
+  refused_usage (Err reason) h = absurd h
 
 -- ---- an argument that asks for a text
 

@@ -27,11 +27,12 @@ use Rattle.clap.specs.declared.builder.value_parser.ValueParser.{ValueParser}
 use Rattle.clap.specs.declared.builder.value_parser.ValueParser.TheVariants as parser
 use Rattle.clap.proofs.CallerReads.{signed_reads}
 use Rattle.clap.proofs.ValueTestLemmas.{accepts-Accepts}
-use Rattle.aig_command.specs.Asked.{file, number_in, Asked, AsksWithinLimits, asked_by, command_of, conversion}
-use Rattle.aig_command.specs.Asked.{converts, faults, frames, limit, number, refused, simulates, simulation}
-use Rattle.aig_command.specs.Asked.{aigunroll, asked_reaching, is_given, options_refusal, proves, proving, reaches}
-use Rattle.aig_command.specs.Asked.{reaching, refusal, sync_refusal, to_aig, unrolling, unrolls}
+use Rattle.aig_command.specs.Asked.{file, number_in, Asked, AsksWithinLimits, asked_by, command_of}
+use Rattle.aig_command.specs.Asked.{faults, frames, limit, number, refused}
+use Rattle.aig_command.specs.Asked.{aigunroll, asked_reaching, asks, conversion, is_given, options_refusal, proving}
+use Rattle.aig_command.specs.Asked.{reaching, simulation, sync_refusal, to_aig, unrolling}
 use Rattle.aig_command.specs.Aiger.{aiger, largest_index, max_var, most_frames, frames as frames_rule}
+use Rattle.aig_command.specs.declared.request.Command.TheVariants as commands
 use Rattle.aig_command.specs.declared.request.SolverFile.{SolverFile}
 use Rattle.aig_command.specs.declared.request.SolverFile.TheVariants as files
 use Rattle.aig_command.specs.declared.usage.Usage.{Usage}
@@ -246,26 +247,35 @@ aigunroll_is_in : (rows : List Row) → (1 ≤ frames rows) × (frames rows ≤ 
     → AsksWithinLimits (aigunroll rows)
 aigunroll_is_in rows few low =
     unless_one_refused (options_refusal rows) (sync_refusal rows) _
-    (either (is_given (codes "invariant") rows) _ _ (unless_refused _ (proves (proving rows)) low)
+    (either (is_given (codes "invariant") rows) _ _
+    (unless_refused _ (asks _ (commands.Invariant (proving rows))) low)
     (either (is_given (codes "answer") rows) _ _ (reach files.Answer)
     (either (is_given (codes "refutation") rows) _ _ (reach files.Refutation)
-    (unless_refused _ (unrolls (unrolling rows)) (few.0, few.1, low)))))
+    (unless_refused _ (asks _ (commands.Unroll (unrolling rows (file (codes "destination") rows)))) counts))))
   where
+    counts : (1 ≤ frames rows) × (frames rows ≤ most_frames) × (limit rows ≤ largest_index)
+    counts = (few.0, few.1, low)
+
     reach : (wrote : SolverFile) → AsksWithinLimits (asked_reaching wrote rows)
-    reach wrote = unless_refused _ (reaches (reaching wrote rows)) (few.0, few.1, low)
+    reach wrote = unless_refused _ (asks _ (commands.Reach (reaching wrote rows))) counts
 
     either : (b : Bool) (x y : Asked) → AsksWithinLimits x → AsksWithinLimits y → AsksWithinLimits (cond b x y)
     either true x y hx hy = hx
     either false x y hx hy = hy
 
-to_aig_is_in : (rows : List Row) → (conversion rows).max_var ≤ largest_index → AsksWithinLimits (to_aig rows)
-to_aig_is_in rows = unless_one_refused (refusal (conversion rows)) (sync_refusal rows) (converts (conversion rows))
+to_aig_is_in : (rows : List Row) → limit rows ≤ largest_index → AsksWithinLimits (to_aig rows)
+to_aig_is_in rows =
+    unless_one_refused _ (sync_refusal rows)
+    (asks _ (commands.ToAig (conversion rows (file (codes "destination") rows))))
 
 subcommands_are_bounded : AllByRecursion IsBounded (built aiger).subs
 subcommands_are_bounded = (
   (search rules, λ rows h. to_aig_is_in rows (limit_is_in _ _ refl refl rows h)),
   (
-    (search rules, λ rows h. unless_refused _ (simulates (simulation rows)) (limit_is_in _ _ refl refl rows h)),
+    (
+      search rules,
+      λ rows h. unless_refused _ (asks _ (commands.Sim (simulation rows))) (limit_is_in _ _ refl refl rows h),
+    ),
     (
       (
         search rules,

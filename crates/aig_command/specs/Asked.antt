@@ -9,8 +9,15 @@ use Rattle.std.specs.Str.{bytes_eq}
 use Rattle.std.specs.Str.Parse.{digits_value, without_leading_plus}
 use Rattle.clap.specs.Words.{Kinds, Row, Text, fault_of, first_of, one_of, subcommand_of}
 use Rattle.aig_command.specs.Aiger.{aiger, largest_index, most_frames}
+use Rattle.aig_command.specs.declared.request.Command.{Command}
+use Rattle.aig_command.specs.declared.request.Command.TheVariants as commands
+use Rattle.aig_command.specs.declared.request.Invariant.{Invariant}
+use Rattle.aig_command.specs.declared.request.Reach.{Reach}
+use Rattle.aig_command.specs.declared.request.Sim.{Sim}
 use Rattle.aig_command.specs.declared.request.SolverFile.{SolverFile}
-use Rattle.aig_command.specs.declared.request.SolverFile.TheVariants as files
+use Rattle.aig_command.specs.declared.request.SolverFile.TheVariants as written
+use Rattle.aig_command.specs.declared.request.ToAig.{ToAig}
+use Rattle.aig_command.specs.declared.request.Unroll.{Unroll}
 use Rattle.aig_command.specs.declared.request.UnrolledForm.{UnrolledForm}
 use Rattle.aig_command.specs.declared.request.UnrolledForm.TheVariants as forms
 use Rattle.aig_command.specs.declared.usage.Usage.{Usage}
@@ -71,78 +78,74 @@ sync_refusal rows =
     if is_set (codes "sync") rows && is_none (file (codes "destination") rows)
     then Some usage.SyncNeedsDestination else None
 
--- a conversion: from which file to which, and how
-pub record Conversion : Type 0 where
-  pub ascii : Bool
-  pub strip : Bool
-  pub keep_map : Bool
-  pub undo_map : Bool
-  pub outputs_as_bad : Bool
-  pub max_var : ℕ
-  pub source : Option Text
+-- the files that a command names; `None` is a standard stream, or a file that the command does not have
+pub record Files : Type 0 where
+  pub model : Option Text
+  pub file : Option Text
+  pub refutation : Option Text
   pub destination : Option Text
 
--- the conversion that the arguments of `aigtoaig` name
-abbrev pub conversion : List Row → Conversion
-conversion rows = record {
-  ascii = wants_ascii rows (file (codes "destination") rows);
+-- the standard input is one stream, and is to give the model and the file after it
+abbrev pub has_one_stream_for_two : Files → Bool
+has_one_stream_for_two files = is_none files.model && is_none files.file
+
+-- the files of a command with a source and a destination, and with these two beside the source
+abbrev pub files_with : Option Text → Option Text → List Row → Files
+files_with beside refutation rows = record {
+  model = file (codes "source") rows;
+  file = beside;
+  refutation = refutation;
+  destination = file (codes "destination") rows;
+}
+
+-- the conversion to this destination that the arguments of `aigtoaig` name
+abbrev pub conversion : List Row → Option Text → ToAig
+conversion rows destination = record {
+  ascii = wants_ascii rows destination;
   strip = is_set (codes "strip") rows;
   keep_map = is_set (codes "keep-map") rows;
   undo_map = is_set (codes "undo-map") rows;
   outputs_as_bad = is_set (codes "outputs-as-bad") rows;
   max_var = limit rows;
-  source = file (codes "source") rows;
-  destination = file (codes "destination") rows;
 }
 
--- the first reason to refuse a conversion
-abbrev pub refusal : Conversion → Option Usage
-refusal c =
+-- the first reason to refuse a conversion to this destination
+abbrev pub refusal : Option Text → ToAig → Option Usage
+refusal destination c =
     if c.keep_map && c.ascii then Some usage.KeepMapNeedsBinary
     else if c.keep_map && c.strip then Some usage.KeepMapExcludesStrip
     else if c.keep_map && c.undo_map then Some usage.KeepMapExcludesUndoMap
     else if c.outputs_as_bad && c.keep_map then Some usage.OutputsAsBadExcludesKeepMap
     else if c.outputs_as_bad && c.undo_map then Some usage.OutputsAsBadExcludesUndoMap
-    else destination_refusal c.destination
-
--- a simulation: of which model, on which stimulus, and how; or which witness file is judged against the model
-pub record Simulation : Type 0 where
-  pub batch : Bool
-  pub properties : Bool
-  pub witness : Bool
-  pub vcd : Bool
-  pub max_var : ℕ
-  pub model : Option Text
-  pub stimulus : Option Text
+    else destination_refusal destination
 
 -- the simulation that the arguments of `aigsim` name
-abbrev pub simulation : List Row → Simulation
+abbrev pub simulation : List Row → Sim
 simulation rows = record {
   batch = is_set (codes "batch") rows;
   properties = is_set (codes "properties") rows;
   witness = is_set (codes "witness") rows;
   vcd = is_set (codes "vcd") rows;
   max_var = limit rows;
+}
+
+-- its model and its stimulus, or the witness file that is judged against the model
+abbrev pub simulation_files : List Row → Files
+simulation_files rows = record {
   model = file (codes "model") rows;
-  stimulus = file (codes "stimulus") rows;
+  file = file (codes "stimulus") rows;
+  refutation = None;
+  destination = None;
 }
 
 -- the first reason to refuse a simulation: the standard input is one stream and cannot give two files; judging a
 -- witness writes no trace that an option could change, but a dump; and a dump always has the properties
-abbrev pub simulation_refusal : Simulation → Option Usage
-simulation_refusal s =
-    if is_none s.model && is_none s.stimulus then Some usage.BothStandardInput
+abbrev pub simulation_refusal : Files → Sim → Option Usage
+simulation_refusal files s =
+    if has_one_stream_for_two files then Some usage.BothStandardInput
     else if s.witness && (s.batch || s.properties) then Some usage.WitnessAlone
     else if s.vcd && s.properties then Some usage.VcdExcludesProperties
     else None
-
--- an unrolling: from which file to which, over how many frames, and what is written
-pub record Unrolling : Type 0 where
-  pub frames : ℕ
-  pub form : UnrolledForm
-  pub max_var : ℕ
-  pub source : Option Text
-  pub destination : Option Text
 
 -- what is written of an unrolled circuit: the clauses where they are asked for, and else the circuit
 abbrev pub unrolled_form : List Row → Option Text → UnrolledForm
@@ -150,85 +153,54 @@ unrolled_form rows destination =
     if is_set (codes "cnf") rows then forms.Clauses (bad_number rows)
     else if wants_ascii rows destination then forms.Ascii else forms.Binary
 
--- the unrolling that the arguments of `aigunroll` name
-abbrev pub unrolling : List Row → Unrolling
-unrolling rows = record {
+-- the unrolling to this destination that the arguments of `aigunroll` name
+abbrev pub unrolling : List Row → Option Text → Unroll
+unrolling rows destination = record {
   frames = frames rows;
-  form = unrolled_form rows (file (codes "destination") rows);
+  form = unrolled_form rows destination;
   max_var = limit rows;
-  source = file (codes "source") rows;
-  destination = file (codes "destination") rows;
 }
-
--- what a solver wrote, by which a bad state is reached or is not: on which model, over how many frames, and of which
--- bad state, if not of any
-pub record Reaching : Type 0 where
-  pub frames : ℕ
-  pub bad : Option ℕ
-  pub max_var : ℕ
-  pub model : Option Text
-  pub wrote : SolverFile
-  pub file : Option Text
-  pub destination : Option Text
 
 -- the option that names what a solver wrote
 abbrev pub option_of : SolverFile → Text
-option_of files.Answer = codes "answer"
-option_of files.Refutation = codes "refutation"
+option_of written.Answer = codes "answer"
+option_of written.Refutation = codes "refutation"
 
 -- what the arguments of `aigunroll` name with that option
-abbrev pub reaching : SolverFile → List Row → Reaching
+abbrev pub reaching : SolverFile → List Row → Reach
 reaching wrote rows = record {
   frames = frames rows;
   bad = bad_number rows;
   max_var = limit rows;
-  model = file (codes "source") rows;
   wrote = wrote;
-  file = file (option_of wrote) rows;
-  destination = file (codes "destination") rows;
 }
 
 -- the standard input is one stream, and cannot give a model and what a solver wrote
 abbrev pub stream_refusal : SolverFile → Usage
-stream_refusal files.Answer = usage.BothAreStandardInput
-stream_refusal files.Refutation = usage.RefutationIsModel
+stream_refusal written.Answer = usage.BothAreStandardInput
+stream_refusal written.Refutation = usage.RefutationIsModel
 
 -- the first reason to refuse the files of a model and of what a solver wrote
-abbrev pub reaching_refusal : Reaching → Option Usage
-reaching_refusal r =
-    if is_none r.model && is_none r.file then Some (stream_refusal r.wrote) else destination_refusal r.destination
-
--- an invariant of a model, and of which bad state, if not of any: the clauses in which it is to be shown, or, where a
--- refutation is given, that this refutes them
-pub record Proving : Type 0 where
-  pub bad : Option ℕ
-  pub max_var : ℕ
-  pub model : Option Text
-  pub file : Option Text
-  pub refuted : Bool
-  pub refutation : Option Text
-  pub destination : Option Text
+abbrev pub reaching_refusal : SolverFile → Files → Option Usage
+reaching_refusal wrote files =
+    if has_one_stream_for_two files then Some (stream_refusal wrote) else destination_refusal files.destination
 
 -- what the arguments of `aigunroll` name with `--invariant`
-abbrev pub proving : List Row → Proving
+abbrev pub proving : List Row → Invariant
 proving rows = record {
   bad = bad_number rows;
   max_var = limit rows;
-  model = file (codes "source") rows;
-  file = file (codes "invariant") rows;
   refuted = is_given (codes "refutation") rows;
-  refutation = file (codes "refutation") rows;
-  destination = file (codes "destination") rows;
 }
 
 -- the first reason to refuse the files of a model, of its invariant and of a refutation: the standard input is one
 -- stream, and gives one of them at most
-abbrev pub proving_refusal : Proving → Option Usage
-proving_refusal p =
-    if is_none p.model && is_none p.file then Some usage.InvariantIsModel
-    else if p.refuted && is_none p.refutation && is_none p.model then Some usage.RefutationIsModel
-    else if p.refuted && is_none p.refutation && is_none p.file then Some usage.RefutationIsInvariant
-    else destination_refusal p.destination
+abbrev pub proving_refusal : Files → Invariant → Option Usage
+proving_refusal files p =
+    if has_one_stream_for_two files then Some usage.InvariantIsModel
+    else if p.refuted && is_none files.refutation && is_none files.model then Some usage.RefutationIsModel
+    else if p.refuted && is_none files.refutation && is_none files.file then Some usage.RefutationIsInvariant
+    else destination_refusal files.destination
 
 -- the first reason to refuse options of `aigunroll` together: there are frames or an invariant, clauses are neither
 -- ASCII nor binary, an answer or a refutation is read in place of writing them, an invariant is shown by clauses alone,
@@ -250,47 +222,54 @@ options_refusal rows =
     else if is_given (codes "bad") rows && not (clauses || answer || refutation) then Some usage.BadNeedsClauses
     else None
 
--- what is asked for, or why that is refused
+-- what is asked for, of which files, or why that is refused
 pub data Asked : Type 0 where
-  converts : Conversion → Asked
-  simulates : Simulation → Asked
-  unrolls : Unrolling → Asked
-  reaches : Reaching → Asked
-  proves : Proving → Asked
+  asks : Files → Command → Asked
   refused : Usage → Asked
 
 -- The numbers are within their limits: that on indices and counts, and the frames.
 abbrev pub AsksWithinLimits : Asked → Type 0
-AsksWithinLimits (converts c) = c.max_var ≤ largest_index
-AsksWithinLimits (simulates s) = s.max_var ≤ largest_index
-AsksWithinLimits (unrolls u) = (1 ≤ u.frames) × (u.frames ≤ most_frames) × (u.max_var ≤ largest_index)
-AsksWithinLimits (reaches r) = (1 ≤ r.frames) × (r.frames ≤ most_frames) × (r.max_var ≤ largest_index)
-AsksWithinLimits (proves p) = p.max_var ≤ largest_index
-AsksWithinLimits (refused reason) = ⊤
+AsksWithinLimits (asks files (commands.ToAig request)) = request.max_var ≤ largest_index
+AsksWithinLimits (asks files (commands.Sim request)) = request.max_var ≤ largest_index
+AsksWithinLimits (asks files (commands.Unroll request)) =
+    (1 ≤ request.frames) × (request.frames ≤ most_frames) × (request.max_var ≤ largest_index)
+AsksWithinLimits (asks files (commands.Reach request)) =
+    (1 ≤ request.frames) × (request.frames ≤ most_frames) × (request.max_var ≤ largest_index)
+AsksWithinLimits (asks files (commands.Invariant request)) = request.max_var ≤ largest_index
+AsksWithinLimits asked = ⊤
 
 -- what the arguments of `aigtoaig` ask for
 abbrev pub to_aig : List Row → Asked
 to_aig rows =
-    option_map_or refused (refusal (conversion rows))
-    (option_map_or refused (sync_refusal rows) (converts (conversion rows)))
+    let files = files_with None None rows in
+    let request = conversion rows files.destination in
+    option_map_or refused (refusal files.destination request)
+    (option_map_or refused (sync_refusal rows) (asks files (commands.ToAig request)))
 
 -- what the arguments of `aigsim` ask for
 abbrev pub aigsim : List Row → Asked
-aigsim rows = option_map_or refused (simulation_refusal (simulation rows)) (simulates (simulation rows))
+aigsim rows =
+    let files = simulation_files rows in
+    option_map_or refused (simulation_refusal files (simulation rows)) (asks files (commands.Sim (simulation rows)))
 
 -- what the arguments of `aigunroll` ask for without another file than the model
 abbrev pub asked_unrolling : List Row → Asked
 asked_unrolling rows =
-    option_map_or refused (destination_refusal (unrolling rows).destination) (unrolls (unrolling rows))
+    let files = files_with None None rows in
+    option_map_or refused (destination_refusal files.destination)
+    (asks files (commands.Unroll (unrolling rows files.destination)))
 
 -- what they ask for with an answer or a refutation
 abbrev pub asked_reaching : SolverFile → List Row → Asked
 asked_reaching wrote rows =
-    option_map_or refused (reaching_refusal (reaching wrote rows)) (reaches (reaching wrote rows))
+    let files = files_with (file (option_of wrote) rows) None rows in
+    option_map_or refused (reaching_refusal wrote files) (asks files (commands.Reach (reaching wrote rows)))
 
 -- what they ask for with an invariant
 abbrev pub asked_proving : List Row → Asked
-asked_proving rows = option_map_or refused (proving_refusal (proving rows)) (proves (proving rows))
+asked_proving rows =
+    let files = files_with (file (codes "invariant") rows) (file (codes "refutation") rows) rows in
+    option_map_or refused (proving_refusal files (proving rows)) (asks files (commands.Invariant (proving rows)))
 
 -- what the arguments of `aigunroll` ask for
 abbrev pub aigunroll : List Row → Asked
@@ -298,8 +277,8 @@ aigunroll rows =
     option_map_or refused (options_refusal rows)
     (option_map_or refused (sync_refusal rows)
     (if is_given (codes "invariant") rows then asked_proving rows
-    else if is_given (codes "answer") rows then asked_reaching files.Answer rows
-    else if is_given (codes "refutation") rows then asked_reaching files.Refutation rows
+    else if is_given (codes "answer") rows then asked_reaching written.Answer rows
+    else if is_given (codes "refutation") rows then asked_reaching written.Refutation rows
     else asked_unrolling rows))
 
 -- each subcommand: its name, and what its arguments ask for

@@ -22,6 +22,6 @@ mod usage;
 pub use crate::builder::VERSION;
 pub use crate::reader::command;
 pub use crate::request::{
-    Command, CommandLine, Invariant, Reach, Sim, SolverFile, ToAig, Unroll, UnrolledForm,
+    Command, CommandLine, Invariant, Names, Reach, Sim, SolverFile, ToAig, Unroll, UnrolledForm,
 };
 pub use crate::usage::Usage;

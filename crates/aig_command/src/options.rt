@@ -1,10 +1,11 @@
 //! Options and names of files that several requests have.
 ghost use Rattle.std.specs.Prelude.{◌≡◌, IfOk, is_some};
 ghost use Rattle.clap.specs.Words.{found_of, rows_of};
-ghost use Rattle.aig_command.specs.Answer.{name_of};
-ghost use Rattle.aig_command.specs.Asked.{bad_number, file, frames, is_given};
-ghost use Rattle.aig_command.specs.Asked.{is_set, limit, number};
+ghost use Rattle.aig_command.specs.Answer.{files_of, name_of};
+ghost use Rattle.aig_command.specs.Asked.{bad_number, file, files_with, frames};
+ghost use Rattle.aig_command.specs.Asked.{has_one_stream_for_two, is_given, is_set, limit, number};
 
+use crate::request::Names;
 use clap::ArgMatches;
 use std::alloc::{AllocError, Global};
 
@@ -76,4 +77,31 @@ pub(crate) fn named_file(
         return Ok(None);
     }
     Ok(Some(String::from_str(alloc, name)?))
+}
+
+/// The names of a command with a source and a destination, and with these two beside the source.
+pub(crate) fn names_with(
+    alloc: Global,
+    matches: &ArgMatches<'_>,
+    file: Option<String>,
+    refutation: Option<String>,
+) -> Result<Names, AllocError>
+    ensures { IfOk result (λ names. files_of names
+        ≡ files_with (name_of file) (name_of refutation) (rows_of (found_of matches.now))) }
+{
+    let model = named_file(alloc, matches, "source")?;
+    let destination = named_file(alloc, matches, "destination")?;
+    Ok(Names {
+        model,
+        file,
+        refutation,
+        destination,
+    })
+}
+
+/// Whether both the model and the file after it are the standard input, which is one stream.
+pub(crate) fn has_one_stream_for_two(names: &Names) -> bool
+    ensures { result ≡ has_one_stream_for_two (files_of names.now) }
+{
+    names.model.is_none() && names.file.is_none()
 }

@@ -1,48 +1,38 @@
 //! What the arguments of `aigunroll` ask for with a solver's file, `--answer` or `--refutation`.
 ghost use Rattle.std.specs.Prelude.{◌≡◌, IfErr, IfOk, None, OnOk, Some};
 ghost use Rattle.clap.specs.Words.{found_of, rows_of};
-ghost use Rattle.aig_command.specs.Answer.{CanDo, IsAnswer, IsFileApart, IsReason, name_of};
-ghost use Rattle.aig_command.specs.Answer.{reaching_of};
-ghost use Rattle.aig_command.specs.Asked.{asked_reaching, AsksWithinLimits, file, option_of};
+ghost use Rattle.aig_command.specs.Answer.{CanDo, files_of, HasOneStandardInput, IsAnswer};
+ghost use Rattle.aig_command.specs.Answer.{IsReason};
+ghost use Rattle.aig_command.specs.Asked.{asked_reaching, AsksWithinLimits, option_of};
 ghost use Rattle.aig_command.specs.Asked.{reaching, reaching_refusal, stream_refusal};
 
 use crate::destination::check_destination;
-use crate::options::{bad_number, frame_count, limit, named_file};
-use crate::request::{Command, Reach, SolverFile};
+use crate::options::{
+    bad_number, frame_count, has_one_stream_for_two, limit, named_file, names_with,
+};
+use crate::request::{Command, Names, Reach, SolverFile};
 use crate::usage::Usage;
 use clap::ArgMatches;
-use std::alloc::{AllocError, Global};
+use std::alloc::Global;
 
-fn solver_file(
-    alloc: Global,
-    matches: &ArgMatches<'_>,
-    wrote: SolverFile,
-) -> Result<Option<String>, AllocError>
-    ensures { IfOk result (λ name. name_of name
-        ≡ file (option_of wrote) (rows_of (found_of matches.now))) }
+fn option_of(wrote: SolverFile) -> &'static str
+    ensures { result.now ≡ option_of wrote }
 {
     match wrote {
-        SolverFile::Answer => named_file(alloc, matches, "answer"),
-        SolverFile::Refutation => named_file(alloc, matches, "refutation"),
+        SolverFile::Answer => "answer",
+        SolverFile::Refutation => "refutation",
     }
 }
 
-fn reaching(alloc: Global, matches: &ArgMatches<'_>, wrote: SolverFile) -> Result<Reach, AllocError>
-    ensures { IfOk result (λ request. reaching_of request
-        ≡ reaching wrote (rows_of (found_of matches.now))) }
+fn reaching(matches: &ArgMatches<'_>, wrote: SolverFile) -> Reach
+    ensures { result ≡ reaching wrote (rows_of (found_of matches.now)) }
 {
-    let model = named_file(alloc, matches, "source")?;
-    let file = solver_file(alloc, matches, wrote)?;
-    let destination = named_file(alloc, matches, "destination")?;
-    Ok(Reach {
+    Reach {
         frames: frame_count(matches),
         bad: bad_number(matches),
         max_var: limit(matches),
-        model,
         wrote,
-        file,
-        destination,
-    })
+    }
 }
 
 fn stream_refusal(wrote: SolverFile) -> Usage
@@ -55,28 +45,29 @@ fn stream_refusal(wrote: SolverFile) -> Usage
     }
 }
 
-fn check_request(request: &Reach) -> Result<(), Usage>
-    ensures ok { OnOk result (reaching_refusal (reaching_of request.now) ≡ None) }
+fn check_files(names: &Names, wrote: SolverFile) -> Result<(), Usage>
+    ensures ok { OnOk result (reaching_refusal wrote (files_of names.now) ≡ None) }
     ensures err { IfErr result (λ reason. IsReason reason
-        × (reaching_refusal (reaching_of request.now) ≡ Some reason)) }
-    ensures apart { OnOk result (IsFileApart request.now) }
+        × (reaching_refusal wrote (files_of names.now) ≡ Some reason)) }
+    ensures one { OnOk result (HasOneStandardInput names.now) }
 {
-    if request.model.is_none() && request.file.is_none() {
-        return Err(stream_refusal(request.wrote));
+    if has_one_stream_for_two(names) {
+        return Err(stream_refusal(wrote));
     }
-    check_destination(&request.destination)
+    check_destination(&names.destination)
 }
 
 pub(crate) fn asked_reaching(
     alloc: Global,
     matches: &ArgMatches<'_>,
     wrote: SolverFile,
-) -> Result<Command, Usage>
+) -> Result<(Names, Command), Usage>
     requires within { AsksWithinLimits (asked_reaching wrote (rows_of (found_of matches.now))) }
     ensures answer { IsAnswer (asked_reaching wrote (rows_of (found_of matches.now))) result }
-    ensures can_do { IfOk result CanDo }
+    ensures can_do { IfOk result (λ answer. CanDo answer.0 answer.1) }
 {
-    let request = reaching(alloc, matches, wrote)?;
-    check_request(&request)?;
-    Ok(Command::Reach(request))
+    let file = named_file(alloc, matches, option_of(wrote))?;
+    let names = names_with(alloc, matches, file, None)?;
+    check_files(&names, wrote)?;
+    Ok((names, Command::Reach(reaching(matches, wrote))))
 }

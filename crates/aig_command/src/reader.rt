@@ -7,12 +7,12 @@ ghost use Rattle.clap.specs.Words.{FailsBy, HasMatchesOf, kind_of, subcommand_ro
 ghost use Rattle.clap.specs.declared.error.kind.ErrorKind.TheVariants.{OutOfMemory};
 ghost use Rattle.aig_command.specs.Aiger.{aiger};
 ghost use Rattle.aig_command.specs.Answer.{asks_for, CanDo, is_option, texts};
-ghost use Rattle.aig_command.specs.Answer.{IsAnswer, IsCommand, IsErrorAnswer, IsUsage};
+ghost use Rattle.aig_command.specs.Answer.{IsAnswer, IsCommand, IsErrorAnswer, IsUsage, no_names};
 ghost use Rattle.aig_command.specs.Asked.{asked_by, asks_sync, AsksWithinLimits, faults, is_set};
 
 use crate::builder::aiger;
 use crate::options::is_set;
-use crate::request::{Command, CommandLine};
+use crate::request::{Command, CommandLine, Names};
 use crate::sim::aigsim;
 use crate::to_aig::to_aig;
 use crate::unroll::aigunroll;
@@ -30,13 +30,13 @@ fn parse<'a>(alloc: Global, words: &'a [String]) -> Result<ArgMatches<'a>, Error
     aiger(alloc)?.try_get_matches_from(words)
 }
 
-fn read_matches(alloc: Global, matches: &ArgMatches<'_>) -> Result<Command, Usage>
+fn read_matches(alloc: Global, matches: &ArgMatches<'_>) -> Result<(Names, Command), Usage>
     requires known { is_some (option_and_then asked_by (subcommand_rows_of matches.now)) ≡ true }
     requires within { IfSome (option_and_then asked_by (subcommand_rows_of matches.now))
         AsksWithinLimits }
     ensures answer { IfSome (option_and_then asked_by (subcommand_rows_of matches.now)) (λ asked.
         IsAnswer asked result) }
-    ensures can_do { IfOk result CanDo }
+    ensures can_do { IfOk result (λ answer. CanDo answer.0 answer.1) }
 {
     let Some((name, words)) = matches.subcommand() else {
         unreachable!();
@@ -103,7 +103,7 @@ fn clap_text(alloc: Global, error: &Error) -> Result<String, AllocError>
 /// The answer to arguments that `clap` does not take.
 fn error_answer(alloc: Global, words: &[String], error: &Error) -> Result<Command, Usage>
     ensures answer { IsErrorAnswer (kind_of error.now) (texts words.now) result }
-    ensures can_do { IfOk result CanDo }
+    ensures can_do { IfOk result (CanDo no_names) }
 {
     match error.kind() {
         ErrorKind::OutOfMemory => Err(Usage::OutOfMemory),
@@ -122,18 +122,28 @@ fn error_answer(alloc: Global, words: &[String], error: &Error) -> Result<Comman
 /// where it has not the form of a command, and where what it asks for cannot be done. No file is
 /// looked at.
 pub fn command(alloc: Global, words: &[String]) -> Result<CommandLine, Usage>
-    ensures ok { IfOk result (λ line. IsCommand (texts words.now) line.command) }
-    ensures can_do { IfOk result (λ line. CanDo line.command) }
+    ensures ok { IfOk result (λ line. IsCommand (texts words.now) line.names line.command) }
+    ensures can_do { IfOk result (λ line. CanDo line.names line.command) }
     ensures sync { IfOk result (λ line. line.sync ≡ asks_sync (texts words.now)) }
     ensures err { IfErr result (IsUsage (texts words.now)) }
 {
     match parse(alloc, words) {
-        Ok(matches) => Ok(CommandLine {
-            command: read_matches(alloc, &matches)?,
-            sync: asks_sync(&matches),
-        }),
+        Ok(matches) => {
+            let (names, command) = read_matches(alloc, &matches)?;
+            Ok(CommandLine {
+                command,
+                names,
+                sync: asks_sync(&matches),
+            })
+        }
         Err(error) => Ok(CommandLine {
             command: error_answer(alloc, words, &error)?,
+            names: Names {
+                model: None,
+                file: None,
+                refutation: None,
+                destination: None,
+            },
             sync: false,
         }),
     }

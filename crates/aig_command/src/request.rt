@@ -1,7 +1,7 @@
 //! What a user asks for.
 
 /// A conversion between AIGER files.
-#[derive(Drop)]
+#[derive(Clone, Copy)]
 pub struct ToAig {
     /// Whether ASCII is written, whether an option or the destination's name decided it.
     pub ascii: bool,
@@ -16,14 +16,10 @@ pub struct ToAig {
     pub outputs_as_bad: bool,
     /// The limit on the largest variable index and the counts of the source.
     pub max_var: u32,
-    /// The source's name; `None` is the standard input.
-    pub source: Option<String>,
-    /// The destination's name; `None` is the standard output.
-    pub destination: Option<String>,
 }
 
 /// A simulation of a circuit, or the judging of a witness file against it.
-#[derive(Drop)]
+#[derive(Clone, Copy)]
 pub struct Sim {
     /// Whether the whole stimulus is read, and each line found good, before anything is written.
     pub batch: bool,
@@ -37,11 +33,6 @@ pub struct Sim {
     pub vcd: bool,
     /// The limit on the largest variable index and the counts of the model.
     pub max_var: u32,
-    /// The model's name; `None` is the standard input.
-    pub model: Option<String>,
-    /// The name of the stimulus, or of the witness file; `None` is the standard input. This or the
-    /// model is a file with a name.
-    pub stimulus: Option<String>,
 }
 
 /// What is written of an unrolled circuit.
@@ -59,7 +50,7 @@ pub enum UnrolledForm {
 }
 
 /// An unrolling of a circuit over time frames.
-#[derive(Drop)]
+#[derive(Clone, Copy)]
 pub struct Unroll {
     /// The number of frames, from 1 to 1000000.
     pub frames: u32,
@@ -67,10 +58,6 @@ pub struct Unroll {
     pub form: UnrolledForm,
     /// The limit on the largest variable index and the counts of the source.
     pub max_var: u32,
-    /// The source's name; `None` is the standard input.
-    pub source: Option<String>,
-    /// The destination's name; `None` is the standard output.
-    pub destination: Option<String>,
 }
 
 /// What a solver wrote on clauses.
@@ -84,7 +71,7 @@ pub enum SolverFile {
 
 /// What a solver wrote on the clauses of an unrolled circuit: the witness in its answer, or that
 /// its refutation is right.
-#[derive(Drop)]
+#[derive(Clone, Copy)]
 pub struct Reach {
     /// The number of frames, from 1 to 1000000.
     pub frames: u32,
@@ -92,35 +79,20 @@ pub struct Reach {
     pub bad: Option<u32>,
     /// The limit on the largest variable index and the counts of the model.
     pub max_var: u32,
-    /// The model's name; `None` is the standard input.
-    pub model: Option<String>,
     /// What is read beside the model.
     pub wrote: SolverFile,
-    /// Its name; `None` is the standard input. This or the model is a file with a name.
-    pub file: Option<String>,
-    /// The destination's name; `None` is the standard output.
-    pub destination: Option<String>,
 }
 
 /// An invariant of a model: the clauses in which it is to be shown, or that a solver's refutation
 /// of them is right.
-#[derive(Drop)]
+#[derive(Clone, Copy)]
 pub struct Invariant {
     /// The number of the bad state that is never to be reached, counted from 0; `None` is any.
     pub bad: Option<u32>,
     /// The limit on the largest variable index and the counts of the model.
     pub max_var: u32,
-    /// The model's name; `None` is the standard input.
-    pub model: Option<String>,
-    /// The invariant's name; `None` is the standard input. This or the model is a file with a name.
-    pub file: Option<String>,
     /// Whether a refutation is checked; else the clauses are written.
     pub refuted: bool,
-    /// The refutation's name; `None` is the standard input, or that none is checked. Where one is,
-    /// at least two of the three have names.
-    pub refutation: Option<String>,
-    /// The destination's name; `None` is the standard output.
-    pub destination: Option<String>,
 }
 
 /// What a command line asks for.
@@ -142,11 +114,29 @@ pub enum Command {
     Version(String),
 }
 
-/// What a command line asks for, and how its destination is left.
+/// The files that a command names; `None` is a standard stream, or a file that the command does not
+/// have.
+#[derive(Drop)]
+pub struct Names {
+    /// The model, or the source of a conversion.
+    pub model: Option<String>,
+    /// What is read after the model: a stimulus, a witness file, what a solver wrote, or an
+    /// invariant. Where one is read, this or the model is a file with a name.
+    pub file: Option<String>,
+    /// The refutation of the clauses in which an invariant is to be shown. Where one is checked, at
+    /// least two of the three that are read have names.
+    pub refutation: Option<String>,
+    /// Where the answer is written.
+    pub destination: Option<String>,
+}
+
+/// What a command line asks for, of which files, and how its destination is left.
 #[derive(Drop)]
 pub struct CommandLine {
     /// What is done.
     pub command: Command,
+    /// The files that it names: none for help and for the version.
+    pub names: Names,
     /// Whether the disk is to have the destination before the program ends. This stands only where
     /// the destination has a name.
     pub sync: bool,

@@ -1,18 +1,18 @@
 //! What the arguments of `aigunroll` ask for.
 ghost use Rattle.std.specs.Prelude.{◌≡◌, IfErr, IfOk, None, OnOk, Some};
 ghost use Rattle.clap.specs.Words.{found_of, rows_of};
-ghost use Rattle.aig_command.specs.Answer.{CanDo, IsAnswer, IsReason, name_of, unrolling_of};
+ghost use Rattle.aig_command.specs.Answer.{CanDo, IsAnswer, IsReason, name_of};
 ghost use Rattle.aig_command.specs.Asked.{aigunroll, asked_unrolling, AsksWithinLimits};
 ghost use Rattle.aig_command.specs.Asked.{options_refusal, unrolled_form, unrolling};
 
 use crate::destination::{check_destination, check_sync, wants_ascii};
-use crate::options::{bad_number, frame_count, is_given, is_set, limit, named_file};
+use crate::options::{bad_number, frame_count, is_given, is_set, limit, names_with};
 use crate::proving::asked_proving;
 use crate::reach::asked_reaching;
-use crate::request::{Command, SolverFile, Unroll, UnrolledForm};
+use crate::request::{Command, Names, SolverFile, Unroll, UnrolledForm};
 use crate::usage::Usage;
 use clap::ArgMatches;
-use std::alloc::{AllocError, Global};
+use std::alloc::Global;
 
 fn unrolled_form(matches: &ArgMatches<'_>, destination: &Option<String>) -> UnrolledForm
     ensures { result ≡ unrolled_form (rows_of (found_of matches.now)) (name_of destination.now) }
@@ -29,19 +29,14 @@ fn unrolled_form(matches: &ArgMatches<'_>, destination: &Option<String>) -> Unro
     }
 }
 
-fn unrolling(alloc: Global, matches: &ArgMatches<'_>) -> Result<Unroll, AllocError>
-    ensures { IfOk result (λ request. unrolling_of request
-        ≡ unrolling (rows_of (found_of matches.now))) }
+fn unrolling(matches: &ArgMatches<'_>, destination: &Option<String>) -> Unroll
+    ensures { result ≡ unrolling (rows_of (found_of matches.now)) (name_of destination.now) }
 {
-    let source = named_file(alloc, matches, "source")?;
-    let destination = named_file(alloc, matches, "destination")?;
-    Ok(Unroll {
+    Unroll {
         frames: frame_count(matches),
-        form: unrolled_form(matches, &destination),
+        form: unrolled_form(matches, destination),
         max_var: limit(matches),
-        source,
-        destination,
-    })
+    }
 }
 
 fn check_options(matches: &ArgMatches<'_>) -> Result<(), Usage>
@@ -79,20 +74,21 @@ fn check_options(matches: &ArgMatches<'_>) -> Result<(), Usage>
     Ok(())
 }
 
-fn asked_unrolling(alloc: Global, matches: &ArgMatches<'_>) -> Result<Command, Usage>
+fn asked_unrolling(alloc: Global, matches: &ArgMatches<'_>) -> Result<(Names, Command), Usage>
     requires within { AsksWithinLimits (asked_unrolling (rows_of (found_of matches.now))) }
     ensures answer { IsAnswer (asked_unrolling (rows_of (found_of matches.now))) result }
-    ensures can_do { IfOk result CanDo }
+    ensures can_do { IfOk result (λ answer. CanDo answer.0 answer.1) }
 {
-    let request = unrolling(alloc, matches)?;
-    check_destination(&request.destination)?;
-    Ok(Command::Unroll(request))
+    let names = names_with(alloc, matches, None, None)?;
+    let request = unrolling(matches, &names.destination);
+    check_destination(&names.destination)?;
+    Ok((names, Command::Unroll(request)))
 }
 
-pub(crate) fn aigunroll(alloc: Global, matches: &ArgMatches<'_>) -> Result<Command, Usage>
+pub(crate) fn aigunroll(alloc: Global, matches: &ArgMatches<'_>) -> Result<(Names, Command), Usage>
     requires within { AsksWithinLimits (aigunroll (rows_of (found_of matches.now))) }
     ensures answer { IsAnswer (aigunroll (rows_of (found_of matches.now))) result }
-    ensures can_do { IfOk result CanDo }
+    ensures can_do { IfOk result (λ answer. CanDo answer.0 answer.1) }
 {
     check_options(matches)?;
     check_sync(matches)?;

@@ -8,12 +8,14 @@ use Rattle.aig_answer.specs.declared.reader.Spot.TheVariants.{Wrong}
 use Rattle.aig_circuit.specs.declared.circuit.Circuit.{Circuit}
 use Rattle.aig_io.specs.Devices.{Past}
 use Rattle.aig_io.specs.Runs.{AtEnd, Broken, Ending, Open, Read}
+use Rattle.aig_io.proofs.Runs.{read_weaker}
 use Rattle.aig_search.specs.declared.fault.AnswerFault.{AnswerFault}
 use Rattle.aig_search.specs.declared.fault.AnswerFault.TheVariants as answer_faults
 use Rattle.aig_search.specs.Reached.{NotFoundBy, WitnessSays, read_over, said_in}
 use Rattle.aig_command.specs.declared.request.Reach.{Reach}
 use Rattle.aig_engines.specs.Reaching.{IsReachRefused}
-use Rattle.aig_engines.specs.Reading.{NotRead, fault_of_answer}
+use Rattle.aig_engines.specs.Reading.{AtAnyTime, NotRead}
+use Rattle.aig_engines.specs.Stops.{answer_stops}
 
 -- a reader that met a wrong byte stays where it is
 stays : (r : Reader) (byte : ℕ) → r.spot ≡ Wrong → (next r byte).reader ≡ r
@@ -34,7 +36,7 @@ said_still d frames bytes more wrong =
 
 not_answered : (request : Reach) (asked : Circuit) (reason : AnswerFault) (bytes : List ℕ) (ending : Ending)
     → NotFoundBy asked request.frames reason bytes ending
-    → NotRead (IsReachRefused request asked) (fault_of_answer reason) bytes ending
+    → NotRead (AtAnyTime (IsReachRefused request asked)) (answer_stops reason) bytes ending
 not_answered request asked answer_faults.OutOfMemory bytes ending why = rw why.1 tt
 not_answered request asked answer_faults.ReadFailed bytes ending why = why.0
 not_answered request asked (answer_faults.BadLine fault) bytes AtEnd why = (answer_faults.BadLine fault, refl, why)
@@ -52,10 +54,6 @@ not_answered request asked reason bytes Broken why = cc
 -- the answer was read, and it gives no witness
 pub answer_refused : (request : Reach) (asked : Circuit) (reason : AnswerFault) (before after : Past)
     → Read (WitnessSays asked request.bad request.frames (Err reason)) before after
-    → Read (NotRead (IsReachRefused request asked) (fault_of_answer reason)) before after
-answer_refused request asked reason before after read = record {
-  bytes = read.bytes;
-  ending = read.ending;
-  says = not_answered request asked reason read.bytes read.ending read.says;
-  came = read.came;
-}
+    → Read (NotRead (AtAnyTime (IsReachRefused request asked)) (answer_stops reason)) before after
+answer_refused request asked reason before after =
+    read_weaker _ _ before after (not_answered request asked reason)

@@ -1,10 +1,12 @@
+pub mod Stoppings
+pub mod Readings
+pub mod Converting
 pub mod Trips
 pub mod TripsExist
 pub mod Meant
 pub mod OutputsAsBad
 pub mod Traces
 pub mod Verdicts
-pub mod Lines
 pub mod Unrollings
 pub mod Reachings
 pub mod Refutings
@@ -18,5 +20,4 @@ pub mod WitnessesUnrolled
 pub mod Texts
 pub mod Dumps
 pub mod WitnessDumps
-pub mod SourceFaults
 pub mod Outcomes

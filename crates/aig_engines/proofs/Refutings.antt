@@ -1,10 +1,12 @@
 -- Where the clauses of an unrolled circuit are refuted, nothing is confirmed.
-use Rattle.std.proofs.Common.{◌≡◌, Result, Ok, Err, refl, subst}
+use Rattle.std.proofs.Common.{◌≡◌, ℕ, List, Result, Ok, Err, refl, subst}
 use Rattle.aig_circuit.specs.declared.circuit.Circuit.{Circuit}
 use Rattle.aig_circuit.specs.Wellformed.{IsWellFormed}
 use Rattle.aig_io.specs.Devices.{Past}
-use Rattle.aig_io.specs.Runs.{Read}
-use Rattle.aig_refute.specs.Refuted.{RefutationSays}
+use Rattle.aig_io.specs.Runs.{Ending, Read}
+use Rattle.aig_io.proofs.Runs.{read_weaker}
+use Rattle.aig_refute.specs.Refuted.{EndsFor, RefutationSays}
+use Rattle.aig_refute.specs.declared.fault.RefutationFault.TheVariants as refutation_faults
 use Rattle.aig_refute.specs.declared.fault.RefutationFault.{RefutationFault}
 use Rattle.aig_search.proofs.BadAlone.{refuted_means_none}
 use Rattle.aig_unroll.specs.Unrolled.{IsUnrolled}
@@ -14,30 +16,47 @@ use Rattle.aig_binary.proofs.Files.{one_circuit}
 use Rattle.aig_command.specs.declared.request.Reach.{Reach}
 use Rattle.aig_engines.specs.File.{IsFileOf}
 use Rattle.aig_engines.specs.Laws.{RefutationsMeanNone}
-use Rattle.aig_engines.specs.Reading.{ReadSays}
-use Rattle.aig_engines.specs.Refuting.{IsNoneText, NotRefuted, none_text}
+use Rattle.aig_engines.specs.Reading.{NotRead, ReadSays}
+use Rattle.aig_engines.specs.Refuting.{IsNoneText, IsRefutationRefused, IsUnsatisfiable, none_text}
+use Rattle.aig_engines.specs.Stops.{refutation_stops}
+use Rattle.aig_engines.proofs.Readings.{CameWhole, made_after}
 use Rattle.aig_engines.proofs.TripsExist.{well_formed_file}
 
+-- a refutation was read, and it is not right
+not_refuted : (reason : RefutationFault) (bytes : List ℕ) (ending : Ending) → EndsFor reason ending
+    → NotRead IsRefutationRefused (refutation_stops reason) bytes ending
+not_refuted refutation_faults.OutOfMemory bytes ending ends = ends
+not_refuted refutation_faults.ReadFailed bytes ending ends = ends
+not_refuted reason bytes ending ends = (reason, refl, ends)
+
+pub refutation_refused : (d : Circuit) (r : Result (Unit {0}) RefutationFault) (reason : RefutationFault)
+    (before after : Past) → r ≡ Err reason → Read (RefutationSays d r) before after
+    → Read (NotRead IsRefutationRefused (refutation_stops reason)) before after
+refutation_refused d r reason before after is read =
+    read_weaker _ _ before after (not_refuted reason) (subst (λ s. Read (RefutationSays d s) before after) is read)
+
 -- a refutation was read, and it is right
-pub refuted : (request : Reach) (asked d : Circuit) (r : Result (Unit {0}) RefutationFault) (before after : Past)
-    → r ≡ Ok tt → IsWellFormed d → IsUnrolled asked request.frames d → Read (RefutationSays d r) before after
-    → Read (ReadSays {A = Unit {0}} (λ done bytes. IsNoneText request asked (none_text request.frames))
-    (λ fault bytes. NotRefuted fault) (Ok tt)) before after
-refuted request asked d (Err fault) before after right formed is read = cc
-refuted request asked d (Ok done) before after right formed is read = record {
-  bytes = read.bytes;
-  ending = read.ending;
-  says = (
-    read.says.0,
-    record {
-      none = λ c good there same.
-          refuted_means_none c d request.bad request.frames good there formed
-          (subst (λ (k : Circuit). IsUnrolled k request.frames d) same is) read.says.1;
-      written_as = refl;
-    },
-  );
-  came = read.came;
+pub unsatisfiable : (asked d : Circuit) (frames : ℕ) (r : Result (Unit {0}) RefutationFault) (before after : Past)
+    → r ≡ Ok tt → IsWellFormed d → IsUnrolled asked frames d → Read (RefutationSays d r) before after
+    → Read (ReadSays {A = Unit {0}} (λ _ _. IsUnsatisfiable asked frames) IsRefutationRefused (Ok tt)) before after
+unsatisfiable asked d frames (Err fault) before after right formed is read = cc
+unsatisfiable asked d frames (Ok done) before after right formed is read =
+    read_weaker _ _ before after (λ _ _ says. (says.0, (d, formed, is, says.1))) read
+
+-- where no assignment lets a bad state be 1, no claim is confirmed
+is_none : (request : Reach) (asked : Circuit) → IsUnsatisfiable asked request.frames
+    → IsNoneText request asked (none_text request.frames)
+is_none request asked (d, formed, is, none) = record {
+  none = λ c good there same.
+      refuted_means_none c d request.bad request.frames good there formed
+      (subst (λ (k : Circuit). IsUnrolled k request.frames d) same is) none;
+  written_as = refl;
 }
+
+pub none_read : (request : Reach) (asked : Circuit) (before after : Past)
+    → Read (CameWhole (λ _. IsUnsatisfiable asked request.frames)) before after
+    → Read (CameWhole (λ _. IsNoneText request asked (none_text request.frames))) before after
+none_read request asked before after = made_after _ before after _ (λ _ none. is_none request asked none)
 
 pub refutations_mean_none : RefutationsMeanNone
 refutations_mean_none request judging asked model text witness step limit of_model is low confirmed of_asked =

@@ -6,10 +6,7 @@ use Rattle.aig_binary.specs.BinaryText.{binary_text}
 use Rattle.aig_cnf.specs.ClauseText.{cnf_text}
 use Rattle.aig_command.specs.declared.request.UnrolledForm.{UnrolledForm}
 use Rattle.aig_command.specs.declared.request.UnrolledForm.TheVariants as forms
-use Rattle.aig_engines.specs.Conversion.{ready_text}
 use Rattle.aig_engines.specs.Unrolling.{unrolled_text}
-use Rattle.aig_engines.specs.declared.conversion.Ready.{Ready}
-use Rattle.aig_engines.specs.declared.conversion.Ready.TheVariants.{Ascii, Binary, Mapped}
 
 pub unrolled_begins : (form : UnrolledForm) (c : Circuit) → 0 < length (unrolled_text form c)
 unfolding ascii_text binary_text cnf_text
@@ -21,8 +18,3 @@ pub what_is_unrolled_begins : {E : Type 0} (form : UnrolledForm) (r : Result Cir
     → IfOk r (λ d. 0 < length (unrolled_text form d))
 what_is_unrolled_begins form (Ok d) = unrolled_begins form d
 what_is_unrolled_begins form (Err fault) = tt
-
-pub ready_begins : (ready : Ready) → 0 < length (ready_text ready)
-ready_begins (Ascii c) = unrolled_begins forms.Ascii c
-ready_begins (Binary c) = unrolled_begins forms.Binary c
-ready_begins (Mapped c) = unrolled_begins forms.Binary c

@@ -1,5 +1,5 @@
 -- Which text a conversion writes (this project's profile): a circuit is read, changed as asked, and written.
-use Rattle.std.specs.Prelude.{◌≡◌, ◌≢◌, ◌⊎◌, ℕ, List, [], Bool, true, false, None, if◌then◌else◌}
+use Rattle.std.specs.Prelude.{◌≡◌, ◌≢◌, ℕ, List, [], Bool, true, false, None, if◌then◌else◌}
 use Rattle.aig_circuit.specs.declared.circuit.Circuit.{Circuit}
 use Rattle.aig_text.specs.AsciiText.{ascii_text}
 use Rattle.aig_binary.specs.BinaryText.{binary_text}
@@ -8,13 +8,15 @@ use Rattle.aig_map.specs.MapBlock.{IsMappedImage}
 use Rattle.aig_map.specs.Undone.{IsMapFault, IsUndoneFrom}
 use Rattle.aig_map.specs.declared.fault.MapFault.{MapFault}
 use Rattle.aig_command.specs.declared.request.ToAig.{ToAig}
-use Rattle.aig_engines.specs.declared.conversion.Ready.{Ready}
-use Rattle.aig_engines.specs.declared.conversion.Ready.TheVariants.{Ascii, Binary, Mapped}
-use Rattle.aig_engines.specs.declared.fault.ToolFault.{ToolFault}
-use Rattle.aig_engines.specs.declared.fault.ToolFault.TheVariants.{HasBad, Map}
+use Rattle.aig_engines.specs.Stopping.{fault_at}
+use Rattle.aig_fault.specs.declared.fault.Fault.{Fault}
+use Rattle.aig_fault.specs.declared.fault.Place.TheVariants.{Whole}
+use Rattle.aig_fault.specs.declared.kind.Kind.TheVariants.{HasBad}
+use Rattle.aig_engines.specs.declared.stopped.Stopped.TheVariants.{Refused}
 use Rattle.aig_engines.specs.File.{IsFileOf}
 use Rattle.aig_engines.specs.OutputsAsBad.{with_outputs_as_bad}
 use Rattle.aig_engines.specs.Reading.{IsUnreadable}
+use Rattle.aig_engines.specs.Stops.{map_stops}
 
 -- the circuit without its symbols and its comment
 abbrev pub stripped : Circuit → Circuit
@@ -61,18 +63,13 @@ pub record IsConversionText (request : ToAig) (bytes text : List ℕ) : Type 0 w
   pub written_as : IsTextAs request.ascii request.keep_map (changed request source) text
 
 -- The bytes have no conversion text for this reason: they are no file of a circuit; they are the file of one that was
--- to be undone, and this is why it has no undone one, unless memory was refused; or outputs were to become bad states
--- where there are some already.
-abbrev pub IsConversionRefused : ToAig → ToolFault → List ℕ → Type 0
-IsConversionRefused request fault bytes =
-    IsUnreadable request.max_var fault bytes
-    ⊎ ((found : Circuit) × IsFileOf bytes request.max_var found × (request.undo_map ≡ true)
-    × ((reason : MapFault) × (fault ≡ Map reason) × IsMapFault found reason))
-    ⊎ ((found : Circuit) × (source : Circuit) × IsFileOf bytes request.max_var found
-    × IsSource request.undo_map found source × (fault ≡ HasBad) × (request.outputs_as_bad ≡ true) × (source.bad ≢ []))
-
--- the text of what is ready to be written
-abbrev pub ready_text : Ready → List ℕ
-ready_text (Ascii circuit) = ascii_text circuit
-ready_text (Binary image) = binary_text image
-ready_text (Mapped image) = binary_text image
+-- to be undone, and this is why it has no undone one; or outputs were to become bad states where there are some
+-- already.
+pub data IsConversionRefused (request : ToAig) (fault : Fault) (bytes : List ℕ) : Type 0 where
+  is_unreadable : IsUnreadable request.max_var fault bytes → IsConversionRefused request fault bytes
+  has_no_source : (found : Circuit) (reason : MapFault) → IsFileOf bytes request.max_var found
+      → request.undo_map ≡ true → IsMapFault found reason → map_stops reason ≡ Refused fault
+      → IsConversionRefused request fault bytes
+  has_bad_states : (found source : Circuit) → IsFileOf bytes request.max_var found
+      → IsSource request.undo_map found source → fault ≡ fault_at HasBad Whole 0 → request.outputs_as_bad ≡ true
+      → source.bad ≢ [] → IsConversionRefused request fault bytes

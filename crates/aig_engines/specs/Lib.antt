@@ -1,4 +1,6 @@
 pub use Rattle.aig_binary.specs.File
+pub mod Stopping
+pub mod Stops
 pub mod OutputsAsBad
 pub mod Conversion
 pub mod Simulation
@@ -6,12 +8,11 @@ pub mod Unrolling
 pub mod Reaching
 pub mod Refuting
 pub mod Proving
-pub mod Blame
 pub mod Reading
 pub mod Outcome
 pub mod WitnessOutcome
 pub mod WitnessDump
-pub mod Messages
+pub mod Jobs
 pub mod Laws
 pub mod DumpLaws
 pub mod WitnessDumpLaws

@@ -15,8 +15,9 @@ use Rattle.aig_invariant.specs.Outcome.{HasCubes, NotInvariant}
 use Rattle.aig_io.specs.Runs.{AtEnd}
 use Rattle.aig_search.specs.Alone.{HasAsked, asked_of}
 use Rattle.aig_unroll.specs.Outcome.{HasClauses}
-use Rattle.aig_engines.specs.declared.fault.ToolFault.{ToolFault}
-use Rattle.aig_engines.specs.declared.fault.ToolFault.TheVariants as faults
+use Rattle.aig_fault.specs.declared.fault.Fault.{Fault}
+use Rattle.aig_engines.specs.declared.stopped.Stopped.TheVariants.{Refused}
+use Rattle.aig_engines.specs.Stops.{invariant_stops}
 use Rattle.aig_engines.specs.Reaching.{IsModelAsked, IsModelRefused}
 use Rattle.aig_engines.specs.Unrolling.{IsUnrolledFor, NotUnrolledAs}
 
@@ -26,10 +27,7 @@ over_one_frame request = record {
   frames = 1;
   bad = request.bad;
   max_var = request.max_var;
-  model = request.model;
   wrote = Refutation;
-  file = request.refutation;
-  destination = request.destination;
 }
 
 -- The model is the file of a circuit that has clauses over one frame, and this is the circuit, with the bad state alone
@@ -38,7 +36,7 @@ abbrev pub IsModelProved : Invariant → (model : List ℕ) → Circuit → Type
 IsModelProved request = IsModelAsked (over_one_frame request)
 
 -- The model has no such clauses, for this reason.
-abbrev pub IsModelUnproved : Invariant → ToolFault → List ℕ → Type 0
+abbrev pub IsModelUnproved : Invariant → Fault → List ℕ → Type 0
 IsModelUnproved request = IsModelRefused (over_one_frame request)
 
 -- The bytes are an invariant of the circuit that is asked for, and this is the circuit in which it is to be shown. It
@@ -53,9 +51,9 @@ pub record IsStrengthened (asked : Circuit) (invariant : List ℕ) (strengthened
 
 -- The bytes are no invariant of the circuit that is asked for, for this reason; or they are one, and the circuit in
 -- which it is to be shown has no clauses.
-abbrev pub NotStrengthened : Circuit → ToolFault → List ℕ → Type 0
+abbrev pub NotStrengthened : Circuit → Fault → List ℕ → Type 0
 NotStrengthened asked fault invariant =
-    ((reason : InvariantFault) × (fault ≡ faults.Invariant reason) × NotInvariant asked reason invariant AtEnd)
+    ((reason : InvariantFault) × (invariant_stops reason ≡ Refused fault) × NotInvariant asked reason invariant AtEnd)
     ⊎ ((cubes : List Cube) × HasCubes asked invariant cubes
     × NotUnrolledAs (Clauses None) 1 (with_invariant cubes asked) fault)
 

@@ -12,8 +12,9 @@ use Rattle.aig_search.specs.WitnessLines.{witness_text}
 use Rattle.aig_command.specs.declared.request.Reach.{Reach}
 use Rattle.aig_command.specs.declared.request.Unroll.{Unroll}
 use Rattle.aig_command.specs.declared.request.UnrolledForm.TheVariants.{Clauses}
-use Rattle.aig_engines.specs.declared.fault.ToolFault.{ToolFault}
-use Rattle.aig_engines.specs.declared.fault.ToolFault.TheVariants as faults
+use Rattle.aig_fault.specs.declared.fault.Fault.{Fault}
+use Rattle.aig_engines.specs.declared.stopped.Stopped.TheVariants.{Refused}
+use Rattle.aig_engines.specs.Stops.{answer_stops}
 use Rattle.aig_engines.specs.Unrolling.{IsUnrollingRefused, IsUnrollingText}
 
 -- the request for the clauses on which the answer is
@@ -22,8 +23,6 @@ clauses_asked request = record {
   frames = request.frames;
   form = Clauses request.bad;
   max_var = request.max_var;
-  source = request.model;
-  destination = None;
 }
 
 -- The model is the file of a circuit that has these clauses, and this is the circuit, with the bad state alone that is
@@ -34,7 +33,7 @@ pub record IsModelAsked (request : Reach) (model : List ℕ) (asked : Circuit) :
   pub asked_is : asked ≡ asked_of request.bad has_clauses.found
 
 -- The model has no such clauses, for this reason.
-abbrev pub IsModelRefused : Reach → ToolFault → List ℕ → Type 0
+abbrev pub IsModelRefused : Reach → Fault → List ℕ → Type 0
 IsModelRefused request = IsUnrollingRefused (clauses_asked request)
 
 -- The text that is written for these bytes of an answer on the clauses of this circuit: the witness of a claim by which
@@ -46,6 +45,6 @@ pub record IsReachText (request : Reach) (asked : Circuit) (answer text : List �
   pub written_as : text ≡ witness_text claim
 
 -- The answer gives no witness, for this reason.
-abbrev pub IsReachRefused : Reach → Circuit → ToolFault → List ℕ → Type 0
+abbrev pub IsReachRefused : Reach → Circuit → Fault → List ℕ → Type 0
 IsReachRefused request asked fault answer =
-    (reason : AnswerFault) × (fault ≡ faults.Answer reason) × NotFoundBy asked request.frames reason answer AtEnd
+    (reason : AnswerFault) × (answer_stops reason ≡ Refused fault) × NotFoundBy asked request.frames reason answer AtEnd

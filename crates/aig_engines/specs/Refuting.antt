@@ -1,18 +1,22 @@
 -- Which text is written for a solver's refutation (this project's profile): a model is read, the clauses of its
 -- unrolled circuit are refuted, and so no run of so many steps reaches a bad state.
-use Rattle.std.specs.Prelude.{◌≡◌, ◌++◌, ◌<◌, ◌≤◌, ℕ, List, Option, codes, decimal}
+use Rattle.std.specs.Prelude.{◌≡◌, ◌++◌, ◌<◌, ◌≤◌, ℕ, List, Bool, Option, codes, decimal}
 use Rattle.aig_circuit.specs.declared.circuit.Circuit.{Circuit}
 use Rattle.aig_circuit.specs.Wellformed.{IsWellFormed}
+use Rattle.aig_cnf.specs.Clauses.{Satisfies, bad_clauses}
 use Rattle.aig_command.specs.Aiger.{most_frames}
 use Rattle.aig_command.specs.declared.request.Reach.{Reach}
 use Rattle.aig_refute.specs.declared.fault.RefutationFault.{RefutationFault}
 use Rattle.aig_search.specs.Alone.{HasAsked, asked_of}
 use Rattle.aig_search.specs.Laws.{IsOfAsked}
-use Rattle.aig_unroll.specs.Unrolled.{IsTooLarge, IsUnsupported}
+use Rattle.aig_unroll.specs.Unrolled.{IsTooLarge, IsUnrolled, IsUnsupported}
 use Rattle.aig_witness.specs.declared.verdict.Verdict.TheVariants.{Confirmed}
 use Rattle.aig_witness.specs.Witness.{Claim, IsVerdict}
-use Rattle.aig_engines.specs.declared.fault.ToolFault.{ToolFault}
-use Rattle.aig_engines.specs.declared.fault.ToolFault.TheVariants as faults
+use Rattle.aig_fault.specs.declared.fault.Fault.{Fault}
+use Rattle.aig_engines.specs.declared.stopped.Stopped.TheVariants.{Refused}
+use Rattle.aig_io.specs.Runs.{Ending}
+use Rattle.aig_refute.specs.Refuted.{EndsFor}
+use Rattle.aig_engines.specs.Stops.{refutation_stops}
 
 -- the circuit can be unrolled over so many frames
 pub record CanUnroll (c : Circuit) (frames : ℕ) : Type 0 where
@@ -20,6 +24,11 @@ pub record CanUnroll (c : Circuit) (frames : ℕ) : Type 0 where
   pub not_many : frames ≤ most_frames
   pub supported : ¬ IsUnsupported c
   pub fits : ¬ IsTooLarge c frames
+
+-- no assignment lets a bad state of the circuit be 1, unrolled over so many frames
+abbrev pub IsUnsatisfiable : Circuit → ℕ → Type 0
+IsUnsatisfiable c frames = (d : Circuit) × IsWellFormed d × IsUnrolled c frames d
+    × ((a : ℕ → Bool) → ¬ Satisfies a (bad_clauses d))
 
 -- no claim of what is asked for, or of any bad state where nothing is, is confirmed at one of the first so many steps
 abbrev pub IsNoneWithin : Circuit → Option ℕ → ℕ → Type 0
@@ -38,5 +47,10 @@ pub record IsNoneText (request : Reach) (asked : Circuit) (text : List ℕ) : Ty
   pub written_as : text ≡ none_text request.frames
 
 -- It is not known that the clauses are refuted, for this reason.
-abbrev pub NotRefuted : ToolFault → Type 0
-NotRefuted fault = (reason : RefutationFault) × (fault ≡ faults.Refutation reason)
+abbrev pub NotRefuted : Fault → Type 0
+NotRefuted fault = (reason : RefutationFault) × (refutation_stops reason ≡ Refused fault)
+
+-- The refutation is refused for this reason, where its bytes ended so.
+abbrev pub IsRefutationRefused : Fault → List ℕ → Ending → Type 0
+IsRefutationRefused fault bytes ending =
+    (reason : RefutationFault) × (refutation_stops reason ≡ Refused fault) × EndsFor reason ending

@@ -9,10 +9,18 @@ use Rattle.aig_step.specs.Outcome.{first_bad_line}
 use Rattle.aig_step.specs.TraceText.{IsTraceText}
 use Rattle.aig_wave.specs.Wave.{wave_text}
 use Rattle.aig_engines.specs.File.{IsFileOf}
+use Rattle.aig_engines.specs.declared.task.Task.{Task}
+use Rattle.aig_engines.specs.declared.task.Task.TheVariants as tasks
 
 -- which columns the lines of the trace have
 abbrev pub columns_of : Sim → Columns
 columns_of request = if request.properties then Properties else Plain
+
+-- what a request asks for of a model and the steps after it
+abbrev pub task_of : Sim → Task
+task_of request =
+    if request.witness then (if request.vcd then tasks.RunDump else tasks.Verdict)
+    else (if request.vcd then tasks.Dump request.batch else tasks.Trace request.batch (columns_of request))
 
 -- The trace that is written for these bytes of a model and of a stimulus: the model is the file of a circuit, no line
 -- of the stimulus is bad, and this is the trace text of all of it.

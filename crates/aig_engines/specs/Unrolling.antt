@@ -5,17 +5,22 @@ use Rattle.aig_circuit.specs.declared.circuit.Circuit.{Circuit}
 use Rattle.aig_text.specs.AsciiText.{ascii_text}
 use Rattle.aig_binary.specs.BinaryText.{binary_text}
 use Rattle.aig_cnf.specs.ClauseText.{cnf_text}
+use Rattle.aig_engines.specs.Stopping.{fault_at}
+use Rattle.aig_fault.specs.declared.fault.Fault.{Fault}
+use Rattle.aig_fault.specs.declared.fault.Place.TheVariants.{Whole}
+use Rattle.aig_fault.specs.declared.kind.Kind.TheVariants.{NoSuchBadState}
+use Rattle.aig_engines.specs.declared.stopped.Stopped.TheVariants.{Refused}
 use Rattle.aig_unroll.specs.declared.fault.ClauseFault.{ClauseFault}
+use Rattle.aig_unroll.specs.declared.fault.UnrollFault.{UnrollFault}
 use Rattle.aig_unroll.specs.Outcome.{HasClauses, NotInClauses, NotUnrolled}
 use Rattle.aig_unroll.specs.Unrolled.{IsTooLarge, IsUnrolled, IsUnsupported}
 use Rattle.aig_search.specs.Alone.{HasAsked, asked_of}
 use Rattle.aig_command.specs.declared.request.Unroll.{Unroll}
 use Rattle.aig_command.specs.declared.request.UnrolledForm.{UnrolledForm}
 use Rattle.aig_command.specs.declared.request.UnrolledForm.TheVariants.{Ascii, Binary, Clauses}
-use Rattle.aig_engines.specs.declared.fault.ToolFault.{ToolFault}
-use Rattle.aig_engines.specs.declared.fault.ToolFault.TheVariants as faults
 use Rattle.aig_engines.specs.File.{IsFileOf}
 use Rattle.aig_engines.specs.Reading.{IsUnreadable}
+use Rattle.aig_engines.specs.Stops.{clause_stops, unroll_stops}
 
 -- how an unrolled circuit is written: its canonical text, in binary or in ASCII, or its clauses
 abbrev pub unrolled_text : UnrolledForm → Circuit → List ℕ
@@ -60,17 +65,18 @@ pub record IsUnrollingText (request : Unroll) (bytes text : List ℕ) : Type 0 w
 
 -- A circuit is not unrolled so: it has not the bad state that is asked for; it cannot be unrolled; or no clauses can
 -- be made of what is unrolled.
-abbrev pub NotUnrolledAs : UnrolledForm → ℕ → Circuit → ToolFault → Type 0
-NotUnrolledAs form frames c (faults.NoBad number) = (bad_of form ≡ Some number) × (length c.bad ≤ number)
-NotUnrolledAs form frames c (faults.Unroll reason) =
-    HasAsked (bad_of form) c × NotUnrolled (asked_of (bad_of form) c) frames reason
-NotUnrolledAs form frames c (faults.Clauses reason) =
-    (d : Circuit) × IsUnrolledFor (bad_of form) frames c d × NotWritable form d reason
-NotUnrolledAs form frames c fault = ⊥
+pub data NotUnrolledAs (form : UnrolledForm) (frames : ℕ) (c : Circuit) (fault : Fault) : Type 0 where
+  has_not_bad : (number : ℕ) → bad_of form ≡ Some number → length c.bad ≤ number
+      → fault ≡ fault_at NoSuchBadState Whole number → NotUnrolledAs form frames c fault
+  cannot_unroll : (reason : UnrollFault) → HasAsked (bad_of form) c
+      → NotUnrolled (asked_of (bad_of form) c) frames reason → unroll_stops reason ≡ Refused fault
+      → NotUnrolledAs form frames c fault
+  cannot_write : (reason : ClauseFault) (d : Circuit) → IsUnrolledFor (bad_of form) frames c d
+      → NotWritable form d reason → clause_stops reason ≡ Refused fault → NotUnrolledAs form frames c fault
 
 -- The bytes have no unrolling text for this reason: they are no file of a circuit; or they are the file of one, and
 -- this is why it is not unrolled.
-abbrev pub IsUnrollingRefused : Unroll → ToolFault → List ℕ → Type 0
+abbrev pub IsUnrollingRefused : Unroll → Fault → List ℕ → Type 0
 IsUnrollingRefused request fault bytes =
     IsUnreadable request.max_var fault bytes
     ⊎ ((found : Circuit) × IsFileOf bytes request.max_var found

@@ -5,8 +5,10 @@ use Rattle.aig_circuit.specs.declared.circuit.Circuit.{Circuit}
 use Rattle.aig_command.specs.declared.request.Sim.{Sim}
 use Rattle.aig_witness.specs.declared.verdict.Verdict.{Verdict}
 use Rattle.aig_claims.specs.RunDump.{HasNoDump, IsWitnessDump, JudgedWith}
-use Rattle.aig_engines.specs.declared.fault.ToolFault.{ToolFault}
-use Rattle.aig_engines.specs.declared.fault.ToolFault.TheVariants as faults
+use Rattle.aig_engines.specs.declared.stopped.Stopped.{Stopped}
+use Rattle.aig_engines.specs.declared.stopped.Stopped.TheVariants.{WriteFailed}
+use Rattle.aig_step.specs.declared.fault.SimFault.{SimFault}
+use Rattle.aig_engines.specs.Stops.{sim_stops}
 use Rattle.aig_engines.specs.WitnessOutcome.{IsWitnessAnswer}
 
 -- What is written where a dump is asked for, for these bytes of a model and of a witness file.
@@ -16,11 +18,10 @@ pub record IsWitnessDumpText (request : Sim) (model witness : List ℕ) (verdict
 
 -- The file was judged, and the dump for it was taken, or the sink failed on the way; or there is no dump, and nothing
 -- was sent.
-abbrev pub RunDumpSays : Circuit → Result Verdict ToolFault → List ℕ → Ending → List ℕ → Taking → Type 0
+abbrev pub RunDumpSays : Circuit → Result Verdict Stopped → List ℕ → Ending → List ℕ → Taking → Type 0
 RunDumpSays c (Ok verdict) bytes ending text taking =
     (ending ≡ AtEnd) × JudgedWith c verdict bytes text × (taking ≡ All)
-RunDumpSays c (Err faults.Sink) bytes ending text taking =
+RunDumpSays c (Err WriteFailed) bytes ending text taking =
     (ending ≡ AtEnd) × ((verdict : Verdict) × JudgedWith c verdict bytes text) × IsCut taking
-RunDumpSays c (Err (faults.Sim fault)) bytes ending text taking =
-    HasNoDump c fault bytes ending × (taking ≡ NotSent)
-RunDumpSays c (Err fault) bytes ending text taking = ⊥
+RunDumpSays c (Err stopped) bytes ending text taking =
+    ((fault : SimFault) × (sim_stops fault ≡ stopped) × HasNoDump c fault bytes ending) × (taking ≡ NotSent)

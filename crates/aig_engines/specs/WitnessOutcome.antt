@@ -8,9 +8,11 @@ use Rattle.aig_witness.specs.declared.verdict.Verdict.{Verdict}
 use Rattle.aig_witness.specs.declared.verdict.Verdict.TheVariants.{Confirmed, NotConfirmed}
 use Rattle.aig_witness.specs.Confirming.{ConfirmSays}
 use Rattle.aig_witness.specs.Witness.{Claim, IsVerdict, SaysClaim}
-use Rattle.aig_engines.specs.declared.fault.ToolFault.{ToolFault}
-use Rattle.aig_engines.specs.declared.fault.ToolFault.TheVariants as faults
+use Rattle.aig_engines.specs.declared.stopped.Stopped.{Stopped}
+use Rattle.aig_engines.specs.declared.stopped.Stopped.TheVariants.{WriteFailed}
+use Rattle.aig_step.specs.declared.fault.SimFault.{SimFault}
 use Rattle.aig_engines.specs.File.{IsFileOf}
+use Rattle.aig_engines.specs.Stops.{sim_stops}
 
 -- The verdict for these bytes of a model and of a witness file: the model is the file of a circuit, this is claimed of
 -- it, and this is the verdict on that.
@@ -28,11 +30,10 @@ answer_line NotConfirmed = codes "not confirmed\n"
 
 -- The file was judged, and the line of the verdict was taken, or the sink failed on the way; or there is no verdict,
 -- and nothing was sent.
-abbrev pub AnswerSays : Circuit → Result Verdict ToolFault → List ℕ → Ending → List ℕ → Taking → Type 0
+abbrev pub AnswerSays : Circuit → Result Verdict Stopped → List ℕ → Ending → List ℕ → Taking → Type 0
 AnswerSays c (Ok verdict) bytes ending text taking =
     ConfirmSays c (Ok verdict) bytes ending × (text ≡ answer_line verdict) × (taking ≡ All)
-AnswerSays c (Err faults.Sink) bytes ending text taking =
+AnswerSays c (Err WriteFailed) bytes ending text taking =
     (verdict : Verdict) × ConfirmSays c (Ok verdict) bytes ending × (text ≡ answer_line verdict) × IsCut taking
-AnswerSays c (Err (faults.Sim fault)) bytes ending text taking =
-    ConfirmSays c (Err fault) bytes ending × (taking ≡ NotSent)
-AnswerSays c (Err fault) bytes ending text taking = ⊥
+AnswerSays c (Err stopped) bytes ending text taking =
+    ((fault : SimFault) × (sim_stops fault ≡ stopped) × ConfirmSays c (Err fault) bytes ending) × (taking ≡ NotSent)

@@ -2,9 +2,9 @@
 ghost use Rattle.aig_io.specs.Devices.{CanFail};
 ghost use Rattle.aig_io.specs.Runs.{Read};
 ghost use Rattle.aig_engines.specs.File.{IsFileOf};
-ghost use Rattle.aig_engines.specs.Reading.{IsUnreadable, ReadSays};
+ghost use Rattle.aig_engines.specs.Reading.{AtItsEnd, IsUnreadable, ReadSays};
 
-use crate::fault::ToolFault;
+use crate::stopped::Stopped;
 use aig_binary::read_source;
 use aig_core::{Checked, Keep, Source};
 use aig_text::Limits;
@@ -17,10 +17,11 @@ pub fn read_circuit<R: Source>(
     source: &mut R,
     max_var: u32,
     keep: Keep,
-) -> Result<Checked, ToolFault>
+) -> Result<Checked, Stopped>
     requires { CanFail (R.past source.old) }
     ensures read { Read
-        (ReadSays (λ found bytes. IsFileOf bytes max_var found) (IsUnreadable max_var) result)
+        (ReadSays (λ found bytes. IsFileOf bytes max_var found) (AtItsEnd (IsUnreadable max_var))
+        result)
         (R.past source.old) (R.past source.new) }
 {
     Ok(read_source(alloc, source, Limits { max_var }, keep)?)

@@ -1,10 +1,13 @@
 //! Outputs as bad states: a property of a file from before AIGER 1.9 as one of that version.
-ghost use Rattle.std.specs.Prelude.{◌≡◌, ◌≢◌, ◌⊎◌, [], IfErr, IfOk, map};
+ghost use Rattle.std.specs.Prelude.{◌≡◌, ◌≢◌, [], IfErr, IfOk, map};
+ghost use Rattle.aig_fault.specs.declared.fault.Place.TheVariants.{Whole};
+ghost use Rattle.aig_fault.specs.declared.kind.Kind.TheVariants.{HasBad};
+ghost use Rattle.aig_engines.specs.Stopping.{fault_at, StopsFor};
 ghost use Rattle.aig_engines.specs.OutputsAsBad.{kind_as_bad, symbol_as_bad, with_outputs_as_bad};
-ghost use Rattle.aig_engines.specs.declared.fault.ToolFault.TheVariants as faults;
 
-use crate::fault::ToolFault;
+use crate::stopped::{Stopped, refused_whole};
 use aig_core::{BorrowedSymbol, Checked, Circuit, Kind, OutOfMemory, Symbols};
+use aig_fault::Kind as FaultKind;
 use std::alloc::Global;
 
 /// What becomes of the kind that a symbol names.
@@ -34,14 +37,14 @@ fn symbols_as_bad(alloc: Global, symbols: &Symbols) -> Result<Symbols, OutOfMemo
 }
 
 /// The symbols of the circuit whose outputs become bad states, if it has no bad state yet.
-pub(crate) fn symbols_if_free(alloc: Global, circuit: &Circuit) -> Result<Symbols, ToolFault>
+pub(crate) fn symbols_if_free(alloc: Global, circuit: &Circuit) -> Result<Symbols, Stopped>
     ensures ok { IfOk result (λ symbols. (circuit.now.bad ≡ [])
         × (symbols ≡ map symbol_as_bad circuit.now.symbols)) }
-    ensures err { IfErr result (λ e. (e ≡ faults.OutOfMemory)
-        ⊎ ((e ≡ faults.HasBad) × (circuit.now.bad ≢ []))) }
+    ensures err { IfErr result (StopsFor (λ fault. (fault ≡ fault_at HasBad Whole 0)
+        × (circuit.now.bad ≢ []))) }
 {
     if !circuit.bad.is_empty() {
-        return Err(ToolFault::HasBad);
+        return Err(refused_whole(FaultKind::HasBad));
     }
     Ok(symbols_as_bad(alloc, &circuit.symbols)?)
 }

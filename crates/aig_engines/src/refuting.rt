@@ -1,78 +1,66 @@
-//! `aigunroll --refutation`: a solver's proof that no bad state is reached.
-ghost use Rattle.std.specs.Prelude.{◌≡◌, IfErr, IfOk};
-ghost use Rattle.aig_command.specs.Answer.{name_of};
+//! A solver's proof that the clauses of a circuit cannot be satisfied.
+ghost use Rattle.std.specs.Prelude.{◌≡◌, ◌<◌, IfErr, IfOk, length};
+ghost use Rattle.aig_engines.specs.declared.stopped.Stopped.TheVariants.{OutOfMemory};
+ghost use Rattle.aig_io.specs.Devices.{CanFail};
+ghost use Rattle.aig_io.specs.Runs.{Read};
 ghost use Rattle.aig_unroll.specs.Unrolled.{IsUnrolled};
-ghost use Rattle.aig_engines.specs.Refuting.{CanUnroll, IsNoneText, NotRefuted, none_text};
-ghost use Rattle.aig_engines.specs.declared.fault.ToolFault.TheVariants as faults;
+ghost use Rattle.aig_engines.specs.Jobs.{text_of};
+ghost use Rattle.aig_engines.specs.Reading.{ReadSays};
+ghost use Rattle.aig_engines.specs.Refuting.{CanUnroll, IsNoneText, IsRefutationRefused};
+ghost use Rattle.aig_engines.specs.Refuting.{IsUnsatisfiable};
 
-use crate::engine::Engine;
-use crate::fault::ToolFault;
+use crate::answer::Answer;
+use crate::stopped::Stopped;
 use aig_command::Reach;
-use aig_core::{Checked, Ordered, Output, Sink, Source};
+use aig_core::{Checked, Ordered, Source};
 use aig_refute::check_refutation;
-use aig_text::{Message, WriteFault};
 use aig_unroll::unroll;
 use std::alloc::Global;
 
 /// The unrolled circuit, whose clauses a refutation is of.
-pub(crate) fn unrolled_of(alloc: Global, asked: &Checked, frames: u32) -> Result<Ordered, ToolFault>
+fn unrolled_of(alloc: Global, asked: &Checked, frames: u32) -> Result<Ordered, Stopped>
     requires { CanUnroll asked.now frames }
     ensures ok { IfOk result (λ d. IsUnrolled asked.now frames d) }
-    ensures err { IfErr result (λ fault. fault ≡ faults.OutOfMemory) }
+    ensures err { IfErr result (λ stopped. stopped ≡ OutOfMemory) }
 {
     match unroll(alloc, asked, frames) {
         Ok(unrolled) => Ok(unrolled),
-        Err(_) => Err(ToolFault::OutOfMemory),
+        Err(_) => Err(Stopped::OutOfMemory),
     }
 }
 
-/// A solver's refutation that is to be checked, of the clauses of this circuit: of its model, with
-/// the bad state alone that is asked for.
-#[derive(Drop)]
-pub struct RefutationFor {
-    /// What is asked for.
-    pub request: Reach,
-    /// The circuit, as `read_asked` gives it.
-    pub asked: Checked,
+/// Reads a solver's refutation of the clauses of this circuit over so many frames, and checks it.
+pub(crate) fn read_refutation<R: Source>(
+    alloc: Global,
+    asked: &Checked,
+    frames: u32,
+    source: &mut R,
+) -> Result<(), Stopped>
+    requires source { CanFail (R.past source.old) }
+    requires can_unroll { CanUnroll asked.now frames }
+    ensures { Read (ReadSays (λ _ _. IsUnsatisfiable asked.now frames) IsRefutationRefused result)
+        (R.past source.old) (R.past source.new) }
+{
+    let unrolled = unrolled_of(alloc, asked, frames)?;
+    let checked = check_refutation(alloc, unrolled.as_checked().circuit(), source);
+    drop(unrolled); // for the proof
+    Ok(checked?)
 }
 
-impl Engine for RefutationFor {
-    type Work = ();
-
-    ghost can_do = { λ refutation. CanUnroll refutation.asked refutation.request.frames };
-
-    ghost source_name = { λ refutation. name_of refutation.request.file };
-
-    ghost destination_name = { λ refutation. name_of refutation.request.destination };
-
-    ghost is_text = { λ refutation _. IsNoneText refutation.request refutation.asked };
-
-    ghost is_refused = { λ _ fault _. NotRefuted fault };
-
-    ghost text = { λ refutation _. none_text refutation.request.frames };
-
-    fn source(&self) -> &Option<String> {
-        &self.request.file
-    }
-
-    fn destination(&self) -> &Option<String> {
-        &self.request.destination
-    }
-
-    fn read<R: Source>(&self, alloc: Global, source: &mut R) -> Result<(), ToolFault> {
-        let unrolled = unrolled_of(alloc, &self.asked, self.request.frames)?;
-        let checked = check_refutation(alloc, unrolled.as_checked().circuit(), source);
-        drop(unrolled); // for the proof
-        checked?;
-        Ok(())
-    }
-
-    fn write<W: Sink>(&self, _refuted: (), sink: &mut W) -> Result<(), WriteFault> {
-        let frames = u64::from(self.request.frames);
-        let mut output = Output::new(sink);
-        Message::around("none within ", frames, "\n").put(&mut output);
-        let (sent, _sink) = output.finish();
-        sent?;
-        Ok(())
-    }
+/// Reads a solver's refutation of the clauses of this circuit, by which no run of so many steps
+/// reaches a bad state.
+pub(crate) fn read_none_within<R: Source>(
+    alloc: Global,
+    request: &Reach,
+    asked: &Checked,
+    source: &mut R,
+) -> Result<Answer, Stopped>
+    requires source { CanFail (R.past source.old) }
+    requires can_unroll { CanUnroll asked.now request.now.frames }
+    ensures read { Read (ReadSays (λ answer _. IsNoneText request.now asked.now (text_of answer))
+        IsRefutationRefused result) (R.past source.old) (R.past source.new) }
+    ensures some { IfOk result (λ answer. 0 < length (text_of answer)) }
+{
+    read_refutation(alloc, asked, request.frames, source)?;
+    Ok(Answer::NoneWithin(request.frames))
 }

@@ -1,22 +1,23 @@
 //! `aigunroll`: copies of a circuit in time, as one circuit or as clauses.
-ghost use Rattle.std.specs.Prelude.{◌≡◌, ◌⊎◌, ◌≤◌, IfErr, IfOk, OnOk};
+ghost use Rattle.std.specs.Prelude.{◌≡◌, ◌<◌, ◌≤◌, IfErr, IfOk, length, OnOk};
+ghost use Rattle.aig_engines.specs.Stopping.{StopsFor};
 ghost use Rattle.aig_io.specs.Devices.{CanFail};
-ghost use Rattle.aig_io.specs.Runs.{Ran};
-ghost use Rattle.aig_command.specs.Answer.{HasFrames, name_of};
+ghost use Rattle.aig_io.specs.Runs.{Ran, Read};
+ghost use Rattle.aig_command.specs.Answer.{HasFrames};
 ghost use Rattle.aig_search.specs.Alone.{HasAsked, NotAsked, asked_of};
-ghost use Rattle.aig_engines.specs.declared.fault.ToolFault.TheVariants as faults;
+ghost use Rattle.aig_engines.specs.Jobs.{text_of};
 ghost use Rattle.aig_engines.specs.Outcome.{Says};
+ghost use Rattle.aig_engines.specs.Reading.{AtItsEnd, ReadSays};
 ghost use Rattle.aig_engines.specs.Unrolling.{bad_of, IsUnrolledFor, IsUnrollingRefused};
 ghost use Rattle.aig_engines.specs.Unrolling.{IsUnrollingText, IsWritable, NotUnrolledAs};
-ghost use Rattle.aig_engines.specs.Unrolling.{NotWritable, unrolled_text};
+ghost use Rattle.aig_engines.specs.Unrolling.{NotWritable};
 
-use crate::engine::{Engine, run};
-use crate::fault::ToolFault;
+use crate::answer::Answer;
 use crate::file::read_circuit;
+use crate::stopped::Stopped;
 use aig_command::{Unroll, UnrolledForm};
 use aig_core::{Checked, Keep, Sink, Source};
 use aig_search::{AskedFault, with_asked_bad};
-use aig_text::WriteFault;
 use aig_unroll::{ClauseFault, Unrolling};
 use std::alloc::Global;
 
@@ -49,11 +50,10 @@ pub(crate) fn unroll_as(
     form: UnrolledForm,
     frames: u32,
     found: Checked,
-) -> Result<Unrolling, ToolFault>
+) -> Result<Unrolling, Stopped>
     requires { (1 ≤ frames) × (frames ≤ 1000000) }
     ensures ok { IfOk result (λ d. IsUnrolledFor (bad_of form) frames found d × IsWritable form d) }
-    ensures err { IfErr result (λ fault.
-        (fault ≡ faults.OutOfMemory) ⊎ NotUnrolledAs form frames found fault) }
+    ensures err { IfErr result (StopsFor (NotUnrolledAs form frames found)) }
 {
     let asked = asked_of(alloc, form, found)?;
     let circuit = Unrolling::new(alloc, asked, frames)?;
@@ -61,9 +61,30 @@ pub(crate) fn unroll_as(
         Ok(()) => Ok(circuit),
         Err(fault) => {
             drop(circuit); // for the proof
-            Err(ToolFault::Clauses(fault))
+            Err(Stopped::from(fault))
         }
     }
+}
+
+/// Reads a source to its end, and unrolls its circuit as the request asks. It fails if the source or
+/// an allocation fails, if the bytes are no file of a circuit, if that has not the bad state that
+/// is asked for or cannot be unrolled, or if no clauses can be made of it.
+pub(crate) fn read_unrolling<R: Source>(
+    alloc: Global,
+    request: &Unroll,
+    source: &mut R,
+) -> Result<Answer, Stopped>
+    requires source { CanFail (R.past source.old) }
+    requires frames { HasFrames request.now }
+    ensures read { Read (ReadSays (λ answer bytes.
+        IsUnrollingText request.now bytes (text_of answer))
+        (AtItsEnd (IsUnrollingRefused request.now)) result)
+        (R.past source.old) (R.past source.new) }
+    ensures some { IfOk result (λ answer. 0 < length (text_of answer)) }
+{
+    let found = read_circuit(alloc, source, request.max_var, Keep::Order)?;
+    let circuit = unroll_as(alloc, request.form, request.frames, found)?;
+    Ok(Answer::Unrolled(request.form, circuit))
 }
 
 /// Reads the source to its end, and writes the circuit unrolled as the request asks. Nothing is
@@ -76,49 +97,12 @@ pub fn run_unroll<R: Source, W: Sink>(
     request: &Unroll,
     source: &mut R,
     sink: &mut W,
-) -> Result<(), ToolFault>
+) -> Result<(), Stopped>
     requires source { CanFail (R.past source.old) }
     requires sink { CanFail (W.past sink.old) }
     requires frames { HasFrames request.now }
     ensures ran { Ran (Says (IsUnrollingText request.now) (IsUnrollingRefused request.now) result)
         (R.past source.old) (R.past source.new) (W.past sink.old) (W.past sink.new) }
 {
-    run(alloc, request, source, sink)
-}
-
-impl Engine for Unroll {
-    type Work = Unrolling;
-
-    ghost can_do = { HasFrames };
-
-    ghost source_name = { λ request. name_of request.source };
-
-    ghost destination_name = { λ request. name_of request.destination };
-
-    ghost is_text = { λ request. IsUnrollingText request };
-
-    ghost is_refused = { λ request. IsUnrollingRefused request };
-
-    ghost text = { λ request circuit. unrolled_text request.form circuit };
-
-    fn source(&self) -> &Option<String> {
-        &self.source
-    }
-
-    fn destination(&self) -> &Option<String> {
-        &self.destination
-    }
-
-    fn read<R: Source>(&self, alloc: Global, source: &mut R) -> Result<Unrolling, ToolFault> {
-        let found = read_circuit(alloc, source, self.max_var, Keep::Order)?;
-        unroll_as(alloc, self.form, self.frames, found)
-    }
-
-    fn write<W: Sink>(&self, circuit: Unrolling, sink: &mut W) -> Result<(), WriteFault> {
-        match self.form {
-            UnrolledForm::Binary => circuit.write_binary(sink),
-            UnrolledForm::Ascii => circuit.write_ascii(sink),
-            UnrolledForm::Clauses { bad: _ } => circuit.write_cnf(sink),
-        }
-    }
+    read_unrolling(alloc, request, source)?.write(sink)
 }

@@ -2,16 +2,17 @@
 ghost use Rattle.std.specs.Prelude.{◌≡◌, OnErr, OnOk, true};
 ghost use Rattle.aig_io.specs.Devices.{CanFail, took, TookBeginning};
 ghost use Rattle.aig_io.specs.Runs.{Ran};
-ghost use Rattle.aig_rows.specs.Messages.{message_text};
+ghost use Rattle.aig_fault.specs.Words.{message_text};
 ghost use Rattle.aig_command.specs.Answer.{IsWitnessAlone};
 ghost use Rattle.aig_engines.specs.Outcome.{RanFor};
 ghost use Rattle.aig_engines.specs.WitnessOutcome.{answer_line, AnswerSays};
 
-use crate::fault::ToolFault;
+use crate::answer::send_message;
 use crate::file::read_circuit;
+use crate::stopped::Stopped;
 use aig_command::Sim;
-use aig_core::{Checked, Keep, Output, Sink, Source};
-use aig_text::{Message, WriteFault};
+use aig_core::{Checked, DeviceFault, Keep, Sink, Source};
+use aig_fault::Message;
 use aig_witness::{Verdict, confirm};
 use std::alloc::Global;
 
@@ -27,16 +28,13 @@ fn answer_line(verdict: Verdict) -> Message
 
 /// Sends the line of a verdict. It fails only where the sink fails, which then took a beginning of
 /// the line.
-fn send_answer<W: Sink>(verdict: Verdict, sink: &mut W) -> Result<(), WriteFault>
+fn send_answer<W: Sink>(verdict: Verdict, sink: &mut W) -> Result<(), DeviceFault>
     requires { CanFail (W.past sink.old) }
     ensures ok { OnOk result (W.past sink.new ≡ took (answer_line verdict) (W.past sink.old)) }
     ensures err { OnErr result (TookBeginning (answer_line verdict)
         (W.past sink.old) (W.past sink.new)) }
 {
-    let mut output = Output::new(sink);
-    answer_line(verdict).put(&mut output);
-    let (sent, _sink) = output.finish();
-    Ok(sent?)
+    send_message(&answer_line(verdict), sink)
 }
 
 /// Judges a witness file for a circuit, and writes the verdict in a line. Nothing is sent before
@@ -47,7 +45,7 @@ pub fn judge<R: Source, W: Sink>(
     found: Checked,
     witness: &mut R,
     output: &mut W,
-) -> Result<Verdict, ToolFault>
+) -> Result<Verdict, Stopped>
     requires witness { CanFail (R.past witness.old) }
     requires output { CanFail (W.past output.old) }
     ensures ran { Ran (AnswerSays found result)
@@ -71,7 +69,7 @@ pub fn run_witness<M: Source, R: Source, W: Sink>(
     model: &mut M,
     witness: &mut R,
     output: &mut W,
-) -> Result<Verdict, ToolFault>
+) -> Result<Verdict, Stopped>
     requires model { CanFail (M.past model.old) }
     requires witness { CanFail (R.past witness.old) }
     requires output { CanFail (W.past output.old) }

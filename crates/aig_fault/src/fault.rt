@@ -1,10 +1,5 @@
 //! What is wrong with an input, and where.
-ghost use Rattle.std.specs.Prelude.{◌≡◌};
-ghost use Rattle.aig_fault.specs.Stops.{refusal};
-ghost use Rattle.aig_fault.specs.declared.fault.Place.TheVariants.{Line, Whole};
-
 use crate::kind::Kind;
-use crate::stopped::Stopped;
 use thiserror::Error;
 
 /// Where an input is wrong.
@@ -34,29 +29,4 @@ pub struct Fault {
     pub place: Place,
     /// The variable, the literal or the bad state that the words name; 0 for none.
     pub subject: u32,
-}
-
-/// An input is refused with this fault.
-pub fn refused(kind: Kind, place: Place, subject: u32) -> Stopped
-    ensures { result ≡ refusal kind place subject }
-{
-    Stopped::Refused(Fault {
-        kind,
-        place,
-        subject,
-    })
-}
-
-/// An input is refused with a fault that has no one place and names nothing.
-pub fn refused_whole(kind: Kind) -> Stopped
-    ensures { result ≡ refusal kind Whole 0 }
-{
-    refused(kind, Place::Whole, 0)
-}
-
-/// An input is refused with a fault in this line.
-pub fn refused_at(kind: Kind, line: u64) -> Stopped
-    ensures { result ≡ refusal kind (Line line) 0 }
-{
-    refused(kind, Place::Line(line), 0)
 }

@@ -37,6 +37,13 @@ impl Message {
         }
     }
 
+    /// What stands before the number, the number, and what stands after it.
+    pub fn parts(&self) -> (&'static str, Option<u64>, &'static str)
+        ensures { result.0.now ++ (number_text result.1 ++ result.2.now) ≡ message_text self.now }
+    {
+        (self.before, self.number, self.after)
+    }
+
     /// Puts the text.
     pub fn put<W: Sink>(&self, output: &mut Output<W>)
         ensures { Put output.old output.new (message_text self.now) }

@@ -6,6 +6,9 @@ use Rattle.aig_io.specs.Devices.{Origin, Past, unused}
 use Rattle.aig_io.specs.Lent.{HasGiven, lent}
 use Rattle.aig_io.specs.Runs.{AtEnd, Broken, Ending, Open, Ran, Read, came}
 use Rattle.aig_circuit.specs.declared.circuit.Circuit.{Circuit}
+use Rattle.aig_command.specs.declared.request.Reach.{Reach}
+use Rattle.aig_command.specs.declared.request.SolverFile.{SolverFile}
+use Rattle.aig_command.specs.declared.request.SolverFile.TheVariants as wrote
 use Rattle.aig_step.specs.declared.fault.SimFault.{SimFault}
 use Rattle.aig_step.specs.declared.fault.SimFault.TheVariants as sim_faults
 use Rattle.aig_step.specs.declared.trace.Columns.{Columns}
@@ -14,48 +17,104 @@ use Rattle.aig_step.specs.TraceText.{IsTraceText}
 use Rattle.aig_batch.specs.Batched.{BatchSays}
 use Rattle.aig_dump.specs.InMemory.{IsBadStimulus, WantsMemory}
 use Rattle.aig_dump.proofs.Lents as lents
-use Rattle.aig_engines.specs.declared.fault.ToolFault.{ToolFault}
-use Rattle.aig_engines.specs.declared.fault.ToolFault.TheVariants as faults
-use Rattle.aig_engines.specs.Reading.{IsRefusedAt, ReadSays}
-use Rattle.aig_library.specs.Answers.{Answers}
-use Rattle.aig_library.specs.Outcome.{IsPlaced, fault_outcome, out_of_memory, sim_outcome}
-use Rattle.aig_library.specs.declared.outcome.Outcome.{Outcome}
+use Rattle.aig_refute.specs.Refuted.{EndsFor}
+use Rattle.aig_refute.specs.declared.fault.RefutationFault.{RefutationFault}
+use Rattle.aig_refute.specs.declared.fault.RefutationFault.TheVariants as refutation_faults
+use Rattle.aig_engines.specs.Jobs.{IsSolvedRefused, Refuses}
+use Rattle.aig_engines.specs.Reaching.{IsReachRefused}
+use Rattle.aig_engines.specs.Reading.{AtAnyTime, AtItsEnd, ReadSays}
+use Rattle.aig_engines.specs.Refuting.{IsRefutationRefused}
+use Rattle.aig_engines.specs.Stops.{refutation_stops}
+use Rattle.aig_engines.specs.declared.job.Reading.{Reading}
+use Rattle.aig_engines.specs.declared.job.Reading.TheVariants as readings
+use Rattle.aig_fault.specs.declared.fault.Fault.{Fault}
+use Rattle.aig_engines.specs.declared.stopped.Stopped.{Stopped}
+use Rattle.aig_engines.specs.declared.stopped.Stopped.TheVariants as stops
+use Rattle.aig_library.specs.Outcome.{StopsInMemory}
+
+-- what a refutation is refused for, it is refused for at its end
+at_end : (reason : RefutationFault) (fault : Fault) → refutation_stops reason ≡ stops.Refused fault
+    → EndsFor reason AtEnd
+at_end refutation_faults.NoRefutation fault same = refl
+at_end refutation_faults.OutOfMemory fault same = tt
+at_end (refutation_faults.BadLine line) fault same = tt
+at_end (refutation_faults.DoesNotFollow line) fault same = tt
+at_end refutation_faults.ReadFailed fault same = cc
 
 module _ (input : List ℕ) (now : Past) (given : HasGiven now) where
   -- what was made was made of all of the input
-  pub whole : {A : Type 0} (Holds : A → List ℕ → Type 0) (IsRefused : ToolFault → List ℕ → Type 0)
-      (r : Result A ToolFault) → Read (ReadSays Holds IsRefused r) (unused (lent input)) now
+  pub whole : {A : Type 0} (Holds : A → List ℕ → Type 0) (IsRefused : Fault → List ℕ → Ending → Type 0)
+      (r : Result A Stopped) → Read (ReadSays Holds IsRefused r) (unused (lent input)) now
       → IfOk r (λ made. Holds made input)
   whole Holds IsRefused (Ok made) read =
       subst (Holds made) (lents.all_read input now given read.bytes (rw read.says.0 at read.came)) read.says.1
-  whole Holds IsRefused (Err fault) read = tt
+  whole Holds IsRefused (Err stopped) read = tt
 
-  -- what refuses a beginning, whatever comes behind, refuses all of it
-  refused : (IsRefused : List ℕ → Type 0) (bytes : List ℕ) (ending : Ending)
-      → now ≡ came bytes ending (unused (lent input)) → IsRefusedAt IsRefused bytes ending → IsRefused input
-  refused IsRefused bytes AtEnd is says = subst IsRefused (lents.all_read input now given bytes is) says
-  refused IsRefused bytes Open is says =
+  -- what stopped it refuses the input, or is want of memory
+  pub stopped : {A : Type 0} (Holds : A → List ℕ → Type 0) (IsRefused : Fault → List ℕ → Ending → Type 0)
+      (IsFault : Fault → Type 0) (r : Result A Stopped)
+      → ((fault : Fault) (bytes : List ℕ) (ending : Ending) → now ≡ came bytes ending (unused (lent input))
+      → IsRefused fault bytes ending → IsFault fault)
+      → Read (ReadSays Holds IsRefused r) (unused (lent input)) now → IfErr r (StopsInMemory IsFault)
+  stopped Holds IsRefused IsFault (Ok made) refuses read = tt
+  stopped Holds IsRefused IsFault (Err stops.OutOfMemory) refuses read = tt
+  stopped Holds IsRefused IsFault (Err stops.ReadFailed) refuses read = tt
+  stopped Holds IsRefused IsFault (Err stops.WriteFailed) refuses read = tt
+  stopped Holds IsRefused IsFault (Err (stops.Refused fault)) refuses read =
+      refuses fault read.bytes read.ending read.came read.says
+
+  pub at_its_end : (IsRefused : Fault → List ℕ → Type 0) (fault : Fault) (bytes : List ℕ) (ending : Ending)
+      → now ≡ came bytes ending (unused (lent input)) → AtItsEnd IsRefused fault bytes ending
+      → IsRefused fault input
+  at_its_end IsRefused fault bytes ending is says =
+      subst (IsRefused fault) (lents.all_read input now given bytes (rw says.0 at is)) says.1
+
+  -- what is refused of a beginning, whatever comes after, is refused of all
+  at_any_time : (IsRefused : Fault → List ℕ → Type 0) (fault : Fault) (bytes : List ℕ) (ending : Ending)
+      → now ≡ came bytes ending (unused (lent input)) → AtAnyTime IsRefused fault bytes ending
+      → IsRefused fault input
+  at_any_time IsRefused fault bytes AtEnd is says =
+      subst (IsRefused fault) (lents.all_read input now given bytes is) says
+  at_any_time IsRefused fault bytes Open is says =
       let front = lents.part_read input now given bytes is in
-      subst IsRefused
+      subst (IsRefused fault)
       (ap (λ (bs : List ℕ). bs ++ drop (length bytes) input) front ∙ take-append-drop (length bytes) input)
       (says (drop (length bytes) input))
-  refused IsRefused bytes Broken is says = absurd says
+  at_any_time IsRefused fault bytes Broken is says = absurd says
 
-  -- nothing was made of it: it is refused, or memory was
-  pub not_read : {A : Type 0} (Holds : A → List ℕ → Type 0) (IsRefused : ToolFault → List ℕ → Type 0)
-      (r : Result A ToolFault) → Read (ReadSays Holds IsRefused r) (unused (lent input)) now
-      → IfErr r (λ fault. IsRefused fault input ⊎ (fault_outcome fault ≡ out_of_memory))
-  not_read Holds IsRefused (Ok made) read = tt
-  not_read Holds IsRefused (Err faults.Source) read = inr refl
-  not_read Holds IsRefused (Err faults.Sink) read = absurd read.says
-  not_read Holds IsRefused (Err faults.OutOfMemory) read = inr refl
-  not_read Holds IsRefused (Err (faults.Answer fault)) read =
-      inl (refused (IsRefused (faults.Answer fault)) read.bytes read.ending read.came read.says)
-  not_read Holds IsRefused (Err (faults.Refutation fault)) read =
-      inl (refused (IsRefused (faults.Refutation fault)) read.bytes read.ending read.came read.says.1)
-  not_read Holds IsRefused (Err fault) read =
-      let bytes = lents.all_read input now given read.bytes (rw read.says.0 at read.came) in
-      inl (subst (IsRefused fault) bytes read.says.1)
+  refutation : (fault : Fault) (bytes : List ℕ) (ending : Ending) → IsRefutationRefused fault bytes ending
+      → IsRefutationRefused fault input AtEnd
+  refutation fault bytes ending (reason, same, ends) = (reason, same, at_end reason fault same)
+
+  solved : (by : SolverFile) (request : Reach) (asked : Circuit) (fault : Fault) (bytes : List ℕ) (ending : Ending)
+      → now ≡ came bytes ending (unused (lent input)) → IsSolvedRefused by request asked fault bytes ending
+      → IsSolvedRefused by request asked fault input AtEnd
+  solved wrote.Answer request asked fault bytes ending is says =
+      at_any_time (IsReachRefused request asked) fault bytes ending is says
+  solved wrote.Refutation request asked fault bytes ending is says = refutation fault bytes ending says
+
+  all_refused : (reading : Reading) (fault : Fault) (bytes : List ℕ) (ending : Ending)
+      → now ≡ came bytes ending (unused (lent input)) → ending ≡ AtEnd → Refuses reading fault bytes ending
+      → Refuses reading fault input AtEnd
+  all_refused reading fault bytes ending is ends says =
+      subst (λ bs. Refuses reading fault bs AtEnd) (lents.all_read input now given bytes (rw ends at is))
+      (subst (λ e. Refuses reading fault bytes e) ends says)
+
+  -- so it is with each reading
+  pub refused : (reading : Reading) (fault : Fault) (bytes : List ℕ) (ending : Ending)
+      → now ≡ came bytes ending (unused (lent input)) → Refuses reading fault bytes ending
+      → Refuses reading fault input AtEnd
+  refused (readings.Solved request asked) fault bytes ending is says =
+      solved request.wrote request asked fault bytes ending is says
+  refused (readings.Never request strengthened) fault bytes ending is says = refutation fault bytes ending says
+  refused (readings.ToAig request) fault bytes ending is says = all_refused (readings.ToAig request) fault bytes ending is says.0 says
+  refused (readings.Unroll request) fault bytes ending is says = all_refused (readings.Unroll request) fault bytes ending is says.0 says
+  refused (readings.Reach request) fault bytes ending is says = all_refused (readings.Reach request) fault bytes ending is says.0 says
+  refused (readings.Invariant request) fault bytes ending is says = all_refused (readings.Invariant request) fault bytes ending is says.0 says
+  refused (readings.Clauses asked) fault bytes ending is says = all_refused (readings.Clauses asked) fault bytes ending is says.0 says
+  refused (readings.Strengthen request asked) fault bytes ending is says =
+      all_refused (readings.Strengthen request asked) fault bytes ending is says.0 says
+  refused (readings.Sim request) fault bytes ending is says = all_refused (readings.Sim request) fault bytes ending is says.0 says
 
   pub batched : (c : Circuit) (columns : Columns) (r : Result (Unit {0}) SimFault) (origin : Origin) (sink_now : Past)
       → Ran (BatchSays c columns r) (unused (lent input)) now (unused origin) sink_now
@@ -71,32 +130,12 @@ module _ (input : List ℕ) (now : Past) (given : HasGiven now) where
 
   pub not_batched : (c : Circuit) (columns : Columns) (r : Result (Unit {0}) SimFault) (sink sink_now : Past)
       → Ran (BatchSays c columns r) (unused (lent input)) now sink sink_now
-      → IfErr r (λ fault. IsBadStimulus c input fault ⊎ (sim_outcome fault ≡ out_of_memory))
+      → IfErr r (λ fault. IsBadStimulus c input fault ⊎ WantsMemory fault)
   not_batched c columns (Ok done) sink sink_now ran = tt
   not_batched c columns (Err (sim_faults.BadStimulus line)) sink sink_now ran =
       let says = ran.says.says.0 in
       inl (line, refl, lents.bad_line input now given c ran.bytes ran.ending line says.0 ran.came says.1)
   not_batched c columns (Err (sim_faults.BadWitness line)) sink sink_now ran = absurd ran.says.says.0
-  not_batched c columns (Err sim_faults.OutOfMemory) sink sink_now ran = inr refl
-  not_batched c columns (Err sim_faults.ReadFailed) sink sink_now ran = inr refl
-  not_batched c columns (Err sim_faults.WriteFailed) sink sink_now ran = inr refl
-
--- a fault that blames no line tells that memory was refused
-pub told : (fault : SimFault) → WantsMemory fault → sim_outcome fault ≡ out_of_memory
-told fault (inl is) = ap sim_outcome is
-told fault (inr (inl is)) = ap sim_outcome is
-told fault (inr (inr is)) = ap sim_outcome is
-
--- what is answered once it is known whether there is a text
-pub answered : {V : Type 0} (items : V → List ℕ) (CanDo : Type 0) (IsText : List ℕ → Type 0)
-    (IsFault : ToolFault → Type 0) (made : Result V ToolFault) (before after : List ℕ) (outcome : Outcome) → CanDo
-    → IfOk made (λ v. IsText (items v)) → IfErr made (λ fault. IsFault fault ⊎ (fault_outcome fault ≡ out_of_memory))
-    → IfOk made (λ v. IsPlaced (items v) before after outcome)
-    → IfErr made (λ fault. (after ≡ before) × (outcome ≡ fault_outcome fault))
-    → Answers CanDo IsText IsFault before after outcome
-answered items CanDo IsText IsFault (Ok v) before after outcome can is_text fault placed kept =
-    inr (can, inl (record { text = items v; is_text = is_text; placed = placed }))
-answered items CanDo IsText IsFault (Err e) before after outcome can is_text (inl is_fault) placed kept =
-    inr (can, inr (kept.0, inl (record { fault = e; is_fault = is_fault; told = kept.1 })))
-answered items CanDo IsText IsFault (Err e) before after outcome can is_text (inr memory) placed kept =
-    inr (can, inr (kept.0, inr (kept.1 ∙ memory)))
+  not_batched c columns (Err sim_faults.OutOfMemory) sink sink_now ran = inr (inl refl)
+  not_batched c columns (Err sim_faults.ReadFailed) sink sink_now ran = inr (inr (inl refl))
+  not_batched c columns (Err sim_faults.WriteFailed) sink sink_now ran = inr (inr (inr refl))

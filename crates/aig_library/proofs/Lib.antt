@@ -1,8 +1,8 @@
+pub mod Answered
 pub mod ArrayTrips
+pub mod Comings
 pub mod Dumps
 pub mod Lents
 pub mod Messages
 pub mod OrderedArrays
 pub mod Placings
-pub mod Provings
-pub mod Witnesses

@@ -1,98 +1,80 @@
--- The numbers of a fault tell its words.
-use Rattle.std.proofs.Common.{◌≡◌, ◌++◌, ℕ, List, ap, append-nil, append_assoc, codes, decimal, refl}
-use Rattle.aig_rows.specs.Messages.{kind_text, place_text}
-use Rattle.aig_rows.specs.declared.fault.Place.{Place}
-use Rattle.aig_rows.specs.declared.fault.Place.TheVariants as places
-use Rattle.aig_rows.specs.declared.fault.ReadKind.{ReadKind}
-use Rattle.aig_rows.specs.declared.fault.ReadKind.TheVariants as kinds
-use Rattle.aig_map.specs.declared.fault.MapFault.TheVariants as map_faults
-use Rattle.aig_step.specs.declared.fault.SimFault.TheVariants as sim_faults
-use Rattle.aig_invariant.specs.declared.fault.InvariantFault.TheVariants as invariant_faults
-use Rattle.aig_refute.specs.declared.fault.RefutationFault.TheVariants as refutation_faults
-use Rattle.aig_search.specs.declared.fault.AnswerFault.TheVariants as answer_faults
-use Rattle.aig_unroll.specs.declared.fault.ClauseFault.TheVariants as clause_faults
-use Rattle.aig_unroll.specs.declared.fault.UnrollFault.TheVariants as unroll_faults
-use Rattle.aig_engines.specs.Blame.{blamed}
-use Rattle.aig_engines.specs.declared.fault.ToolFault.TheVariants as faults
-use Rattle.aig_library.specs.Message.{MessagesTellFaults, outcome_text, place_words, words_for}
-use Rattle.aig_library.specs.Outcome.{outcome_at, place_number, place_kind}
+-- The numbers of a fault tell its words, which are short.
+use Rattle.std.proofs.Common.{◌≡◌, ◌==◌, ◌+◌, ◌++◌, ◌<◌, ◌≤◌, ◌^◌, ℕ, List, [], Bool, Some, ap₂, arith, codes, decimal, false}
+use Rattle.std.proofs.Common.{if◌then◌else◌, length, length-append, lit≤, refl, true}
+use Rattle.std.proofs.lemmas.Fmt.{length-decimal-le}
+use Rattle.aig_fault.specs.Words.{around, kind_number, kind_of_number, kind_text, place_text}
+use Rattle.aig_fault.specs.declared.fault.Place.{Place}
+use Rattle.aig_fault.specs.declared.fault.Place.TheVariants as places
+use Rattle.aig_fault.specs.declared.kind.Kind.{Kind}
+use Rattle.aig_fault.specs.declared.kind.Kind.TheVariants as kinds
+use Rattle.aig_library.specs.Message.{MessagesTellFaults, place_of, words_of}
+use Rattle.aig_library.specs.Numbers as numbers
+use Rattle.aig_library.specs.Outcome.{place_numbers}
 
--- the words of a place stand in front of those of what is wrong there
-at_place : (place : Place) (text : List ℕ)
-    → place_words (place_kind place) (place_number place) ++ text ≡ place_text place ++ text
-at_place places.Whole text = refl
-at_place (places.Line number) text = refl
-at_place (places.Gate number) text = refl
+same_kind : (kind : Kind) → kind_of_number (kind_number kind) ≡ Some kind
+same_kind kinds.NotAiger = refl
+same_kind kind = refl
 
-read_told : (place : Place) (kind : ReadKind)
-    → outcome_text (outcome_at place kind) ≡ words_for (blamed kind) (place_text place ++ kind_text kind)
-read_told place kinds.NotAiger = at_place place _
-read_told place kinds.BadHeader = at_place place _
-read_told place kinds.TooLarge = at_place place _
-read_told place kinds.BadLine = at_place place _
-read_told place kinds.NotVariable = at_place place _
-read_told place kinds.LiteralRange = at_place place _
-read_told place kinds.BadReset = at_place place _
-read_told place kinds.Truncated = at_place place _
-read_told place kinds.BadDelta = at_place place _
-read_told place kinds.BadSymbol = at_place place _
-read_told place kinds.SymbolRange = at_place place _
-read_told place kinds.SymbolTwice = at_place place _
-read_told place (kinds.Redefined variable) = at_place place _
-read_told place (kinds.Undefined literal) = at_place place _
-read_told place (kinds.Cyclic literal) = at_place place _
-read_told place kinds.OutOfMemory = refl
-
--- the number of a line stands between words
-in_line : (number : ℕ) (before words : List ℕ)
-    → (before ++ (decimal number ++ codes ": ")) ++ words ≡ before ++ (decimal number ++ (codes ": " ++ words))
-in_line number before words = simp append_assoc
+same_place : (place : Place) → place_of (place_numbers place).0 (place_numbers place).1 ≡ place
+same_place places.Whole = refl
+same_place (places.Line number) = refl
+same_place (places.Gate number) = refl
+same_place (places.MapLine number) = refl
+same_place (places.Word number) = refl
+same_place (places.Value number) = refl
 
 pub messages_tell_faults : MessagesTellFaults
-messages_tell_faults (faults.Read fault) = read_told fault.place fault.kind
-messages_tell_faults (faults.Map map_faults.NotOrdered) = refl
-messages_tell_faults (faults.Map map_faults.Missing) = refl
-messages_tell_faults (faults.Map (map_faults.Malformed line)) = in_line line (codes "map line ") (codes "bad line")
-messages_tell_faults (faults.Map map_faults.Mismatch) = refl
-messages_tell_faults (faults.Map map_faults.Forged) = refl
-messages_tell_faults (faults.Map map_faults.OutOfMemory) = refl
-messages_tell_faults faults.HasBad = refl
-messages_tell_faults (faults.Sim (sim_faults.BadStimulus line)) =
-    in_line line (codes "line ") (codes "bad stimulus line")
-messages_tell_faults (faults.Sim (sim_faults.BadWitness line)) =
-    in_line line (codes "line ") (codes "bad witness line")
-messages_tell_faults (faults.Sim sim_faults.OutOfMemory) = refl
-messages_tell_faults (faults.Sim sim_faults.ReadFailed) = refl
-messages_tell_faults (faults.Sim sim_faults.WriteFailed) = refl
-messages_tell_faults (faults.Unroll unroll_faults.Unsupported) = refl
-messages_tell_faults (faults.Unroll unroll_faults.TooLarge) = refl
-messages_tell_faults (faults.Unroll unroll_faults.OutOfMemory) = refl
-messages_tell_faults (faults.NoBad number) = ap (λ text. codes "no bad state " ++ text) (append-nil (decimal number))
-messages_tell_faults (faults.Clauses clause_faults.NoBadStates) = refl
-messages_tell_faults (faults.Clauses clause_faults.TooLarge) = refl
-messages_tell_faults (faults.Answer (answer_faults.BadLine fault)) =
-    in_line fault.line (codes "line ") (codes "bad answer line")
-messages_tell_faults (faults.Answer answer_faults.Unsatisfiable) = refl
-messages_tell_faults (faults.Answer answer_faults.Unknown) = refl
-messages_tell_faults (faults.Answer answer_faults.NotReached) = refl
-messages_tell_faults (faults.Answer answer_faults.OutOfMemory) = refl
-messages_tell_faults (faults.Answer answer_faults.ReadFailed) = refl
-messages_tell_faults (faults.Refutation refutation_faults.NoRefutation) = refl
-messages_tell_faults (faults.Refutation (refutation_faults.BadLine line)) =
-    in_line line (codes "line ") (codes "bad line")
-messages_tell_faults (faults.Refutation (refutation_faults.DoesNotFollow line)) =
-    in_line line (codes "line ") (codes "does not follow")
-messages_tell_faults (faults.Refutation refutation_faults.OutOfMemory) = refl
-messages_tell_faults (faults.Refutation refutation_faults.ReadFailed) = refl
-messages_tell_faults (faults.Invariant (invariant_faults.BadLine line)) =
-    in_line line (codes "line ") (codes "bad line")
-messages_tell_faults (faults.Invariant (invariant_faults.OtherLength line)) =
-    in_line line (codes "line ") (codes "not a character for each latch")
-messages_tell_faults (faults.Invariant (invariant_faults.MetAtStart line)) =
-    in_line line (codes "line ") (codes "met by a first state")
-messages_tell_faults (faults.Invariant invariant_faults.TooLarge) = refl
-messages_tell_faults (faults.Invariant invariant_faults.OutOfMemory) = refl
-messages_tell_faults (faults.Invariant invariant_faults.ReadFailed) = refl
-messages_tell_faults faults.Source = refl
-messages_tell_faults faults.Sink = refl
-messages_tell_faults faults.OutOfMemory = refl
+messages_tell_faults = (
+  λ fault. ap₂ (λ place kind. place_text place ++ words_of kind fault.subject) (same_place fault.place)
+      (same_kind fault.kind),
+  refl,
+)
+
+-- a number between two texts
+around_short : (before after : List ℕ) (number most : ℕ) → number < 2 ^ 64 → length before + 20 + length after ≤ most
+    → length (around before after number) ≤ most
+around_short before after number most fits short =
+    omega (
+      arith,
+      length-append before (decimal number ++ after),
+      length-append (decimal number) after,
+      length-decimal-le 20 number (omega arith) (omega arith) fits,
+    )
+
+pub kind_short : (kind : Kind) (subject : ℕ) → subject < 2 ^ 64 → length (kind_text kind subject) ≤ 49
+kind_short kinds.Redefined subject fits =
+    around_short (codes "variable ") (codes " defined twice") subject 49 fits (lit≤ tt)
+kind_short kinds.Undefined subject fits =
+    around_short (codes "literal ") (codes " not defined") subject 49 fits (lit≤ tt)
+kind_short kinds.Cyclic subject fits =
+    around_short (codes "gate ") (codes " depends on a cycle") subject 49 fits (lit≤ tt)
+kind_short kinds.NoSuchBadState subject fits = around_short (codes "no bad state ") [] subject 49 fits (lit≤ tt)
+kind_short kinds.NotAiger subject fits = lit≤ tt
+kind_short kind subject fits = lit≤ tt
+
+IsShort : Place → Type 0
+IsShort place = length (place_text place) ≤ 31
+
+either_short : (test : Bool) (this other : Place) → IsShort this → IsShort other
+    → IsShort (if test then this else other)
+unfolding IsShort
+either_short true this other short too = short
+either_short false this other short too = too
+
+pub place_short : (place number : ℕ) → number < 2 ^ 64 → length (place_text (place_of place number)) ≤ 31
+unfolding IsShort
+place_short place number fits =
+    let value = if place == numbers.value then places.Value number else places.Whole in
+    let word = if place == numbers.word then places.Word number else value in
+    let map_line = if place == numbers.map_line then places.MapLine number else word in
+    let gate = if place == numbers.gate then places.Gate number else map_line in
+    either_short (place == numbers.line) (places.Line number) gate
+    (around_short (codes "line ") (codes ": ") number 31 fits (lit≤ tt))
+    (either_short (place == numbers.gate) (places.Gate number) map_line
+    (around_short (codes "gate ") (codes ": ") number 31 fits (lit≤ tt))
+    (either_short (place == numbers.map_line) (places.MapLine number) word
+    (around_short (codes "map line ") (codes ": ") number 31 fits (lit≤ tt))
+    (either_short (place == numbers.word) (places.Word number) value
+    (around_short (codes "word ") (codes ": ") number 31 fits (lit≤ tt))
+    (either_short (place == numbers.value) (places.Value number) places.Whole
+    (around_short (codes "value ") (codes ": ") number 31 fits (lit≤ tt)) (lit≤ tt)))))

@@ -2,8 +2,6 @@
 -- interface for C).
 use Rattle.std.specs.Prelude.{◌≡◌, ◌≤◌, ◌⊎◌, ◌++◌, ℕ, List, [], Bool, true, false, Result, Ok, Err, drop, length}
 use Rattle.aig_circuit.specs.declared.circuit.Circuit.{Circuit}
-use Rattle.aig_rows.specs.declared.fault.Place.TheVariants.{Whole}
-use Rattle.aig_rows.specs.declared.fault.ReadKind.TheVariants.{TooLarge}
 use Rattle.aig_arrays.specs.Ordered.{IsNumberedImage}
 use Rattle.aig_arrays.specs.Told.{told}
 use Rattle.aig_arrays.specs.Words.{HasWords, circuit_bytes, circuit_words, counts_of}
@@ -14,12 +12,14 @@ use Rattle.aig_array_steps.specs.declared.one_step.StepFault.{StepFault}
 use Rattle.aig_engines.specs.Conversion.{IsTextAs}
 use Rattle.aig_engines.specs.File.{IsFileOf}
 use Rattle.aig_engines.specs.Reading.{IsUnreadable}
-use Rattle.aig_engines.specs.declared.fault.ToolFault.{ToolFault}
-use Rattle.aig_engines.specs.declared.fault.ToolFault.TheVariants.{Read}
-use Rattle.aig_library.specs.Answers.{Made, NotMade}
+use Rattle.aig_engines.specs.Stopping.{fault_at}
+use Rattle.aig_fault.specs.declared.fault.Fault.{Fault}
+use Rattle.aig_fault.specs.declared.fault.Place.TheVariants.{Whole}
+use Rattle.aig_fault.specs.declared.kind.Kind.TheVariants.{TooLarge}
+use Rattle.aig_library.specs.Answers.{Answers, Made}
 use Rattle.aig_library.specs.Asked.{CanRead, CanWrite, has}
 use Rattle.aig_library.specs.Numbers as library
-use Rattle.aig_library.specs.Outcome.{array_outcome, ending, out_of_memory, step_outcome}
+use Rattle.aig_library.specs.Outcome.{array_stops, ending, out_of_memory, outcome_of, step_outcome}
 use Rattle.aig_library.specs.declared.outcome.Outcome.{Outcome}
 
 -- what a caller has of a circuit: words, bytes, and counts
@@ -76,18 +76,17 @@ pub record Shown (IsMade : Arrays → Type 0) (before after : Arrays) (outcome :
 
 -- The input has no arrays for this reason: it is no file of a circuit, or the file of one with more symbols or bytes of
 -- names than can be counted.
-abbrev pub IsReadRefused : (max_var : ℕ) (input : List ℕ) → ToolFault → Type 0
+abbrev pub IsReadRefused : (max_var : ℕ) (input : List ℕ) → Fault → Type 0
 IsReadRefused max_var input fault =
     IsUnreadable max_var fault input
     ⊎ ((found : Circuit) × IsFileOf input max_var found × (¬ HasWords found)
-    × (fault ≡ Read (record { place = Whole; kind = TooLarge })))
+    × (fault ≡ fault_at TooLarge Whole 0))
 
 -- What is answered where arrays are read. Without arrays those of the caller are as they were.
 abbrev pub ReadAnswers : (options max_var : ℕ) (input : List ℕ) (before after : Arrays) → Outcome → Type 0
 ReadAnswers options max_var input before after outcome =
-    ((¬ CanRead options max_var) × (after ≡ before) × (outcome ≡ ending library.bad_options 0 0))
-    ⊎ (CanRead options max_var × (Shown (IsReadAs options max_var input) before after outcome
-    ⊎ ((after ≡ before) × NotMade (IsReadRefused max_var input) outcome)))
+    Answers (CanRead options max_var) (Shown (IsReadAs options max_var input) before after outcome)
+    (IsReadRefused max_var input) (after ≡ before) outcome
 
 -- the text of a circuit that arrays tell
 pub record IsTextOf (ascii : Bool) (first : Result Circuit ArrayFault) (text : List ℕ) : Type 0 where
@@ -97,7 +96,7 @@ pub record IsTextOf (ascii : Bool) (first : Result Circuit ArrayFault) (text : L
 
 -- the arrays tell no circuit, and the outcome tells their first fault
 abbrev pub TellNone : Result Circuit ArrayFault → Outcome → Type 0
-TellNone first outcome = (fault : ArrayFault) × (first ≡ Err fault) × (outcome ≡ array_outcome fault)
+TellNone first outcome = (fault : ArrayFault) × (first ≡ Err fault) × (outcome ≡ outcome_of (array_stops fault))
 
 -- What is answered where the circuit of arrays is written. Without a text the output is as it was.
 abbrev pub WriteAnswers : (options : ℕ) → Arrays → (before after : List ℕ) → Outcome → Type 0

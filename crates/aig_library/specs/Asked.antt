@@ -28,8 +28,6 @@ conversion options max_var = record {
   undo_map = has options numbers.undo_map;
   outputs_as_bad = has options numbers.outputs_as_bad;
   max_var = max_var;
-  source = None;
-  destination = None;
 }
 
 abbrev pub unrolling : (options frames max_var : ℕ) → Unroll
@@ -37,8 +35,6 @@ unrolling options frames max_var = record {
   frames = frames;
   form = if has options numbers.ascii then Ascii else Binary;
   max_var = max_var;
-  source = None;
-  destination = None;
 }
 
 -- the number of the bad state that is asked for alone, unless it is all of them
@@ -50,8 +46,6 @@ clauses bad frames max_var = record {
   frames = frames;
   form = Clauses (bad_asked bad);
   max_var = max_var;
-  source = None;
-  destination = None;
 }
 
 abbrev pub reaching : SolverFile → (bad frames max_var : ℕ) → Reach
@@ -59,10 +53,7 @@ reaching wrote bad frames max_var = record {
   frames = frames;
   bad = bad_asked bad;
   max_var = max_var;
-  model = None;
   wrote = wrote;
-  file = None;
-  destination = None;
 }
 
 -- an invariant: its clauses, or that a refutation of them is right
@@ -70,11 +61,7 @@ abbrev pub proving : (refuted : Bool) (bad max_var : ℕ) → Invariant
 proving refuted bad max_var = record {
   bad = bad_asked bad;
   max_var = max_var;
-  model = None;
-  file = None;
   refuted = refuted;
-  refutation = None;
-  destination = None;
 }
 
 abbrev pub simulation : (options max_var : ℕ) → Sim
@@ -84,8 +71,6 @@ simulation options max_var = record {
   witness = false;
   vcd = has options numbers.vcd;
   max_var = max_var;
-  model = None;
-  stimulus = None;
 }
 
 -- Which numbers can be met: only known options are given, the limit is at most the largest index, a map is kept in

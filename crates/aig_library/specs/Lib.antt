@@ -3,6 +3,7 @@ pub mod Outcome
 pub mod Message
 pub mod Laws
 pub mod Asked
+pub mod Memory
 pub mod Answers
 pub mod Arrays
 pub mod ArrayLaws

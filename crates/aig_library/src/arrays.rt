@@ -1,5 +1,5 @@
 //! Circuits as arrays: read from the bytes of a file, and written as them.
-ghost use Rattle.std.specs.Prelude.{◌≡◌, ◌≤◌, ◌⊎◌, ◌++◌, ◌↔◌, length, IfErr, IfOk, IsTrue, false};
+ghost use Rattle.std.specs.Prelude.{◌≡◌, ◌≤◌, ◌++◌, ◌↔◌, length, IfErr, IfOk, IsTrue, false};
 ghost use Rattle.aig_circuit.specs.Wellformed.{defined_variables};
 ghost use Rattle.aig_text.specs.AsciiText.{ascii_text};
 ghost use Rattle.aig_arrays.specs.Ordered.{IsNumberedImage};
@@ -12,18 +12,19 @@ ghost use Rattle.aig_library.specs.Arrays.{ArePlaced, HasRoom, IsReadAs, IsReadR
 ghost use Rattle.aig_library.specs.Arrays.{IsShownAs, ReadAnswers, WriteAnswers, arrays};
 ghost use Rattle.aig_library.specs.Arrays.{arrays_of, in_front};
 ghost use Rattle.aig_library.specs.Asked.{CanRead, has};
-ghost use Rattle.aig_library.specs.Outcome.{fault_outcome, out_of_memory};
+ghost use Rattle.aig_library.specs.Outcome.{StopsInMemory};
 
 use crate::asked::{ASCII, ORDERED, has, only_has};
 use crate::outcome::{
-    BAD_OPTIONS, DONE, Outcome, TOO_SHORT, answer, array_outcome, ending, fault_outcome,
+    BAD_OPTIONS, DONE, Outcome, TOO_SHORT, answer, array_stops, ending, outcome_of,
 };
 use aig_arrays::{Counts, counts_of, numbered_image, put_bytes, put_words, read_arrays};
 use aig_binary::{read_file_keeping, write_binary};
 use aig_core::{Checked, Keep, LARGEST, OutOfMemory, Steps, VecSink};
-use aig_engines::ToolFault;
+use aig_engines::{Stopped, refused_whole};
+use aig_fault::Kind;
 use aig_order::into_binary;
-use aig_text::{Limits, Place, ReadFault, ReadKind, write_ascii};
+use aig_text::{Limits, write_ascii};
 use std::alloc::Global;
 
 /// What is kept of the check of a circuit: the order of its gates, where its image is made.
@@ -36,14 +37,9 @@ fn what_to_keep(is_imaged: bool) -> Keep {
 }
 
 /// The circuit of a file.
-fn circuit_read(
-    alloc: Global,
-    options: u32,
-    max_var: u32,
-    input: &[u8],
-) -> Result<Checked, ToolFault>
+fn circuit_read(alloc: Global, options: u32, max_var: u32, input: &[u8]) -> Result<Checked, Stopped>
     ensures ok { IfOk result (λ found. IsFileOf input.now max_var found) }
-    ensures err { IfErr result (λ fault. IsUnreadable max_var fault input.now) }
+    ensures err { IfErr result (StopsInMemory (λ fault. IsUnreadable max_var fault input.now)) }
 {
     let keep = what_to_keep(has(options, ORDERED));
     Ok(read_file_keeping(alloc, input, Limits { max_var }, keep)?)
@@ -94,25 +90,16 @@ struct Shown {
 
 /// What is shown of the circuit of a file, unless its symbols or the bytes of their names are too
 /// many.
-fn shown_of_file(
-    alloc: Global,
-    options: u32,
-    max_var: u32,
-    input: &[u8],
-) -> Result<Shown, ToolFault>
+fn shown_of_file(alloc: Global, options: u32, max_var: u32, input: &[u8]) -> Result<Shown, Stopped>
     ensures ok { IfOk result (λ s.
         IsReadAs options max_var input.now (arrays_of s.circuit s.numbers.items)) }
     ensures counts { IfOk result (λ s. (s.counts ≡ counts_of s.circuit) × HasWords s.circuit) }
-    ensures err { IfErr result (λ fault.
-        IsReadRefused max_var input.now fault ⊎ (fault_outcome fault ≡ out_of_memory)) }
+    ensures err { IfErr result (StopsInMemory (IsReadRefused max_var input.now)) }
 {
     let found = circuit_read(alloc, options, max_var, input)?;
     let (circuit, numbers) = circuit_shown(alloc, options, found)?;
     let Some(counts) = counts_of(&circuit) else {
-        return Err(ToolFault::Read(ReadFault {
-            place: Place::Whole,
-            kind: ReadKind::TooLarge,
-        }));
+        return Err(refused_whole(Kind::TooLarge));
     };
     Ok(Shown {
         circuit,
@@ -210,14 +197,14 @@ pub fn read(
     }
     match shown_of_file(alloc, options, max_var, input) {
         Ok(shown) => place_arrays(&shown, words, bytes, counts),
-        Err(fault) => fault_outcome(&fault),
+        Err(stopped) => outcome_of(&stopped),
     }
 }
 
 /// The ASCII text of a circuit.
-fn ascii_text(alloc: Global, circuit: &Checked) -> Result<Vec<u8>, ToolFault>
+fn ascii_text(alloc: Global, circuit: &Checked) -> Result<Vec<u8>, Stopped>
     ensures ok { IfOk result (λ text. text.items ≡ ascii_text circuit.now) }
-    ensures err { IfErr result (λ fault. fault_outcome fault ≡ out_of_memory) }
+    ensures err { IfErr result (StopsInMemory (λ _. ⊥)) }
 {
     let mut sink = VecSink::new(alloc);
     write_ascii(circuit, &mut sink)?;
@@ -225,9 +212,9 @@ fn ascii_text(alloc: Global, circuit: &Checked) -> Result<Vec<u8>, ToolFault>
 }
 
 /// The binary text of the image of a circuit.
-fn binary_text(alloc: Global, circuit: Checked) -> Result<Vec<u8>, ToolFault>
+fn binary_text(alloc: Global, circuit: Checked) -> Result<Vec<u8>, Stopped>
     ensures ok { IfOk result (λ text. IsTextAs false false circuit text.items) }
-    ensures err { IfErr result (λ fault. fault_outcome fault ≡ out_of_memory) }
+    ensures err { IfErr result (StopsInMemory (λ _. ⊥)) }
 {
     let image = into_binary(alloc, circuit, &mut Steps::new())?;
     let mut sink = VecSink::new(alloc);
@@ -238,9 +225,9 @@ fn binary_text(alloc: Global, circuit: Checked) -> Result<Vec<u8>, ToolFault>
 }
 
 /// The text of a circuit, in ASCII or in binary.
-fn text_of(alloc: Global, is_ascii: bool, circuit: Checked) -> Result<Vec<u8>, ToolFault>
+fn text_of(alloc: Global, is_ascii: bool, circuit: Checked) -> Result<Vec<u8>, Stopped>
     ensures ok { IfOk result (λ text. IsTextAs is_ascii false circuit text.items) }
-    ensures err { IfErr result (λ fault. fault_outcome fault ≡ out_of_memory) }
+    ensures err { IfErr result (StopsInMemory (λ _. ⊥)) }
 {
     if !is_ascii {
         return binary_text(alloc, circuit);
@@ -269,6 +256,6 @@ pub fn write(
     let is_ascii = has(options, ASCII);
     match read_arrays(alloc, counts, words, bytes, what_to_keep(!is_ascii)) {
         Ok(circuit) => answer(text_of(alloc, is_ascii, circuit), output),
-        Err(fault) => array_outcome(&fault),
+        Err(fault) => outcome_of(&array_stops(&fault)),
     }
 }

@@ -57,8 +57,6 @@ pub(crate) fn conversion(options: u32, max_var: u32) -> ToAig
         undo_map: has(options, UNDO_MAP),
         outputs_as_bad: has(options, OUTPUTS_AS_BAD),
         max_var,
-        source: None,
-        destination: None,
     }
 }
 
@@ -75,8 +73,6 @@ pub(crate) fn unrolling(options: u32, frames: u32, max_var: u32) -> Unroll
         frames,
         form,
         max_var,
-        source: None,
-        destination: None,
     }
 }
 
@@ -97,8 +93,6 @@ pub(crate) fn clauses(bad: u32, frames: u32, max_var: u32) -> Unroll
             bad: bad_asked(bad),
         },
         max_var,
-        source: None,
-        destination: None,
     }
 }
 
@@ -110,10 +104,7 @@ pub(crate) fn reaching(wrote: SolverFile, bad: u32, frames: u32, max_var: u32) -
         frames,
         bad: bad_asked(bad),
         max_var,
-        model: None,
         wrote,
-        file: None,
-        destination: None,
     }
 }
 
@@ -125,10 +116,6 @@ pub(crate) fn proving(refuted: bool, bad: u32, max_var: u32) -> Invariant
     Invariant {
         bad: bad_asked(bad),
         max_var,
-        model: None,
-        file: None,
         refuted,
-        refutation: None,
-        destination: None,
     }
 }

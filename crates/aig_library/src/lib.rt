@@ -7,18 +7,17 @@
 //! any language. A call makes its whole text first, and then copies it to the output where there is
 //! room for it; otherwise the output is as it was. So it is with arrays.
 //!
-//! The definitions that matter most are `Answers`, `ReadAnswers`, `WriteAnswers`, `StepAnswers` and
-//! `fault_outcome`.
+//! The definitions that matter most are `Answers`, which the answers of each call stand on,
+//! as `ConvertAnswers`, `ReadAnswers` and `StepAnswers`; `Comes`, and `fault_outcome`.
 #![tactic(auto)]
 
 mod arrays;
 mod asked;
-pub mod kind;
 pub mod laws;
+mod memory;
 mod outcome;
-mod proving;
-mod reaching;
 mod simulation;
+mod solving;
 mod stepping;
 mod texts;
 mod verdicts;
@@ -33,9 +32,8 @@ pub use crate::outcome::{
     BAD_OPTIONS, DONE, GATE, LINE, MAP_LINE, NOT_CONFIRMED, OUT_OF_MEMORY, Outcome, REFUSED,
     TOO_SHORT, VALUE, WHOLE, WORD,
 };
-pub use crate::proving::{invariant_clauses, never};
-pub use crate::reaching::{reach, refute};
 pub use crate::simulation::simulate;
+pub use crate::solving::{invariant_clauses, never, reach, refute};
 pub use crate::stepping::step;
 pub use crate::texts::{convert, unroll, write_clauses};
 pub use crate::verdicts::witness;

@@ -5,29 +5,26 @@ ghost use Rattle.aig_engines.specs.Reading.{IsUnreadable};
 ghost use Rattle.aig_engines.specs.Simulation.{IsWrittenText, columns_of};
 ghost use Rattle.aig_step.specs.Outcome.{first_bad_line};
 ghost use Rattle.aig_step.specs.TraceText.{IsTraceText};
-ghost use Rattle.aig_dump.specs.InMemory.{IsBadStimulus};
-ghost use Rattle.aig_library.specs.Answers.{Answers, IsSimulationRefused};
+ghost use Rattle.aig_dump.specs.InMemory.{IsBadStimulus, WantsMemory};
+ghost use Rattle.aig_library.specs.Answers.{IsSimulationRefused, SimulateAnswers};
 ghost use Rattle.aig_library.specs.Asked.{CanSimulate, has, simulation};
-ghost use Rattle.aig_library.specs.Outcome.{fault_outcome, out_of_memory, sim_outcome};
+ghost use Rattle.aig_library.specs.Outcome.{StopsInMemory};
 
 use crate::asked::{PROPERTIES, VCD, has, only_has};
 use crate::outcome::{BAD_OPTIONS, Outcome, answer, ending};
 use aig_batch::simulate_batched;
 use aig_core::{Checked, Keep, LARGEST, SliceSource, VecSink};
 use aig_dump::dump;
-use aig_engines::{ToolFault, read_circuit};
+use aig_engines::{Stopped, read_circuit};
 use aig_step::{Columns, SimFault};
 use std::alloc::Global;
 
 /// The circuit of a model.
-pub(crate) fn circuit_of(alloc: Global, max_var: u32, model: &[u8]) -> Result<Checked, ToolFault>
+pub(crate) fn circuit_of(alloc: Global, max_var: u32, model: &[u8]) -> Result<Checked, Stopped>
     ensures ok { IfOk result (λ found. IsFileOf model.now max_var found) }
-    ensures err { IfErr result (λ fault.
-        IsUnreadable max_var fault model.now ⊎ (fault_outcome fault ≡ out_of_memory)) }
+    ensures err { IfErr result (StopsInMemory (λ fault. IsUnreadable max_var fault model.now)) }
 {
-    let Ok(mut source) = SliceSource::new(model) else {
-        return Err(ToolFault::OutOfMemory);
-    };
+    let mut source = SliceSource::new(model)?;
     let read = read_circuit(alloc, &mut source, max_var, Keep::Order);
     source.gives_its_bytes();
     read
@@ -44,7 +41,7 @@ fn trace(
     ensures text { IfOk result (λ text.
         IsTraceText found.now columns stimulus.now true text.items) }
     ensures err { IfErr result (λ fault.
-        IsBadStimulus found.now stimulus.now fault ⊎ (sim_outcome fault ≡ out_of_memory)) }
+        IsBadStimulus found.now stimulus.now fault ⊎ WantsMemory fault) }
 {
     let mut source = SliceSource::new(stimulus)?;
     let mut sink = VecSink::new(alloc);
@@ -73,12 +70,11 @@ fn trace_or_dump(
     max_var: u32,
     model: &[u8],
     stimulus: &[u8],
-) -> Result<Vec<u8>, ToolFault>
+) -> Result<Vec<u8>, Stopped>
     ensures ok { IfOk result (λ text.
         IsWrittenText (simulation options max_var) model.now stimulus.now text.items) }
-    ensures err { IfErr result (λ fault.
-        IsSimulationRefused (simulation options max_var) model.now stimulus.now fault
-        ⊎ (fault_outcome fault ≡ out_of_memory)) }
+    ensures err { IfErr result (StopsInMemory
+        (IsSimulationRefused (simulation options max_var) model.now stimulus.now)) }
 {
     let found = circuit_of(alloc, max_var, model)?;
     let text = if has(options, VCD) {
@@ -110,9 +106,8 @@ pub fn simulate(
     stimulus: &[u8],
     output: &mut [u8],
 ) -> Outcome
-    ensures { let request = simulation options max_var in
-        Answers (CanSimulate options max_var) (IsWrittenText request model.now stimulus.now)
-        (IsSimulationRefused request model.now stimulus.now) output.old output.new result }
+    ensures { SimulateAnswers options max_var model.now stimulus.now
+        output.old output.new result }
 {
     if !can_simulate(options, max_var) {
         return ending(BAD_OPTIONS, 0, 0);

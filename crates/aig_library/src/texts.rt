@@ -1,57 +1,17 @@
 //! Conversion and unrolling from bytes to bytes.
-ghost use Rattle.std.specs.Prelude.{◌≡◌, ◌≤◌, ◌⊎◌, ◌^◌, ◌↔◌, IfErr, IfOk, IsTrue, length};
-ghost use Rattle.aig_engines.specs.Conversion.{IsConversionRefused, IsConversionText};
-ghost use Rattle.aig_engines.specs.Unrolling.{IsUnrollingRefused, IsUnrollingText};
-ghost use Rattle.aig_library.specs.Answers.{Answers};
-ghost use Rattle.aig_library.specs.Asked.{CanConvert, CanReach, CanUnroll, clauses, conversion};
-ghost use Rattle.aig_library.specs.Asked.{unrolling};
-ghost use Rattle.aig_library.specs.Outcome.{fault_outcome, out_of_memory};
+ghost use Rattle.std.specs.Prelude.{◌≡◌, ◌↔◌, IsTrue};
+ghost use Rattle.aig_library.specs.Answers.{ClausesAnswers, ConvertAnswers, UnrollAnswers};
+ghost use Rattle.aig_library.specs.Asked.{CanConvert, CanReach, CanUnroll, conversion};
 
 use crate::asked::{
     ASCII, KEEP_MAP, OUTPUTS_AS_BAD, STRIP, UNDO_MAP, clauses, conversion, only_has, unrolling,
 };
+use crate::memory::{Inputs, run_in_memory};
 use crate::outcome::{BAD_OPTIONS, Outcome, answer, ending};
 use aig_command::ToAig;
-use aig_core::{LARGEST, SliceSource, VecSink};
-use aig_engines::{Engine, ToolFault};
+use aig_core::LARGEST;
+use aig_engines::{Job, Reading};
 use std::alloc::Global;
-
-/// What an engine makes of the bytes of its source, before anything is written.
-pub(crate) fn engine_work<T: Engine>(
-    alloc: Global,
-    request: &T,
-    input: &[u8],
-) -> Result<T::Work, ToolFault>
-    requires can_do { T.can_do request.now }
-    ensures ok { IfOk result (λ work.
-        T.is_text request.now input.now (T.text request.now work)) }
-    ensures err { IfErr result (λ fault.
-        T.is_refused request.now fault input.now ⊎ (fault_outcome fault ≡ out_of_memory)) }
-{
-    let Ok(mut source) = SliceSource::new(input) else {
-        return Err(ToolFault::OutOfMemory);
-    };
-    let read = request.read(alloc, &mut source);
-    source.gives_its_bytes();
-    read
-}
-
-/// The text that an engine makes of the bytes of its source.
-pub(crate) fn engine_text<T: Engine>(
-    alloc: Global,
-    request: &T,
-    input: &[u8],
-) -> Result<Vec<u8>, ToolFault>
-    requires can_do { T.can_do request.now }
-    ensures ok { IfOk result (λ text. T.is_text request.now input.now text.items) }
-    ensures err { IfErr result (λ fault.
-        T.is_refused request.now fault input.now ⊎ (fault_outcome fault ≡ out_of_memory)) }
-{
-    let work = engine_work(alloc, request, input)?;
-    let mut sink = VecSink::new(alloc);
-    request.write(work, &mut sink)?;
-    Ok(sink.into_vec())
-}
 
 /// Whether the numbers can be met that ask for this conversion.
 fn can_convert(options: u32, max_var: u32, request: &ToAig) -> bool
@@ -76,15 +36,19 @@ pub fn convert(
     input: &[u8],
     output: &mut [u8],
 ) -> Outcome
-    ensures { let request = conversion options max_var in
-        Answers (CanConvert options max_var) (IsConversionText request input.now)
-        (λ fault. IsConversionRefused request fault input.now) output.old output.new result }
+    ensures { ConvertAnswers options max_var input.now output.old output.new result }
 {
     let request = conversion(options, max_var);
     if !can_convert(options, max_var, &request) {
         return ending(BAD_OPTIONS, 0, 0);
     }
-    answer(engine_text(alloc, &request, input), output)
+    let inputs = Inputs {
+        model: input,
+        file: b"",
+        refutation: b"",
+    };
+    let job = Job::Read(Reading::ToAig(request));
+    answer(run_in_memory(alloc, &inputs, job), output)
 }
 
 /// Whether the numbers can be met that ask for this unrolling.
@@ -104,15 +68,18 @@ pub fn unroll(
     input: &[u8],
     output: &mut [u8],
 ) -> Outcome
-    ensures { let request = unrolling options frames max_var in
-        Answers (CanUnroll options frames max_var) (IsUnrollingText request input.now)
-        (λ fault. IsUnrollingRefused request fault input.now) output.old output.new result }
+    ensures { UnrollAnswers options frames max_var input.now output.old output.new result }
 {
     if !can_unroll(options, frames, max_var) {
         return ending(BAD_OPTIONS, 0, 0);
     }
-    let made = engine_text(alloc, &unrolling(options, frames, max_var), input);
-    answer(made, output)
+    let inputs = Inputs {
+        model: input,
+        file: b"",
+        refutation: b"",
+    };
+    let job = Job::Read(Reading::Unroll(unrolling(options, frames, max_var)));
+    answer(run_in_memory(alloc, &inputs, job), output)
 }
 
 /// Whether the numbers can be met that ask for clauses, or for the witness in an answer on them.
@@ -132,15 +99,16 @@ pub fn write_clauses(
     input: &[u8],
     output: &mut [u8],
 ) -> Outcome
-    ensures { let request = clauses bad frames max_var in
-        Answers (CanReach frames max_var) (IsUnrollingText request input.now)
-        (λ fault. IsUnrollingRefused request fault input.now) output.old output.new result }
+    ensures { ClausesAnswers bad frames max_var input.now output.old output.new result }
 {
     if !can_reach(frames, max_var) {
         return ending(BAD_OPTIONS, 0, 0);
     }
-    answer(
-        engine_text(alloc, &clauses(bad, frames, max_var), input),
-        output,
-    )
+    let inputs = Inputs {
+        model: input,
+        file: b"",
+        refutation: b"",
+    };
+    let job = Job::Read(Reading::Unroll(clauses(bad, frames, max_var)));
+    answer(run_in_memory(alloc, &inputs, job), output)
 }

@@ -1,24 +1,23 @@
 //! Verdicts on witness files.
-ghost use Rattle.std.specs.Prelude.{◌≡◌, ◌⊎◌, IfErr, IfOk};
+ghost use Rattle.std.specs.Prelude.{◌≡◌, IfErr, IfOk};
 ghost use Rattle.aig_engines.specs.WitnessOutcome.{IsWitnessAnswer};
 ghost use Rattle.aig_library.specs.Answers.{IsWitnessRefused, WitnessAnswers, verdict_outcome};
 ghost use Rattle.aig_library.specs.Asked.{simulation};
-ghost use Rattle.aig_library.specs.Outcome.{fault_outcome, out_of_memory};
+ghost use Rattle.aig_library.specs.Outcome.{StopsInMemory};
 
-use crate::outcome::{BAD_OPTIONS, DONE, NOT_CONFIRMED, Outcome, ending, fault_outcome};
+use crate::outcome::{BAD_OPTIONS, DONE, NOT_CONFIRMED, Outcome, ending, outcome_of};
 use crate::simulation::circuit_of;
 use aig_core::LARGEST;
 use aig_dump::verdict_on;
-use aig_engines::ToolFault;
+use aig_engines::Stopped;
 use aig_witness::Verdict;
 use std::alloc::Global;
 
 /// The verdict on a witness file for the circuit of a model.
-fn verdict(alloc: Global, max_var: u32, model: &[u8], witness: &[u8]) -> Result<Verdict, ToolFault>
+fn verdict(alloc: Global, max_var: u32, model: &[u8], witness: &[u8]) -> Result<Verdict, Stopped>
     ensures ok { IfOk result (IsWitnessAnswer (simulation 0 max_var) model.now witness.now) }
-    ensures err { IfErr result (λ fault.
-        IsWitnessRefused (simulation 0 max_var) model.now witness.now fault
-        ⊎ (fault_outcome fault ≡ out_of_memory)) }
+    ensures err { IfErr result (StopsInMemory
+        (IsWitnessRefused (simulation 0 max_var) model.now witness.now)) }
 {
     let found = circuit_of(alloc, max_var, model)?;
     let judged = verdict_on(alloc, &found, witness);
@@ -47,6 +46,6 @@ pub fn witness(alloc: Global, max_var: u32, model: &[u8], witness: &[u8]) -> Out
     }
     match verdict(alloc, max_var, model, witness) {
         Ok(verdict) => verdict_outcome(verdict, 0),
-        Err(fault) => fault_outcome(&fault),
+        Err(stopped) => outcome_of(&stopped),
     }
 }

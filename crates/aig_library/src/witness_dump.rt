@@ -1,16 +1,16 @@
 //! Dumps of witnesses from bytes to bytes.
-ghost use Rattle.std.specs.Prelude.{◌≡◌, ◌⊎◌, ◌++◌, IfErr, IfOk, string_bytes};
+ghost use Rattle.std.specs.Prelude.{◌++◌, IfErr, IfOk, string_bytes};
 ghost use Rattle.aig_engines.specs.WitnessDump.{IsWitnessDumpText};
 ghost use Rattle.aig_library.specs.Answers.{DumpAnswers, IsWitnessRefused, verdict_outcome};
 ghost use Rattle.aig_library.specs.Asked.{simulation};
-ghost use Rattle.aig_library.specs.Outcome.{IsPlacedAs, fault_outcome, out_of_memory};
+ghost use Rattle.aig_library.specs.Outcome.{IsPlacedAs, StopsInMemory};
 
-use crate::outcome::{BAD_OPTIONS, Outcome, TOO_SHORT, ending, fault_outcome};
+use crate::outcome::{BAD_OPTIONS, Outcome, TOO_SHORT, ending, outcome_of};
 use crate::simulation::circuit_of;
 use crate::verdicts::verdict_outcome;
 use aig_core::LARGEST;
 use aig_dump::{comment_line, judge_and_dump};
-use aig_engines::ToolFault;
+use aig_engines::Stopped;
 use aig_witness::Verdict;
 use std::alloc::Global;
 
@@ -21,13 +21,12 @@ fn verdict_and_dump(
     max_var: u32,
     model: &[u8],
     witness: &[u8],
-) -> Result<(Verdict, String, Vec<u8>), ToolFault>
+) -> Result<(Verdict, String, Vec<u8>), Stopped>
     ensures ok { IfOk result (λ made.
         IsWitnessDumpText (simulation 0 max_var) model.now witness.now made.0
         (string_bytes made.1 ++ made.2.items)) }
-    ensures err { IfErr result (λ fault.
-        IsWitnessRefused (simulation 0 max_var) model.now witness.now fault
-        ⊎ (fault_outcome fault ≡ out_of_memory)) }
+    ensures err { IfErr result (StopsInMemory
+        (IsWitnessRefused (simulation 0 max_var) model.now witness.now)) }
 {
     let found = circuit_of(alloc, max_var, model)?;
     let (verdict, run) = judge_and_dump(alloc, found, witness)?;
@@ -35,7 +34,7 @@ fn verdict_and_dump(
         Ok(comment) => Ok((verdict, comment, run)),
         Err(_refused) => {
             drop(run); // for the proof
-            Err(ToolFault::OutOfMemory)
+            Err(Stopped::OutOfMemory)
         }
     }
 }
@@ -74,6 +73,6 @@ pub fn dump_witness(
         Ok((verdict, comment, run)) => {
             place_texts(verdict, comment.as_bytes(), run.as_slice(), output)
         }
-        Err(fault) => fault_outcome(&fault),
+        Err(stopped) => outcome_of(&stopped),
     }
 }

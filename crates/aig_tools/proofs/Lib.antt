@@ -1,3 +1,4 @@
+pub mod Lines
 pub mod NamedFiles
-pub mod Solved
 pub mod Tasks
+pub mod Jobs

@@ -9,12 +9,8 @@ use Rattle.aig_io.specs.Runs.{All, AtEnd, Beginning, Broken, Ending, IsCut, NotS
 use Rattle.aig_io.specs.Runs.{Sent, Taking, came}
 use Rattle.aig_io.proofs.Runs.{read_weaker}
 use Rattle.aig_files.specs.Named.{IsFailure, IsShown, named, used_as}
-use Rattle.aig_engines.specs.declared.fault.ToolFault.{ToolFault}
-use Rattle.aig_engines.specs.declared.fault.ToolFault.TheVariants as faults
-use Rattle.aig_engines.specs.Outcome.{Says}
-use Rattle.aig_engines.specs.Reading.{NotRead}
-use Rattle.aig_tools.specs.Named.{IsReadAs, IsWriteEnd, RanBetween, ReadIn, SentIn, SentTo, TakesAs}
-use Rattle.aig_tools.specs.Named.{World, with_use, world}
+use Rattle.aig_tools.specs.Worlds.{IsReadAs, IsWriteEnd, RanBetween, ReadIn, SentIn, SentTo, TakesAs}
+use Rattle.aig_tools.specs.Worlds.{World, with_use, world}
 
 -- a file was used once more
 used_is : (name : List ℕ) (lender : ℕ) (files files_now : Files) (past : Past) (end : End) → files.current ≡ None
@@ -43,19 +39,19 @@ module _ (name : List ℕ) (lender : ℕ) (files files_now : Files) (past : Past
         rw is at (used_is name lender files files_now past failed.0 idle (rw is refl) failed.2),
       )
 
-module _ (Says : List ℕ → Ending → Type 0) (source : Option (List ℕ)) (files : Files) (input output : Past) where
+module _ (Says : List ℕ → Ending → Type 0) (source : Option (List ℕ)) (files : Files) (input output errors : Past) where
   pub of_stream : (input_now : Past) → source ≡ None → Read Says input input_now
-      → ReadIn Says source (world files input output) (world files input_now output)
+      → ReadIn Says source (world files input output errors) (world files input_now output errors)
   of_stream input_now none read = record {
     bytes = read.bytes;
     ending = read.ending;
     says = read.says;
-    came = rw none (ap (λ (past : Past). world files past output) read.came);
+    came = rw none (ap (λ (past : Past). world files past output errors) read.came);
   }
 
   pub of_file : (name : List ℕ) (lender : ℕ) (files_now : Files) (opened past : Past) → source ≡ Some name
       → opened ≡ unused (named lender name files.uses) → files.current ≡ None → IsShown false Left past files_now
-      → Read Says opened past → ReadIn Says source (world files input output) (world files_now input output)
+      → Read Says opened past → ReadIn Says source (world files input output errors) (world files_now input output errors)
   of_file name lender files_now opened past some new idle shown read = record {
     bytes = read.bytes;
     ending = read.ending;
@@ -68,39 +64,39 @@ module _ (Says : List ℕ → Ending → Type 0) (source : Option (List ℕ)) (f
   }
 
 -- what was sent to the output, of all that a call can reach
-pub to_output : (Says : List ℕ → Taking → Type 0) (files : Files) (input output output_now : Past)
-    → Sent Says output output_now → SentIn Says None (world files input output) (world files input output_now)
-to_output Says files input output output_now s = record {
+pub to_output : (Says : List ℕ → Taking → Type 0) (files : Files) (input output output_now errors : Past)
+    → Sent Says output output_now → SentIn Says None (world files input output errors) (world files input output_now errors)
+to_output Says files input output output_now errors s = record {
   text = s.text;
   taking = s.taking;
   says = s.says;
-  sent = ap (λ (past : Past). world files input past) s.sent;
+  sent = ap (λ (past : Past). world files input past errors) s.sent;
 }
 
 -- a source was read, and a text went to the output
 module _ (Says : List ℕ → Ending → List ℕ → Taking → Type 0) (source : Option (List ℕ)) (files : Files)
-    (input output output_now : Past) where
+    (input output output_now errors : Past) where
   -- of all that a call can reach, where these are the files and the input then
   gone : (files_now : Files) (input_now : Past) (s s_now : Past) → Ran Says s s_now output output_now
-      → Read (λ bytes ending. SentIn (Says bytes ending) None (world files_now input_now output)
-      (world files_now input_now output_now)) s s_now
+      → Read (λ bytes ending. SentIn (Says bytes ending) None (world files_now input_now output errors)
+      (world files_now input_now output_now errors)) s s_now
   gone files_now input_now s s_now = read_weaker _ _ s s_now
-      (λ bytes ending. to_output (Says bytes ending) files_now input_now output output_now)
+      (λ bytes ending. to_output (Says bytes ending) files_now input_now output output_now errors)
 
   pub ran_of_stream : (input_now : Past) → source ≡ None → Ran Says input input_now output output_now
-      → RanBetween Says source None (world files input output) (world files input_now output_now)
+      → RanBetween Says source None (world files input output errors) (world files input_now output_now errors)
   ran_of_stream input_now none ran = (
-    world files input_now output,
-    of_stream _ source files input output input_now none (gone files input_now input input_now ran),
+    world files input_now output errors,
+    of_stream _ source files input output errors input_now none (gone files input_now input input_now ran),
   )
 
   pub ran_of_file : (name : List ℕ) (lender : ℕ) (files_now : Files) (opened past : Past) → source ≡ Some name
       → opened ≡ unused (named lender name files.uses) → files.current ≡ None → IsShown false Left past files_now
       → Ran Says opened past output output_now
-      → RanBetween Says source None (world files input output) (world files_now input output_now)
+      → RanBetween Says source None (world files input output errors) (world files_now input output_now errors)
   ran_of_file name lender files_now opened past some new idle shown ran = (
-    world files_now input output,
-    of_file _ source files input output name lender files_now opened past some new idle shown
+    world files_now input output errors,
+    of_file _ source files input output errors name lender files_now opened past some new idle shown
         (gone files_now input opened past ran),
   )
 
@@ -116,32 +112,32 @@ write_end text bytes Written failure = failure
 write_end text bytes NotKept failure = absurd failure
 
 -- a text went to a destination that a request names
-module _ (text : List ℕ) (destination : Option (List ℕ)) (files : Files) (input output : Past) where
-  sent_whole : (output_now : Past) → destination ≡ None → output_now ≡ took text output
-      → SentIn (λ t taking. (t ≡ text) × (taking ≡ All)) destination (world files input output)
-      (world files input output_now)
+module _ (text : List ℕ) (destination : Option (List ℕ)) (files : Files) (input output errors : Past) where
+  pub sent_whole : (output_now : Past) → destination ≡ None → output_now ≡ took text output
+      → SentIn (λ t taking. (t ≡ text) × (taking ≡ All)) destination (world files input output errors)
+      (world files input output_now errors)
   sent_whole output_now none all = record {
     text = text;
     taking = All;
     says = (refl, refl);
-    sent = rw none (ap (λ (past : Past). world files input past) all);
+    sent = rw none (ap (λ (past : Past). world files input past errors) all);
   }
 
-  sent_in_part : (output_now : Past) → destination ≡ None → TookBeginning text output output_now
-      → SentIn (λ t taking. (t ≡ text) × IsCut taking) destination (world files input output)
-      (world files input output_now)
+  pub sent_in_part : (output_now : Past) → destination ≡ None → TookBeginning text output output_now
+      → SentIn (λ t taking. (t ≡ text) × IsCut taking) destination (world files input output errors)
+      (world files input output_now errors)
   sent_in_part output_now none part = record {
     text = text;
     taking = Beginning part.count;
     says = (refl, tt);
-    sent = rw none (ap (λ (past : Past). world files input past) part.past);
+    sent = rw none (ap (λ (past : Past). world files input past errors) part.past);
   }
 
   -- by the answer
   pub sent_so : {A E : Type 0} (r : Result A E) (output_now : Past) → destination ≡ None
       → OnOk r (output_now ≡ took text output) → OnErr r (TookBeginning text output output_now)
-      → SentIn (λ t taking. (t ≡ text) × TakesAs r taking) destination (world files input output)
-      (world files input output_now)
+      → SentIn (λ t taking. (t ≡ text) × TakesAs r taking) destination (world files input output errors)
+      (world files input output_now errors)
   sent_so (Ok done) output_now none all part = sent_whole output_now none all
   sent_so (Err fault) output_now none all part = sent_in_part output_now none part
 
@@ -157,8 +153,8 @@ module _ (text : List ℕ) (destination : Option (List ℕ)) (files : Files) (in
         (shown.used (rw is refl) (rw is refl) (rw bytes long)))
 
     pub file_whole : past ≡ took text opened → 0 < length text → end ≡ Written
-        → SentIn (λ t taking. (t ≡ text) × (taking ≡ All)) destination (world files input output)
-        (world files_now input output)
+        → SentIn (λ t taking. (t ≡ text) × (taking ≡ All)) destination (world files input output errors)
+        (world files_now input output errors)
     file_whole all long closed = record {
       text = text;
       taking = All;
@@ -167,8 +163,8 @@ module _ (text : List ℕ) (destination : Option (List ℕ)) (files : Files) (in
     }
 
     pub file_not_kept : past ≡ took text opened → 0 < length text → end ≡ NotKept
-        → SentIn (λ t taking. (t ≡ text) × IsCut taking) destination (world files input output)
-        (world files_now input output)
+        → SentIn (λ t taking. (t ≡ text) × IsCut taking) destination (world files input output errors)
+        (world files_now input output errors)
     file_not_kept all long closed = record {
       text = text;
       taking = Beginning (length text);
@@ -181,8 +177,8 @@ module _ (text : List ℕ) (destination : Option (List ℕ)) (files : Files) (in
     }
 
     pub file_in_part : TookBeginning text opened past
-        → SentIn (λ t taking. (t ≡ text) × IsCut taking) destination (world files input output)
-        (world files_now input output)
+        → SentIn (λ t taking. (t ≡ text) × IsCut taking) destination (world files input output errors)
+        (world files_now input output errors)
     file_in_part part =
         let is = rw new at part.past in
         let failed = shown.failed (rw is (omega arith)) in
@@ -201,65 +197,3 @@ module _ (text : List ℕ) (destination : Option (List ℕ)) (files : Files) (in
             refl,
           );
         }
-
--- a source was read, and then a text was sent
-pub ran_on : (P : List ℕ → Ending → List ℕ → Taking → Type 0) (Q : List ℕ → Ending → Type 0)
-    (R : List ℕ → Taking → Type 0) (source destination : Option (List ℕ)) (before between after : World)
-    → ((bytes : List ℕ) (ending : Ending) (text : List ℕ) (taking : Taking) → Q bytes ending → R text taking
-    → P bytes ending text taking)
-    → ReadIn Q source before between → SentIn R destination between after → RanBetween P source destination before after
-ran_on P Q R source destination before between after say read went = (
-  between,
-  record {
-    bytes = read.bytes;
-    ending = read.ending;
-    says = record {
-      text = went.text;
-      taking = went.taking;
-      says = say read.bytes read.ending went.text went.taking read.says went.says;
-      sent = went.sent;
-    };
-    came = read.came;
-  },
-)
-
--- nothing was sent
-not_sent : (destination : Option (List ℕ)) (w : World) → SentTo destination [] NotSent w w
-not_sent None w = refl
-not_sent (Some name) w = (w.files, refl, refl)
-
-module _ (IsText : List ℕ → List ℕ → Type 0) (IsRefused : ToolFault → List ℕ → Type 0) where
-  says_unsent : (fault : ToolFault) (bytes : List ℕ) (ending : Ending) → NotRead IsRefused fault bytes ending
-      → Says IsText IsRefused (Err fault) bytes ending [] NotSent
-  says_unsent (faults.Read f) bytes ending none = (none, refl)
-  says_unsent (faults.Map f) bytes ending none = (none, refl)
-  says_unsent faults.HasBad bytes ending none = (none, refl)
-  says_unsent (faults.Sim f) bytes ending none = (none, refl)
-  says_unsent (faults.NoBad number) bytes ending none = (none, refl)
-  says_unsent (faults.Unroll f) bytes ending none = (none, refl)
-  says_unsent (faults.Clauses f) bytes ending none = (none, refl)
-  says_unsent (faults.Answer f) bytes ending none = (none, refl)
-  says_unsent (faults.Refutation f) bytes ending none = (none, refl)
-  says_unsent (faults.Invariant f) bytes ending none = (none, refl)
-  says_unsent faults.Source bytes ending none = (none, refl)
-  says_unsent faults.Sink bytes ending none = absurd none
-  says_unsent faults.OutOfMemory bytes ending none = (none, refl)
-
-  -- nothing was made of what came
-  pub not_ran : (fault : ToolFault) (source destination : Option (List ℕ)) (before after : World)
-      → ReadIn (NotRead IsRefused fault) source before after
-      → RanBetween (Says IsText IsRefused (Err fault)) source destination before after
-  not_ran fault source destination before after read = (
-    after,
-    record {
-      bytes = read.bytes;
-      ending = read.ending;
-      says = record {
-        text = [];
-        taking = NotSent;
-        says = says_unsent fault read.bytes read.ending read.says;
-        sent = not_sent destination after;
-      };
-      came = read.came;
-    },
-  )

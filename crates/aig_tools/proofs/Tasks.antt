@@ -1,22 +1,26 @@
 -- What is written where a simulation is done.
-use Rattle.std.proofs.Common.{◌≡◌, ℕ, List, Bool, true, false, Option, None, Some, Ok, MatchBool, ap, if◌then◌else◌}
+use Rattle.std.proofs.Common.{◌≡◌, ℕ, List, Bool, true, false, Option, None, Some, Result, Ok, Err, MatchBool, ap, if◌then◌else◌}
 use Rattle.std.proofs.Common.{refl, ◌∙◌, ◌++◌}
 use Rattle.aig_io.specs.Devices.{Past, took}
-use Rattle.aig_io.specs.Runs.{All, AtEnd, Ending, Ran, Read, Taking}
-use Rattle.aig_io.proofs.Runs.{read_weaker}
+use Rattle.aig_io.specs.Runs.{All, AtEnd, Ending, NotSent, Ran, Read, Taking}
+use Rattle.aig_io.proofs.Runs.{ran_weaker, read_weaker}
 use Rattle.aig_circuit.specs.declared.circuit.Circuit.{Circuit}
 use Rattle.aig_command.specs.declared.request.Sim.{Sim}
 use Rattle.aig_step.specs.Outcome.{IsTraceUpTo}
 use Rattle.aig_step.specs.declared.trace.Columns.{Columns}
 use Rattle.aig_witness.specs.declared.verdict.Verdict.{Verdict}
-use Rattle.aig_claims.specs.RunDump.{JudgedWith, comment_line}
+use Rattle.aig_step.specs.declared.fault.SimFault.{SimFault}
+use Rattle.aig_step.specs.declared.fault.SimFault.TheVariants as faults
+use Rattle.aig_claims.specs.RunDump.{HasNoDump, JudgedWith, comment_line}
 use Rattle.aig_dump.specs.Dumped.{TraceSaysAs, meant}
 use Rattle.aig_dump.specs.InMemory.{JudgedRun}
 use Rattle.aig_wave.specs.Wave.{wave_text}
 use Rattle.aig_engines.specs.File.{IsFileOf}
-use Rattle.aig_engines.specs.Simulation.{IsDumpText, IsSimulationText, columns_of}
-use Rattle.aig_tools.specs.SimulationOutcome.{SimulationsWriteTheirTexts, TaskSays, task_of}
-use Rattle.aig_tools.specs.declared.task.Task.TheVariants as tasks
+use Rattle.aig_engines.specs.Simulation.{IsDumpText, IsSimulationText, columns_of, task_of}
+use Rattle.aig_tools.specs.SimulationOutcome.{OfSteps, SimulationsWriteTheirTexts, TaskSays}
+use Rattle.aig_engines.specs.Stops.{sim_stops}
+use Rattle.aig_engines.specs.WitnessDump.{RunDumpSays}
+use Rattle.aig_engines.specs.declared.task.Task.TheVariants as tasks
 
 -- whether as a batch or not, what is done is said alike
 traced : (batch : Bool) (c : Circuit) (columns : Columns) (bytes text : List ℕ) (ending : Ending) (taking : Taking)
@@ -89,3 +93,17 @@ pub ran_whole : (P : List ℕ → Ending → List ℕ → Taking → Type 0) (Q 
 ran_whole P Q source source_now sink sink_now text say read all =
     read_weaker Q _ source source_now
     (λ bytes ending says. record { text = text; taking = All; says = say bytes ending says; sent = all }) read
+
+-- steps were not answered to their end, which blames them alone
+pub of_steps : (Says : Result (Unit {0}) SimFault → List ℕ → Ending → List ℕ → Taking → Type 0) (fault : SimFault)
+    (source source_now sink sink_now : Past) → Ran (Says (Err fault)) source source_now sink sink_now
+    → Ran (OfSteps Says (Err (sim_stops fault))) source source_now sink sink_now
+of_steps Says fault source source_now sink sink_now =
+    ran_weaker _ _ source source_now sink sink_now (λ bytes ending text taking says. (fault, refl, says))
+
+-- there is no dump
+pub no_dump : (c : Circuit) (fault : SimFault) (bytes text : List ℕ) (ending : Ending) (taking : Taking)
+    → HasNoDump c fault bytes ending → taking ≡ NotSent
+    → RunDumpSays c (Err (sim_stops fault)) bytes ending text taking
+no_dump c faults.WriteFailed bytes text ending taking says none = absurd says
+no_dump c fault bytes text ending taking says none = ((fault, refl, says), none)

@@ -5,13 +5,13 @@ ghost use Rattle.aig_io.specs.Runs.{Ran};
 ghost use Rattle.aig_dump.specs.Dumped.{DumpSays, TraceSaysAs};
 ghost use Rattle.aig_engines.specs.Outcome.{RanFor};
 ghost use Rattle.aig_engines.specs.WitnessDump.{RunDumpSays};
-ghost use Rattle.aig_tools.specs.SimulationOutcome.{OfSteps, TaskSays, task_of, without_verdict};
+ghost use Rattle.aig_engines.specs.Simulation.{task_of};
+ghost use Rattle.aig_tools.specs.SimulationOutcome.{OfSteps, TaskSays, without_verdict};
 
-use crate::task::{Task, task_of};
 use aig_command::Sim;
 use aig_core::{Checked, Keep, Sink, Source};
 use aig_dump::{read_and_dump, send_dump, write_dump, write_trace};
-use aig_engines::{ToolFault, judge, read_circuit};
+use aig_engines::{Stopped, Task, judge, read_circuit, task_of};
 use aig_step::Columns;
 use aig_witness::Verdict;
 use std::alloc::Global;
@@ -24,7 +24,7 @@ fn trace_stimulus<R: Source, W: Sink>(
     found: Checked,
     stimulus: &mut R,
     output: &mut W,
-) -> Result<Option<Verdict>, ToolFault>
+) -> Result<Option<Verdict>, Stopped>
     requires stimulus { CanFail (R.past stimulus.old) }
     requires output { CanFail (W.past output.old) }
     ensures stimulus { (R.past stimulus.new).origin ≡ (R.past stimulus.old).origin }
@@ -44,7 +44,7 @@ fn dump_stimulus<R: Source, W: Sink>(
     found: Checked,
     stimulus: &mut R,
     output: &mut W,
-) -> Result<Option<Verdict>, ToolFault>
+) -> Result<Option<Verdict>, Stopped>
     requires stimulus { CanFail (R.past stimulus.old) }
     requires output { CanFail (W.past output.old) }
     ensures stimulus { (R.past stimulus.new).origin ≡ (R.past stimulus.old).origin }
@@ -64,7 +64,7 @@ fn dump_run<R: Source, W: Sink>(
     found: Checked,
     witness: &mut R,
     output: &mut W,
-) -> Result<Verdict, ToolFault>
+) -> Result<Verdict, Stopped>
     requires witness { CanFail (R.past witness.old) }
     requires output { CanFail (W.past output.old) }
     ensures ran { Ran (RunDumpSays found result)
@@ -81,24 +81,34 @@ fn dump_run<R: Source, W: Sink>(
 /// stands in the place of the stimulus.
 pub(crate) fn perform<R: Source, W: Sink>(
     alloc: Global,
-    asked: Task,
+    task: Task,
     found: Checked,
     stimulus: &mut R,
     output: &mut W,
-) -> Result<Option<Verdict>, ToolFault>
+) -> Result<Option<Verdict>, Stopped>
     requires stimulus { CanFail (R.past stimulus.old) }
     requires output { CanFail (W.past output.old) }
     ensures stimulus { (R.past stimulus.new).origin ≡ (R.past stimulus.old).origin }
-    ensures ran { Ran (TaskSays asked found result)
+    ensures ran { Ran (TaskSays task found result)
         (R.past stimulus.old) (R.past stimulus.new) (W.past output.old) (W.past output.new) }
 {
-    match asked {
+    match task {
         Task::Trace { batch, columns } => trace_stimulus(
             alloc, batch, columns, found, stimulus, output,
         ),
         Task::Dump { batch } => dump_stimulus(alloc, batch, found, stimulus, output),
         Task::Verdict => Ok(Some(judge(alloc, found, stimulus, output)?)),
         Task::RunDump => Ok(Some(dump_run(alloc, found, stimulus, output)?)),
+    }
+}
+
+/// An answer of one who asks for no verdict.
+pub(crate) fn without_verdict(done: Result<(), Stopped>) -> Result<Option<Verdict>, Stopped>
+    ensures { result ≡ without_verdict done }
+{
+    match done {
+        Ok(()) => Ok(None),
+        Err(stopped) => Err(stopped),
     }
 }
 
@@ -113,7 +123,7 @@ pub fn run_sim<M: Source, R: Source, W: Sink>(
     model: &mut M,
     stimulus: &mut R,
     output: &mut W,
-) -> Result<(), ToolFault>
+) -> Result<(), Stopped>
     requires model { CanFail (M.past model.old) }
     requires stimulus { CanFail (R.past stimulus.old) }
     requires output { CanFail (W.past output.old) }

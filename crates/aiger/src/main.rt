@@ -1,7 +1,7 @@
 //! The program: the arguments and the streams of the process, and the status that `serve` answers.
 //!
-//! `main` lends `serve` of `aig_tools` the arguments, the files of the system and the three
-//! standard streams, and ends with the status that it answers. Nothing else is done here. The
+//! `main` lends `serve` of `aig_tools` the arguments and a `World`, of the files of the system and
+//! the three standard streams, and ends with the status that it answers. Nothing else is done here. The
 //! program's own name is not looked at, since it may be no text. Arguments that are no text are
 //! refused, and so is a start without memory for them.
 //!
@@ -10,7 +10,7 @@
 #![tactic(auto)]
 
 use aig_core::{ReadSource, WriteSink};
-use aig_tools::{HostFiles, refuse_for_memory, refuse_words, serve};
+use aig_tools::{HostFiles, World, refuse_for_memory, refuse_words, serve};
 use std::alloc::Global;
 use std::env::FillError;
 use std::process::ExitCode;
@@ -61,15 +61,11 @@ fn main(rt: HostRuntime) -> ExitCode {
         // An argument that is no text is not supported.
         Err(_) => return ExitCode::from(refuse_words(&mut errors)),
     };
-    let mut files = HostFiles::new(&rt);
-    let mut input = ReadSource::new(rt.stdin());
-    let mut output = WriteSink::new(rt.stdout());
-    ExitCode::from(serve(
-        &mut files,
-        alloc,
-        words.as_slice(),
-        &mut input,
-        &mut output,
-        &mut errors,
-    ))
+    let mut world = World {
+        files: HostFiles::new(&rt),
+        input: ReadSource::new(rt.stdin()),
+        output: WriteSink::new(rt.stdout()),
+        errors,
+    };
+    ExitCode::from(serve(alloc, words.as_slice(), &mut world))
 }

@@ -2,21 +2,13 @@
 //! declares and documents them.
 #![tactic(auto)]
 
-ghost use Rattle.std.specs.Prelude.{◌≡◌, ◌≤◌, false};
-ghost use Rattle.aig_command.specs.Aiger.{largest_index};
+ghost use Rattle.std.specs.Prelude.{◌≡◌, ◌≤◌};
 ghost use Rattle.aig_command.specs.declared.builder.TheConstants.{VERSION};
-ghost use Rattle.aig_engines.specs.Conversion.{IsConversionRefused, IsConversionText};
-ghost use Rattle.aig_engines.specs.Simulation.{IsWrittenText};
-ghost use Rattle.aig_engines.specs.Unrolling.{IsUnrollingRefused, IsUnrollingText};
-ghost use Rattle.aig_command.specs.declared.request.SolverFile.TheVariants.{Answer};
-ghost use Rattle.aig_library.specs.Answers.{Answers, IsAnswerRefused, IsAnswerText};
-ghost use Rattle.aig_library.specs.Answers.{DumpAnswers, RefutationAnswers, WitnessAnswers};
-ghost use Rattle.aig_library.specs.Answers.{IsProvingRefused, IsProvingText, NeverAnswers};
-ghost use Rattle.aig_library.specs.Answers.{IsSimulationRefused};
+ghost use Rattle.aig_library.specs.Answers.{ClausesAnswers, ConvertAnswers, DumpAnswers};
+ghost use Rattle.aig_library.specs.Answers.{InvariantAnswers, NeverAnswers, ReachAnswers};
+ghost use Rattle.aig_library.specs.Answers.{RefuteAnswers, SimulateAnswers, UnrollAnswers};
+ghost use Rattle.aig_library.specs.Answers.{WitnessAnswers};
 ghost use Rattle.aig_library.specs.Arrays.{ReadAnswers, StepAnswers, WriteAnswers, arrays};
-ghost use Rattle.aig_library.specs.Asked.{CanConvert, CanReach, CanSimulate, CanUnroll};
-ghost use Rattle.aig_library.specs.Asked.{clauses, conversion, proving};
-ghost use Rattle.aig_library.specs.Asked.{reaching, simulation, unrolling};
 ghost use Rattle.aig_library.specs.Message.{IsWritten, outcome_text};
 ghost use Rattle.aigtools_c.specs.Version.{version_text};
 
@@ -38,9 +30,7 @@ pub extern "C" fn aigtools_convert(
     outcome: &mut Outcome,
 ) -> u32
     ensures status { result ≡ outcome.new.status }
-    ensures answers { let request = conversion options max_var in
-        Answers (CanConvert options max_var) (IsConversionText request input.now)
-        (λ fault. IsConversionRefused request fault input.now) output.old output.new outcome.new }
+    ensures answers { ConvertAnswers options max_var input.now output.old output.new outcome.new }
 {
     *outcome = convert(alloc, options, max_var, input, output);
     outcome.status
@@ -58,9 +48,8 @@ pub extern "C" fn aigtools_unroll(
     outcome: &mut Outcome,
 ) -> u32
     ensures status { result ≡ outcome.new.status }
-    ensures answers { let request = unrolling options frames max_var in
-        Answers (CanUnroll options frames max_var) (IsUnrollingText request input.now)
-        (λ fault. IsUnrollingRefused request fault input.now) output.old output.new outcome.new }
+    ensures answers { UnrollAnswers options frames max_var input.now
+        output.old output.new outcome.new }
 {
     *outcome = unroll(alloc, options, frames, max_var, input, output);
     outcome.status
@@ -78,9 +67,8 @@ pub extern "C" fn aigtools_clauses(
     outcome: &mut Outcome,
 ) -> u32
     ensures status { result ≡ outcome.new.status }
-    ensures answers { let request = clauses bad frames max_var in
-        Answers (CanReach frames max_var) (IsUnrollingText request input.now)
-        (λ fault. IsUnrollingRefused request fault input.now) output.old output.new outcome.new }
+    ensures answers { ClausesAnswers bad frames max_var input.now
+        output.old output.new outcome.new }
 {
     *outcome = write_clauses(alloc, bad, frames, max_var, input, output);
     outcome.status
@@ -99,9 +87,8 @@ pub extern "C" fn aigtools_answer(
     outcome: &mut Outcome,
 ) -> u32
     ensures status { result ≡ outcome.new.status }
-    ensures answers { let request = reaching Answer bad frames max_var in
-        Answers (CanReach frames max_var) (IsAnswerText request model.now answer.now)
-        (IsAnswerRefused request model.now answer.now) output.old output.new outcome.new }
+    ensures answers { ReachAnswers bad frames max_var model.now answer.now
+        output.old output.new outcome.new }
 {
     *outcome = reach(alloc, bad, frames, max_var, model, answer, output);
     outcome.status
@@ -119,7 +106,7 @@ pub extern "C" fn aigtools_refute(
     outcome: &mut Outcome,
 ) -> u32
     ensures status { result ≡ outcome.new.status }
-    ensures answers { RefutationAnswers bad frames max_var model.now outcome.new }
+    ensures answers { RefuteAnswers bad frames max_var model.now outcome.new }
 {
     *outcome = refute(alloc, bad, frames, max_var, model, refutation);
     outcome.status
@@ -137,9 +124,8 @@ pub extern "C" fn aigtools_invariant_clauses(
     outcome: &mut Outcome,
 ) -> u32
     ensures status { result ≡ outcome.new.status }
-    ensures answers { let request = proving false bad max_var in
-        Answers (max_var ≤ largest_index) (IsProvingText request model.now invariant.now)
-        (IsProvingRefused request model.now invariant.now) output.old output.new outcome.new }
+    ensures answers { InvariantAnswers bad max_var model.now invariant.now
+        output.old output.new outcome.new }
 {
     *outcome = invariant_clauses(alloc, bad, max_var, model, invariant, output);
     outcome.status
@@ -175,9 +161,8 @@ pub extern "C" fn aigtools_simulate(
     outcome: &mut Outcome,
 ) -> u32
     ensures status { result ≡ outcome.new.status }
-    ensures answers { let request = simulation options max_var in
-        Answers (CanSimulate options max_var) (IsWrittenText request model.now stimulus.now)
-        (IsSimulationRefused request model.now stimulus.now) output.old output.new outcome.new }
+    ensures answers { SimulateAnswers options max_var model.now stimulus.now
+        output.old output.new outcome.new }
 {
     *outcome = simulate(alloc, options, max_var, model, stimulus, output);
     outcome.status

@@ -1,7 +1,7 @@
 //! Command lines and what is answered to them.
 use aig_command::{
-    Command, CommandLine, Invariant, Reach, Sim, SolverFile, ToAig, Unroll, UnrolledForm, Usage,
-    command,
+    Command, CommandLine, Invariant, Names, Reach, Sim, SolverFile, ToAig, Unroll, UnrolledForm,
+    Usage, command,
 };
 use std::alloc::{AllocError, Global};
 use std::test::Fail;
@@ -472,7 +472,7 @@ fn show_file(file: &Option<String>) -> &str {
     }
 }
 
-fn shown_conversion(alloc: Global, request: &ToAig) -> Result<String, AllocError> {
+fn shown_conversion(alloc: Global, names: &Names, request: ToAig) -> Result<String, AllocError> {
     let ascii = if request.ascii { "ascii " } else { "" };
     let strip = if request.strip { "strip " } else { "" };
     let keep_map = if request.keep_map { "keep-map " } else { "" };
@@ -482,13 +482,13 @@ fn shown_conversion(alloc: Global, request: &ToAig) -> Result<String, AllocError
     } else {
         ""
     };
-    let source = show_file(&request.source);
-    let destination = show_file(&request.destination);
+    let source = show_file(&names.model);
+    let destination = show_file(&names.destination);
     let limit = request.max_var;
     format!(in alloc; "{ascii}{strip}{keep_map}{undo_map}{as_bad}{limit} {source} {destination}")
 }
 
-fn shown_simulation(alloc: Global, request: &Sim) -> Result<String, AllocError> {
+fn shown_simulation(alloc: Global, names: &Names, request: Sim) -> Result<String, AllocError> {
     let batch = if request.batch { "batch " } else { "" };
     let properties = if request.properties {
         "properties "
@@ -497,8 +497,8 @@ fn shown_simulation(alloc: Global, request: &Sim) -> Result<String, AllocError> 
     };
     let witness = if request.witness { "witness " } else { "" };
     let vcd = if request.vcd { "vcd " } else { "" };
-    let model = show_file(&request.model);
-    let stimulus = show_file(&request.stimulus);
+    let model = show_file(&names.model);
+    let stimulus = show_file(&names.file);
     let limit = request.max_var;
     format!(in alloc; "{batch}{properties}{witness}{vcd}{limit} {model} {stimulus}")
 }
@@ -522,32 +522,32 @@ fn shown_form(alloc: Global, form: UnrolledForm) -> Result<String, AllocError> {
     }
 }
 
-fn shown_unrolling(alloc: Global, request: &Unroll) -> Result<String, AllocError> {
+fn shown_unrolling(alloc: Global, names: &Names, request: Unroll) -> Result<String, AllocError> {
     let frames = request.frames;
     let form = shown_form(alloc, request.form)?;
-    let source = show_file(&request.source);
-    let destination = show_file(&request.destination);
+    let source = show_file(&names.model);
+    let destination = show_file(&names.destination);
     let limit = request.max_var;
     format!(in alloc; "{frames} {form}{limit} {source} {destination}")
 }
 
-fn shown_reaching(alloc: Global, request: &Reach) -> Result<String, AllocError> {
+fn shown_reaching(alloc: Global, names: &Names, request: Reach) -> Result<String, AllocError> {
     let frames = request.frames;
     let bad = shown_bad(alloc, request.bad)?;
-    let model = show_file(&request.model);
+    let model = show_file(&names.model);
     let wrote = match request.wrote {
         SolverFile::Answer => "answer",
         SolverFile::Refutation => "refutation",
     };
-    let file = show_file(&request.file);
-    let destination = show_file(&request.destination);
+    let file = show_file(&names.file);
+    let destination = show_file(&names.destination);
     let limit = request.max_var;
     format!(in alloc; "{frames} {bad} {limit} {model} {wrote} {file} {destination}")
 }
 
 /// The refutation that is checked, or that clauses are written, as a row shows it.
-fn shown_work(alloc: Global, request: &Invariant) -> Result<String, AllocError> {
-    let file = show_file(&request.refutation);
+fn shown_work(alloc: Global, names: &Names, request: Invariant) -> Result<String, AllocError> {
+    let file = show_file(&names.refutation);
     if request.refuted {
         format!(in alloc; "refutation {file}")
     } else {
@@ -555,23 +555,23 @@ fn shown_work(alloc: Global, request: &Invariant) -> Result<String, AllocError> 
     }
 }
 
-fn shown_proving(alloc: Global, request: &Invariant) -> Result<String, AllocError> {
+fn shown_proving(alloc: Global, names: &Names, request: Invariant) -> Result<String, AllocError> {
     let bad = shown_bad(alloc, request.bad)?;
-    let model = show_file(&request.model);
-    let file = show_file(&request.file);
-    let work = shown_work(alloc, request)?;
-    let destination = show_file(&request.destination);
+    let model = show_file(&names.model);
+    let file = show_file(&names.file);
+    let work = shown_work(alloc, names, request)?;
+    let destination = show_file(&names.destination);
     let limit = request.max_var;
     format!(in alloc; "{bad} {limit} {model} {file} {work} {destination}")
 }
 
-fn shown_command(alloc: Global, command: &Command) -> Result<String, AllocError> {
+fn shown_command(alloc: Global, names: &Names, command: &Command) -> Result<String, AllocError> {
     match command {
-        Command::ToAig(request) => shown_conversion(alloc, request),
-        Command::Sim(request) => shown_simulation(alloc, request),
-        Command::Unroll(request) => shown_unrolling(alloc, request),
-        Command::Reach(request) => shown_reaching(alloc, request),
-        Command::Invariant(request) => shown_proving(alloc, request),
+        Command::ToAig(request) => shown_conversion(alloc, names, *request),
+        Command::Sim(request) => shown_simulation(alloc, names, *request),
+        Command::Unroll(request) => shown_unrolling(alloc, names, *request),
+        Command::Reach(request) => shown_reaching(alloc, names, *request),
+        Command::Invariant(request) => shown_proving(alloc, names, *request),
         Command::Help(_) => String::from_str(alloc, "help"),
         Command::Version(_) => String::from_str(alloc, "version"),
     }
@@ -584,7 +584,7 @@ fn shown_answer(
     match answered {
         Ok(line) => {
             let sync = if line.sync { "sync " } else { "" };
-            let command = shown_command(alloc, &line.command)?;
+            let command = shown_command(alloc, &line.names, &line.command)?;
             format!(in alloc; "{sync}{command}")
         }
         Err(Usage::Words(_)) => String::from_str(alloc, "words"),
@@ -669,6 +669,7 @@ fn longest_of_help(answered: &Result<CommandLine, Usage>) -> Option<usize> {
         Ok(
             CommandLine {
                 command: Command::Help(text),
+                names: _,
                 sync: _,
             },
         ) => Some(longest_line(text.as_str())),

@@ -11,8 +11,6 @@ const STRIP: ToAig = ToAig {
     undo_map: false,
     outputs_as_bad: false,
     max_var: LARGEST,
-    source: None,
-    destination: None,
 };
 
 /// A text with names, and what is written of it without them.

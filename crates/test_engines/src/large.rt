@@ -23,8 +23,6 @@ const TO_AIG: ToAig = ToAig {
     undo_map: false,
     outputs_as_bad: false,
     max_var: LARGEST,
-    source: None,
-    destination: None,
 };
 
 fn sim(witness: bool) -> Sim
@@ -37,8 +35,6 @@ fn sim(witness: bool) -> Sim
         witness,
         vcd: false,
         max_var: LARGEST,
-        model: None,
-        stimulus: None,
     }
 }
 
@@ -49,8 +45,6 @@ fn frames(frames: u32) -> Unroll
         frames,
         form: UnrolledForm::Ascii,
         max_var: LARGEST,
-        source: None,
-        destination: None,
     }
 }
 

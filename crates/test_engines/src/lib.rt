@@ -5,8 +5,6 @@
 #[cfg(test)]
 mod conversions;
 #[cfg(test)]
-mod invariants;
-#[cfg(test)]
 mod large;
 #[cfg(test)]
 mod unrollings;

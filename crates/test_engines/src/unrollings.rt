@@ -8,8 +8,6 @@ const THREE_FRAMES: Unroll = Unroll {
     frames: 3,
     form: UnrolledForm::Ascii,
     max_var: LARGEST,
-    source: None,
-    destination: None,
 };
 
 const LATCH: &[u8] = b"aag 3 1 1 1 1\n2\n4 6 1\n4\n6 4 2\n";

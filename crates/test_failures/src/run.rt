@@ -1,7 +1,7 @@
 //! A run of the program's engine over devices in memory.
 use crate::streams::{NEVER, OnceReader, OnceWriter};
 use aig_core::{ReadSource, WriteSink};
-use aig_tools::{HostFiles, serve};
+use aig_tools::{HostFiles, World, serve};
 use std::alloc::{AllocError, Global};
 use std::rt::Files;
 
@@ -70,14 +70,14 @@ pub(crate) fn run<T: Files>(
     let mut reader = behaviour.reader(text);
     let mut output = behaviour.writer(alloc);
     let mut errors = Behaviour::pieces_of(100).writer(alloc);
-    let status = serve(
-        &mut HostFiles::new(files),
-        alloc,
-        words.as_slice(),
-        &mut ReadSource::new(&mut reader),
-        &mut WriteSink::new(&mut output),
-        &mut WriteSink::new(&mut errors),
-    );
+    let mut world = World {
+        files: HostFiles::new(files),
+        input: ReadSource::new(&mut reader),
+        output: WriteSink::new(&mut output),
+        errors: WriteSink::new(&mut errors),
+    };
+    let status = serve(alloc, words.as_slice(), &mut world);
+    drop(world);
     Ok(Outcome {
         status,
         reads: reader.calls,

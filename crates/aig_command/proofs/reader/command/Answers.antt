@@ -13,12 +13,12 @@ read_matches-requires c =
       within = rows_within (texts c.args.words.now) c.in-Ok.matches c.in-Ok.ensures.matches c.in-Ok.ensures.kinds;
     }
 
-pub returns-in_err-read_matches-in-Ok-clause-err : goal.returns-in_err-read_matches-in-Ok-clause-err
-returns-in_err-read_matches-in-Ok-clause-err c =
+pub returns-in_err-names-in-Ok-clause-err : goal.returns-in_err-names-in-Ok-clause-err
+returns-in_err-names-in-Ok-clause-err c =
     let h = err_from_is_err_and c.from_residual.result c.from_residual.ensures.1 in
     rw (h.1, h.2)
     (taken_usage (texts c.args.words.now) c.in-Ok.matches c.in-Ok.ensures.matches c.in-Ok.ensures.kinds
-    (Err c.in_err-read_matches-in-Ok.field-0.0) c.in_err-read_matches-in-Ok.ensures.answer)
+    (Err c.in_err-names-in-Ok.field-0.0) c.in_err-names-in-Ok.ensures.answer)
 
 pub returns-in_err-error_answer-in-Err-clause-err : goal.returns-in_err-error_answer-in-Err-clause-err
 returns-in_err-error_answer-in-Err-clause-err c =
@@ -30,10 +30,10 @@ returns-in_err-error_answer-in-Err-clause-err c =
     (refused_usage (texts c.args.words.now) (kind_of c.in-Err.error) c.in-Err.ensures.passes c.in-Err.ensures.kinds
     (Err c.in_err-error_answer-in-Err.field-0.0) c.in_err-error_answer-in-Err.ensures.answer)
 
-pub returns-in_ok-read_matches-in-Ok-clause-ok : goal.returns-in_ok-read_matches-in-Ok-clause-ok
-returns-in_ok-read_matches-in-Ok-clause-ok c =
+pub returns-in_ok-names-in-Ok-clause-ok : goal.returns-in_ok-names-in-Ok-clause-ok
+returns-in_ok-names-in-Ok-clause-ok c =
     taken_command (texts c.args.words.now) c.in-Ok.matches c.in-Ok.ensures.matches c.in-Ok.ensures.kinds
-    (Ok c.in_ok-read_matches-in-Ok.field-0) c.in_ok-read_matches-in-Ok.ensures.answer
+    (Ok (c.in_ok-names-in-Ok.names, c.in_ok-names-in-Ok.command)) c.in_ok-names-in-Ok.ensures.answer
 
 pub returns-in_ok-error_answer-in-Err-clause-ok : goal.returns-in_ok-error_answer-in-Err-clause-ok
 returns-in_ok-error_answer-in-Err-clause-ok c =

@@ -1,5 +1,5 @@
 use Rattle.std.proofs.lemmas.Result.{err_from_is_err_and}
-use Rattle.aig_engines.proofs.SourceFaults.{not_read}
+use Rattle.aig_engines.proofs.Readings.{not_read}
 use Rattle.aig_engines.proofs.file.read_circuit.Goals as goal
 
 pub returns-in_err-read_source : goal.returns-in_err-read_source

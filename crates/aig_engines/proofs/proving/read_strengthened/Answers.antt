@@ -1,5 +1,5 @@
 use Rattle.std.proofs.lemmas.Result.{err_from_is_err_and}
-use Rattle.aig_engines.proofs.Provings.{invariant_refused, strengthened_read}
+use Rattle.aig_engines.proofs.Provings.{invariant_refused, made_whole, strengthened_read}
 use Rattle.aig_engines.proofs.proving.read_strengthened.Goals as goal
 
 pub returns-in_err-strengthened-clause-read : goal.returns-in_err-strengthened-clause-read
@@ -10,6 +10,6 @@ returns-in_err-strengthened-clause-read g c =
 
 pub returns-clause-read : goal.returns-clause-read
 returns-clause-read g c =
-    strengthened_read c.args.asked c.in_ok-strengthened.strengthened _ _ c.in_ok-strengthened.ensures
-    c.asked_with_clauses.result c.asked_with_clauses.ensures.ok c.asked_with_clauses.ensures.clauses
-    c.asked_with_clauses.ensures.err
+    strengthened_read c.args.asked c.in_ok-strengthened.strengthened c.asked_with_clauses.result _ _
+    c.asked_with_clauses.ensures.ok c.asked_with_clauses.ensures.clauses c.asked_with_clauses.ensures.err
+    (made_whole _ _ _ _ c.in_ok-strengthened.ensures)

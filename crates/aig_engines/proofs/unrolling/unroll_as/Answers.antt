@@ -1,7 +1,20 @@
-use Rattle.std.proofs.Common.{inr}
+use Rattle.std.proofs.lemmas.Result.{err_from_is_err_and}
 use Rattle.aig_engines.specs.Unrolling.{bad_of}
-use Rattle.aig_engines.proofs.AskedFor.{unrolled_for}
+use Rattle.aig_engines.proofs.AskedFor.{not_asked, not_unrolled, not_written, unrolled_for}
 use Rattle.aig_engines.proofs.unrolling.unroll_as.Goals as goal
+
+pub returns-in_err-asked-clause-err : goal.returns-in_err-asked-clause-err
+returns-in_err-asked-clause-err c =
+    let h = err_from_is_err_and c.from_residual.result c.from_residual.ensures.1 in
+    rw (h.1, h.2)
+    (not_asked c.args.form c.args.frames c.args.found c.in_err-asked.field-0.0 c.in_err-asked.ensures.err)
+
+pub returns-in_err-circuit-clause-err : goal.returns-in_err-circuit-clause-err
+returns-in_err-circuit-clause-err c =
+    let h = err_from_is_err_and c.from_residual-in_err-circuit.result c.from_residual-in_err-circuit.ensures.1 in
+    rw (h.1, h.2)
+    (not_unrolled c.args.form c.args.frames c.args.found c.in_ok-asked.asked c.in_err-circuit.field-0.0
+    c.in_ok-asked.ensures.there c.in_ok-asked.ensures.ok c.in_err-circuit.ensures.err)
 
 pub returns-in-Ok-clause-ok : goal.returns-in-Ok-clause-ok
 returns-in-Ok-clause-ok c = (
@@ -13,10 +26,7 @@ returns-in-Ok-clause-ok c = (
 
 pub returns-in-Err-clause-err : goal.returns-in-Err-clause-err
 returns-in-Err-clause-err c =
-    inr (
-      c.in_ok-circuit.circuit,
-      unrolled_for (bad_of c.args.form) c.args.frames c.args.found c.in_ok-asked.asked c.in_ok-circuit.circuit
-          c.in_ok-asked.ensures.there c.in_ok-asked.ensures.ok c.in_ok-circuit.ensures.supported
-          c.in_ok-circuit.ensures.ok,
-      c.in-Err.ensures.err,
-    )
+    rw c.from.ensures (not_written c.args.form c.args.frames c.args.found c.in_ok-circuit.circuit c.in-Err.fault
+    (unrolled_for (bad_of c.args.form) c.args.frames c.args.found c.in_ok-asked.asked c.in_ok-circuit.circuit
+    c.in_ok-asked.ensures.there c.in_ok-asked.ensures.ok c.in_ok-circuit.ensures.supported c.in_ok-circuit.ensures.ok)
+    c.in-Err.ensures.err)

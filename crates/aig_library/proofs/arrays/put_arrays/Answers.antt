@@ -1,4 +1,4 @@
-use Rattle.std.proofs.Common.{◌≡◌, ◌∙◌, arith, length, length-append, rules}
+use Rattle.std.proofs.Common.{◌∙◌, arith, length-append}
 use Rattle.aig_arrays.specs.Words.{circuit_words}
 use Rattle.aig_library.proofs.Placings.{all_words, put_behind, words_end}
 use Rattle.aig_library.proofs.arrays.put_arrays.Goals as goal

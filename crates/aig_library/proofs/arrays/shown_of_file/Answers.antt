@@ -1,4 +1,4 @@
-use Rattle.std.proofs.Common.{ℕ, List, Bool, true, false, inl, inr, refl, subst, sym}
+use Rattle.std.proofs.Common.{ℕ, List, Bool, true, false, inr, refl, subst, sym}
 use Rattle.aig_circuit.specs.declared.circuit.Circuit.{Circuit}
 use Rattle.aig_arrays.specs.Words.{HasWords}
 use Rattle.aig_library.specs.Arrays.{IsShownAs}
@@ -12,7 +12,7 @@ shown_has_words false found shown numbers is has = subst (λ d. HasWords d) (sym
 
 pub returns-in_default-clause-err : goal.returns-in_default-clause-err
 returns-in_default-clause-err c =
-    inl (inr (
+    rw c.refused_whole.ensures (inr (
       c.in_ok-found.found,
       c.in_ok-found.ensures.ok,
       λ has. c.in_default.ensures.none refl (shown_has_words _ _ _ _ c.in_ok-circuit.ensures has),

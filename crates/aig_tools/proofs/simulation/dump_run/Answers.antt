@@ -3,7 +3,7 @@ use Rattle.std.proofs.lemmas.Result.{err_from_is_err_and}
 use Rattle.aig_io.specs.Runs.{NotSent}
 use Rattle.aig_io.proofs.Runs.{read_weaker}
 use Rattle.aig_engines.proofs.Outcomes.{ran_in_part}
-use Rattle.aig_tools.proofs.Tasks.{judged_with, ran_whole}
+use Rattle.aig_tools.proofs.Tasks.{judged_with, no_dump, ran_whole}
 use Rattle.aig_tools.proofs.simulation.dump_run.Goals as goal
 
 pub returns-in_err-verdict : goal.returns-in_err-verdict
@@ -11,7 +11,12 @@ returns-in_err-verdict g c =
     let h = err_from_is_err_and c.from_residual.result c.from_residual.ensures.1 in
     record {
       ran = rw (h.1, h.2) (read_weaker _ _ _ _
-          (λ bytes ending says. record { text = []; taking = NotSent; says = (says, refl); sent = refl })
+          (λ bytes ending says. record {
+            text = [];
+            taking = NotSent;
+            says = no_dump _ c.in_err-verdict.field-0.0 bytes [] ending NotSent says refl;
+            sent = refl;
+          })
           c.in_err-verdict.ensures.read);
     }
 

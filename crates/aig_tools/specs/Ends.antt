@@ -1,0 +1,81 @@
+-- How a job ends over files and streams, and a call of the program (this project's profile).
+use Rattle.std.specs.Prelude.{◌≡◌, ℕ, List, Option, None, Some, Result, Ok, Err}
+use Rattle.aig_circuit.specs.declared.circuit.Circuit.{Circuit}
+use Rattle.aig_command.specs.Answer.{IsCommand, IsUsage, name_of}
+use Rattle.aig_command.specs.declared.request.CommandLine.{CommandLine}
+use Rattle.aig_command.specs.declared.request.Names.{Names}
+use Rattle.aig_command.specs.declared.usage.Usage.{Usage}
+use Rattle.aig_command.specs.declared.usage.Usage.TheVariants as usages
+use Rattle.aig_engines.specs.Jobs.{Makes, Refuses, job_of, source_of, text_of}
+use Rattle.aig_engines.specs.Reading.{ReadSays}
+use Rattle.aig_engines.specs.declared.answer.Answer.{Answer}
+use Rattle.aig_engines.specs.declared.job.Job.{Job}
+use Rattle.aig_engines.specs.declared.job.Job.TheVariants as jobs
+use Rattle.aig_engines.specs.declared.job.Part.{Part}
+use Rattle.aig_engines.specs.declared.job.Part.TheVariants.{File, Model}
+use Rattle.aig_engines.specs.declared.job.Reading.{Reading}
+use Rattle.aig_engines.specs.declared.task.Task.{Task}
+use Rattle.aig_engines.specs.declared.stopped.Stopped.{Stopped}
+use Rattle.aig_witness.specs.declared.verdict.Verdict.{Verdict}
+use Rattle.aig_witness.specs.declared.verdict.Verdict.TheVariants.{Confirmed, NotConfirmed}
+use Rattle.aig_tools.specs.Lines.{IsReported, name_at, stop_line, usage_text}
+use Rattle.aig_tools.specs.SimulationOutcome.{TaskSays, without_verdict}
+use Rattle.aig_tools.specs.Worlds.{RanBetween, ReadIn, SentIn, TakesAs, World}
+
+-- that line was reported, and nothing else was touched
+pub record IsReportedIn (line : List ℕ) (before after : World) : Type 0 where
+  pub alone : after ≡ record before { errors = after.errors }
+  pub reported : IsReported line before.errors after.errors
+
+-- the status where what was asked for is done: 1 where a witness is not confirmed, else 0
+abbrev pub done_status : Option Verdict → ℕ
+done_status None = 0
+done_status (Some (Confirmed step)) = 0
+done_status (Some NotConfirmed) = 1
+
+-- it is done, and nothing is reported, also where a witness is not confirmed; or it stopped, which is
+abbrev pub Concludes : Names → Part → Result (Option Verdict) Stopped → (before after : World) → ℕ → Type 0
+Concludes names part (Ok verdict) before after status = (status ≡ done_status verdict) × (after ≡ before)
+Concludes names part (Err stopped) before after status =
+    (status ≡ 1) × IsReportedIn (stop_line names part stopped) before after
+
+-- How a job ends: its next source is read, and what that makes of it ends so; or that is not read or is refused; or
+-- steps are answered as they come; or its answer is written.
+pub data Ends (names : Names) : Job → World → World → ℕ → Type 0 where
+  goes_on : (reading : Reading) (next : Job) (before between after : World) (status : ℕ)
+      → ReadIn (ReadSays (λ next bytes. Makes reading bytes next) (Refuses reading) (Ok next))
+      (name_at names (source_of reading)) before between
+      → Ends names next between after status → Ends names (jobs.Read reading) before after status
+  is_stopped : (reading : Reading) (stopped : Stopped) (before between after : World) (status : ℕ)
+      → ReadIn (ReadSays (λ next bytes. Makes reading bytes next) (Refuses reading) (Err stopped))
+      (name_at names (source_of reading)) before between
+      → Concludes names (source_of reading) (Err stopped) between after status
+      → Ends names (jobs.Read reading) before after status
+  answers_steps : (task : Task) (model : Circuit) (answer : Result (Option Verdict) Stopped)
+      (before between after : World) (status : ℕ)
+      → RanBetween (TaskSays task model answer) (name_at names File) None before between
+      → Concludes names File answer between after status → Ends names (jobs.Steps task model) before after status
+  writes : (answer : Answer) (sent : Result (Unit {0}) Stopped) (before between after : World) (status : ℕ)
+      → SentIn (λ text taking. (text ≡ text_of answer) × TakesAs sent taking) (name_of names.destination) before between
+      → Concludes names Model (without_verdict sent) between after status
+      → Ends names (jobs.Write answer) before after status
+
+-- the status of refused words: 1 where memory was refused, else 2
+abbrev pub status_of : Usage → ℕ
+status_of usages.OutOfMemory = 1
+status_of usage = 2
+
+-- what is answered to the words
+abbrev pub IsAnswered : List (List ℕ) → Result CommandLine Usage → Type 0
+IsAnswered words (Ok line) = IsCommand words line.names line.command
+IsAnswered words (Err usage) = IsUsage words usage
+
+-- how the program ends, by that: its job does; or the words are refused, which is reported, and nothing else was done
+abbrev pub EndsAs : Result CommandLine Usage → (before after : World) → ℕ → Type 0
+EndsAs (Ok line) before after status = Ends line.names (job_of line.command) before after status
+EndsAs (Err usage) before after status = (status ≡ status_of usage) × IsReportedIn (usage_text usage) before after
+
+-- the program answers the words, and ends so
+abbrev pub ProgramEnds : List (List ℕ) → (before after : World) → ℕ → Type 0
+ProgramEnds words before after status =
+    (answer : Result CommandLine Usage) × IsAnswered words answer × EndsAs answer before after status

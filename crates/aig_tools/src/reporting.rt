@@ -1,0 +1,117 @@
+//! What is reported on standard error. Whether it could be sent changes nothing: there is no other
+//! place to report it. Formatting and sending take no memory, so that out of memory can be reported
+//! too.
+ghost use Rattle.std.specs.Prelude.{◌≡◌, ◌++◌, [], codes};
+ghost use Rattle.aig_io.specs.Devices.{CanFail};
+ghost use Rattle.aig_io.specs.Output.{Put};
+ghost use Rattle.aig_command.specs.Answer.{name_of};
+ghost use Rattle.aig_tools.specs.Lines.{IsReported, line_of, memory_line, name_at, shown};
+ghost use Rattle.aig_tools.specs.Lines.{stop_line, subject_text, usage_text, words_line};
+
+use aig_command::{Names, Usage};
+use aig_core::{Output, Sink};
+use aig_engines::{Part, Stopped};
+
+/// The name of a source.
+pub(crate) fn name_at(names: &Names, part: Part) -> &Option<String>
+    ensures { name_of result.now ≡ name_at names.now part }
+{
+    match part {
+        Part::Model => &names.model,
+        Part::File => &names.file,
+        Part::Refutation => &names.refutation,
+    }
+}
+
+/// A file by its name, and a stream by `-`.
+fn name_or_dash(name: &Option<String>) -> &str
+    ensures { result.now ≡ shown (name_of name.now) }
+{
+    match name {
+        Some(name) => name.as_str(),
+        None => "-",
+    }
+}
+
+/// Sends a text.
+fn report_text<E: Sink>(errors: &mut E, text: &[u8])
+    requires { CanFail (E.past errors.old) }
+    ensures { IsReported text.now (E.past errors.old) (E.past errors.new) }
+{
+    let mut output = Output::new(errors);
+    output.put(text);
+    let (_sent, _errors) = output.finish();
+}
+
+/// Sends a line about no file: the program's name, and what is wrong.
+fn report_line<E: Sink>(errors: &mut E, text: &[u8])
+    requires { CanFail (E.past errors.old) }
+    ensures { IsReported (line_of [] text.now) (E.past errors.old) (E.past errors.new) }
+{
+    let mut output = Output::new(errors);
+    output.put(b"aiger: ");
+    output.put(text);
+    output.put(b"\n");
+    let (_sent, _errors) = output.finish();
+}
+
+/// Reports that memory ran out. No file is at fault, so none is named.
+pub(crate) fn report_memory<E: Sink>(errors: &mut E)
+    requires { CanFail (E.past errors.old) }
+    ensures { IsReported memory_line (E.past errors.old) (E.past errors.new) }
+{
+    report_line(errors, b"out of memory");
+}
+
+/// Reports that an argument is no text.
+pub(crate) fn report_words<E: Sink>(errors: &mut E)
+    requires { CanFail (E.past errors.old) }
+    ensures { IsReported words_line (E.past errors.old) (E.past errors.new) }
+{
+    report_line(errors, b"an argument is not UTF-8 text");
+}
+
+/// Reports why arguments are refused.
+pub(crate) fn report_usage<E: Sink>(errors: &mut E, usage: &Usage)
+    requires { CanFail (E.past errors.old) }
+    ensures { IsReported (usage_text usage.now) (E.past errors.old) (E.past errors.new) }
+{
+    match usage {
+        Usage::Words(text) => report_text(errors, text.as_bytes()),
+        _ => report_line(errors, usage.words().as_bytes()),
+    }
+}
+
+/// Puts a name and a colon.
+fn put_name<E: Sink>(output: &mut Output<E>, name: &Option<String>)
+    ensures { Put output.old output.new (shown (name_of name.now) ++ codes ": ") }
+{
+    output.put(name_or_dash(name).as_bytes());
+    output.put(b": ");
+}
+
+/// Puts what the line is about.
+fn put_subject<E: Sink>(output: &mut Output<E>, names: &Names, part: Part, stopped: &Stopped)
+    ensures { Put output.old output.new (subject_text names.now part stopped.now) }
+{
+    match stopped {
+        Stopped::OutOfMemory => output.put(b""),
+        Stopped::WriteFailed => put_name(output, &names.destination),
+        Stopped::ReadFailed => put_name(output, name_at(names, part)),
+        Stopped::Refused(_) => put_name(output, name_at(names, part)),
+    }
+}
+
+/// Reports why a job stopped at this source, or behind it, in one line that names what is at fault.
+pub(crate) fn report_stop<E: Sink>(errors: &mut E, names: &Names, part: Part, stopped: &Stopped)
+    requires { CanFail (E.past errors.old) }
+    ensures { IsReported (stop_line names.now part stopped.now)
+        (E.past errors.old) (E.past errors.new) }
+{
+    let mut output = Output::new(errors);
+    output.put(b"aiger: ");
+    put_subject(&mut output, names, part, stopped);
+    stopped.put(&mut output);
+    output.put(b"\n");
+    let (_sent, _errors) = output.finish();
+}
