@@ -68,7 +68,8 @@ file_not_unrolled request found stopped bytes why file =
 
 -- what has no clauses where the bad state was taken alone has none with it
 module _ (bad : Option ℕ) (frames : ℕ) (c asked : Circuit) (has : HasAsked bad c) (same : asked ≡ asked_of bad c) where
-  with_it : (fault : Fault) → NotUnrolledAs (Clauses None) frames asked fault → NotUnrolledAs (Clauses bad) frames c fault
+  with_it : (fault : Fault) → NotUnrolledAs (Clauses None) frames asked fault
+      → NotUnrolledAs (Clauses bad) frames c fault
   with_it fault (has_not_bad number none above is) = cc
   with_it fault (cannot_unroll reason there why is) =
       cannot_unroll reason has (subst (λ (k : Circuit). NotUnrolled k frames reason) same why) is

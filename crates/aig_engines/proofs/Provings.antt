@@ -61,7 +61,8 @@ made_whole asked made before after =
 
 module _ (asked made : Circuit) (bytes : List ℕ) (is : IsMadeOf asked made bytes) where
   -- it has clauses
-  abbrev pub strengthened_as : ((d : Circuit) × IsUnrolledFor None 1 made d × HasClauses d) → IsStrengthened asked bytes made
+  abbrev pub strengthened_as : ((d : Circuit) × IsUnrolledFor None 1 made d × HasClauses d)
+      → IsStrengthened asked bytes made
   strengthened_as (d, unrolled, clauses) = record {
     cubes = is.0;
     unrolled = d;

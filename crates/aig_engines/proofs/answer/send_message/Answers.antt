@@ -7,8 +7,9 @@ use Rattle.aig_engines.proofs.answer.send_message.Goals as goal
 
 pub returns-clause-err : goal.returns-clause-err
 returns-clause-err g c =
+    let text = message_text c.args.message.now in
     let begun =
     on_err c.finish-sent.result.0
-    (TookBeginning (message_text c.args.message.now) (g.W.Sink.past c.args.sink.now) (g.W.Sink.past c.finish-sent.result.1.now))
+    (TookBeginning text (g.W.Sink.past c.args.sink.now) (g.W.Sink.past c.finish-sent.result.1.now))
     (beginning_sent _ _ _ _ _ c.new-output.ensures refl refl c.put.ensures c.finish-sent.ensures.put) in
     search rules

@@ -10,7 +10,8 @@ returns-in_err-unrolled g c = search (rules, read_none)
 pub returns-in_err-checked : goal.returns-in_err-checked
 returns-in_err-checked g c =
     let h = err_from_is_err_and c.from_residual-in_err-checked.result c.from_residual-in_err-checked.ensures.1 in
-    rw (h.1, h.2) (refutation_refused c.circuit.result.now c.check_refutation-checked.result c.in_err-checked.field-0.0 _ _ (search rules)
+    let fault = c.in_err-checked.field-0.0 in
+    rw (h.1, h.2) (refutation_refused c.circuit.result.now c.check_refutation-checked.result fault _ _ (search rules)
     c.check_refutation-checked.ensures)
 
 pub returns : goal.returns
