@@ -51,7 +51,8 @@ module _ (Says : List ℕ → Ending → Type 0) (source : Option (List ℕ)) (f
 
   pub of_file : (name : List ℕ) (lender : ℕ) (files_now : Files) (opened past : Past) → source ≡ Some name
       → opened ≡ unused (named lender name files.uses) → files.current ≡ None → IsShown false Left past files_now
-      → Read Says opened past → ReadIn Says source (world files input output errors) (world files_now input output errors)
+      → Read Says opened past
+      → ReadIn Says source (world files input output errors) (world files_now input output errors)
   of_file name lender files_now opened past some new idle shown read = record {
     bytes = read.bytes;
     ending = read.ending;
@@ -65,7 +66,8 @@ module _ (Says : List ℕ → Ending → Type 0) (source : Option (List ℕ)) (f
 
 -- what was sent to the output, of all that a call can reach
 pub to_output : (Says : List ℕ → Taking → Type 0) (files : Files) (input output output_now errors : Past)
-    → Sent Says output output_now → SentIn Says None (world files input output errors) (world files input output_now errors)
+    → Sent Says output output_now
+    → SentIn Says None (world files input output errors) (world files input output_now errors)
 to_output Says files input output output_now errors s = record {
   text = s.text;
   taking = s.taking;

@@ -7,7 +7,8 @@ use Rattle.aig_tools.proofs.simulation.dump_stimulus.Goals as goal
 pub returns-in_err-written-clause-ran : goal.returns-in_err-written-clause-ran
 returns-in_err-written-clause-ran g c =
     let h = err_from_is_err_and c.from_residual.result c.from_residual.ensures.1 in
-    rw (h.1, h.2) (of_steps (DumpSays c.args.batch c.args.found) c.in_err-written.field-0.0 _ _ _ _ c.in_err-written.ensures.ran)
+    let ran = c.in_err-written.ensures.ran in
+    rw (h.1, h.2) (of_steps (DumpSays c.args.batch c.args.found) c.in_err-written.field-0.0 _ _ _ _ ran)
 
 pub returns-clause-ran : goal.returns-clause-ran
 returns-clause-ran g c = c.in_ok-written.ensures.ran
