@@ -151,8 +151,8 @@ module _ (inputs : Inputs) where
         elim (then_fault (readings.Reach request) fault comes) [
           | inl why ↦ inl why.1
           | inr (next, (asked, is_model, then), rest) ↦
-              let why =
-              last_fault (readings.Solved request asked) (IsReachText request asked inputs.file.now) (λ next made. made) in
+              let IsText = IsReachText request asked inputs.file.now in
+              let why = last_fault (readings.Solved request asked) IsText (λ next made. made) in
               inr (asked, is_model, why fault (rw then at rest))
         ]
 
@@ -162,8 +162,9 @@ module _ (inputs : Inputs) where
     none_within text comes =
         let request = reaching Refutation bad frames max_var in
         let (next, (asked, is_model, then), rest) = then_text (readings.Reach request) text comes in
-        let is : IsNoneText request asked text =
-        last_text (readings.Solved request asked) (IsNoneText request asked) (λ next made. made) text (rw then at rest) in
+        let IsText = IsNoneText request asked in
+        let is : IsText text =
+        last_text (readings.Solved request asked) IsText (λ next made. made) text (rw then at rest) in
         let has = is_model.has_clauses in
         record {
           asked = asked;
@@ -254,9 +255,9 @@ module _ (inputs : Inputs) where
               elim (then_fault (readings.Strengthen request asked) fault (rw then at rest)) [
                 | inl why ↦ inl (inr (asked, is_model, why.1))
                 | inr (last, (strengthened, is, next_is), end) ↦
+                    let IsText = IsNeverText request strengthened in
                     let why =
-                    last_fault (readings.Never request strengthened) (IsNeverText request strengthened) (λ next made. made)
-                    fault (rw next_is at end) in
+                    last_fault (readings.Never request strengthened) IsText (λ next made. made) fault (rw next_is at end) in
                     inr (why.0, why.1)
               ]
         ]

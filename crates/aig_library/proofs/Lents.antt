@@ -107,14 +107,20 @@ module _ (input : List ℕ) (now : Past) (given : HasGiven now) where
   refused (readings.Solved request asked) fault bytes ending is says =
       solved request.wrote request asked fault bytes ending is says
   refused (readings.Never request strengthened) fault bytes ending is says = refutation fault bytes ending says
-  refused (readings.ToAig request) fault bytes ending is says = all_refused (readings.ToAig request) fault bytes ending is says.0 says
-  refused (readings.Unroll request) fault bytes ending is says = all_refused (readings.Unroll request) fault bytes ending is says.0 says
-  refused (readings.Reach request) fault bytes ending is says = all_refused (readings.Reach request) fault bytes ending is says.0 says
-  refused (readings.Invariant request) fault bytes ending is says = all_refused (readings.Invariant request) fault bytes ending is says.0 says
-  refused (readings.Clauses asked) fault bytes ending is says = all_refused (readings.Clauses asked) fault bytes ending is says.0 says
+  refused (readings.ToAig request) fault bytes ending is says =
+      all_refused (readings.ToAig request) fault bytes ending is says.0 says
+  refused (readings.Unroll request) fault bytes ending is says =
+      all_refused (readings.Unroll request) fault bytes ending is says.0 says
+  refused (readings.Reach request) fault bytes ending is says =
+      all_refused (readings.Reach request) fault bytes ending is says.0 says
+  refused (readings.Invariant request) fault bytes ending is says =
+      all_refused (readings.Invariant request) fault bytes ending is says.0 says
+  refused (readings.Clauses asked) fault bytes ending is says =
+      all_refused (readings.Clauses asked) fault bytes ending is says.0 says
   refused (readings.Strengthen request asked) fault bytes ending is says =
       all_refused (readings.Strengthen request asked) fault bytes ending is says.0 says
-  refused (readings.Sim request) fault bytes ending is says = all_refused (readings.Sim request) fault bytes ending is says.0 says
+  refused (readings.Sim request) fault bytes ending is says =
+      all_refused (readings.Sim request) fault bytes ending is says.0 says
 
   pub batched : (c : Circuit) (columns : Columns) (r : Result (Unit {0}) SimFault) (origin : Origin) (sink_now : Past)
       → Ran (BatchSays c columns r) (unused (lent input)) now (unused origin) sink_now

@@ -7,8 +7,9 @@ use Rattle.aig_library.proofs.memory.read_bytes.Goals as goal
 
 pub returns-clause-made : goal.returns-clause-made
 returns-clause-made c =
-    whole c.args.bytes.now _ c.gives_its_bytes.ensures (λ (next : Job) (bytes : List ℕ). Makes c.args.reading bytes next)
-    (Refuses c.args.reading) c.read-read.result (rw c.in_ok-source.ensures at c.read-read.ensures.read)
+    whole c.args.bytes.now _ c.gives_its_bytes.ensures
+    (λ (next : Job) (bytes : List ℕ). Makes c.args.reading bytes next) (Refuses c.args.reading) c.read-read.result
+    (rw c.in_ok-source.ensures at c.read-read.ensures.read)
 
 pub returns-clause-err : goal.returns-clause-err
 returns-clause-err c =
