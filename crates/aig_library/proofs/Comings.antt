@@ -257,7 +257,8 @@ module _ (inputs : Inputs) where
                 | inr (last, (strengthened, is, next_is), end) ↦
                     let IsText = IsNeverText request strengthened in
                     let why =
-                    last_fault (readings.Never request strengthened) IsText (λ next made. made) fault (rw next_is at end) in
+                    last_fault (readings.Never request strengthened) IsText (λ next made. made) fault
+                    (rw next_is at end) in
                     inr (why.0, why.1)
               ]
         ]
