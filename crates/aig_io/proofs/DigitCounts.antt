@@ -17,13 +17,14 @@ some : (k : ℕ) → 0 < 10 ^ k
 some zero = omega arith
 some (suc k) = omega (arith, pow-suc 10 k, some k)
 
-pub length_between : (k n : ℕ) → 10 ^ suc k ≤ n → n < 10 ^ suc (suc k) → n < 2 ^ 64 → length (decimal n) ≡ k + 2
-length_between zero n high low small = longer n 1 (omega arith) small (length_1 (n / 10) (omega arith))
-length_between (suc k) n high low small =
+-- so many digits, from two on
+pub spans : (k n : ℕ) → 10 ^ suc k ≤ n → n < 10 ^ suc (suc k) → n < 2 ^ 64 → length (decimal n) ≡ k + 2
+spans zero n high low small = longer n 1 (omega arith) small (length_1 (n / 10) (omega arith))
+spans (suc k) n high low small =
     let tens = pow-suc 10 (suc (suc k)) in
     let ten = pow-suc 10 (suc k) in
     let one = pow-suc 10 k in
-    let before = length_between k (n / 10) (omega arith) (omega arith) (omega arith) in
+    let before = spans k (n / 10) (omega arith) (omega arith) (omega arith) in
     longer n (k + 2) (omega (arith, some k)) small before ∙ omega arith
 
 -- without its last five digits
