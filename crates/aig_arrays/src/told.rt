@@ -14,7 +14,7 @@ use crate::entries::WordCursor;
 use crate::fault::ArrayFault;
 use crate::sections::read_sections;
 use crate::symbols::read_symbols;
-use aig_core::{CheckFault, Checked, Circuit, Keep, Listing, Steps, check_keeping};
+use aig_core::{CheckFault, Checked, Circuit, Keep, Listing, Steps, check};
 use aig_text::empty_circuit;
 use std::alloc::{AllocError, AllocFailed, Global};
 
@@ -152,7 +152,7 @@ pub fn read_arrays(
     ensures err { IfErr result (λ e. IsFirstFault e (told counts.now words.now bytes.now)) }
 {
     let circuit = read_entries(alloc, counts, words, bytes)?;
-    match check_keeping(alloc, circuit, keep, &mut Steps::new()) {
+    match check(alloc, circuit, keep, &mut Steps::new()) {
         Ok(checked) => Ok(checked),
         Err((circuit, fault)) => {
             drop(circuit); // for the proof

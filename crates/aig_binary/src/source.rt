@@ -10,7 +10,7 @@ ghost use Rattle.aig_binary.specs.BinaryReading.{binary_reading};
 ghost use Rattle.aig_binary.specs.Begun.{FitsHeader, rest_of};
 ghost use Rattle.aig_binary.specs.Sources.{AnswersFile, ReadsAs, ReadsFrom};
 
-use crate::file::read_file_keeping;
+use crate::file::read_file;
 use crate::pieces::BinaryReader;
 use crate::piecewise::{fetch_all, fetch_piece, read_rest};
 use crate::reader::BINARY_WORD;
@@ -133,7 +133,7 @@ fn read_whole<R: Source>(
         return Err(SourceFault::Source(ReadError::OutOfMemory));
     }
     // The text ends here: it is not needed from here on, and may be larger than the circuit.
-    let found = read_file_keeping(alloc, bytes.as_slice(), limits, keep)?;
+    let found = read_file(alloc, bytes.as_slice(), limits, keep)?;
     Ok(found)
 }
 

@@ -9,7 +9,7 @@ ghost use Rattle.aig_circuit.specs.Wellformed.{IsWellFormed};
 ghost use Rattle.example_count.specs.Depth.{IsDepth};
 
 use aig_binary::{Limits, read_file};
-use aig_core::{Circuit, Lit, OutOfMemory, ReadSource, Steps, VarMap, gate_order, read_all};
+use aig_core::{Circuit, Keep, Lit, OutOfMemory, ReadSource, Steps, VarMap, gate_order, read_all};
 use std::alloc::Global;
 use std::io;
 
@@ -71,7 +71,7 @@ fn print_circuit(rt: &impl Print, alloc: Global, circuit: &Circuit) -> anyhow::R
 fn main(rt: HostRuntime) -> anyhow::Result<()> {
     let alloc = rt.alloc();
     let bytes = read_all(alloc, &mut ReadSource::new(rt.stdin()))?;
-    let checked = read_file(alloc, bytes.as_slice(), Limits::default())?;
+    let checked = read_file(alloc, bytes.as_slice(), Limits::default(), Keep::Circuit)?;
     let printed = print_circuit(&rt, alloc, checked.circuit());
     drop(checked); // for the proof
     printed

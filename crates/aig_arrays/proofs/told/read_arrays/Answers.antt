@@ -21,8 +21,8 @@ returns-in_err-circuit-clause-only c =
     (entries_wrong c.args.counts.now c.args.words.now c.args.bytes.now c.in_err-circuit.field-0.0
     c.in_err-circuit.ensures) is)
 
-pub check_keeping-requires : goal.check_keeping-requires
-check_keeping-requires c = record {
+pub check-requires : goal.check-requires
+check-requires c = record {
   in_form =
       entries_in_form c.args.counts.now c.args.words.now c.args.bytes.now c.in_ok-circuit.circuit
       c.in_ok-circuit.ensures;

@@ -2,7 +2,7 @@ use Rattle.std.proofs.lemmas.Result.{err_from_is_err_and}
 use Rattle.aig_lines.specs.Lines.{lines_of}
 use Rattle.aig_text.proofs.Grammar.Text.{circuit_in_form, checked_tells, line_fault, memory_only}
 use Rattle.aig_lines.proofs.Cutting.{pieces}
-use Rattle.aig_text.proofs.reader.read_ascii_keeping.Goals as goal
+use Rattle.aig_text.proofs.reader.read_ascii.Goals as goal
 
 pub returns-in_err-circuit-clause-only : goal.returns-in_err-circuit-clause-only
 returns-in_err-circuit-clause-only c = let h = err_from_is_err_and c.from_residual.result c.from_residual.ensures.1 in

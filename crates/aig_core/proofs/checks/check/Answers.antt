@@ -1,5 +1,5 @@
 use Rattle.aig_core.proofs.Checking.Faultless.{refuted, well_formed}
-use Rattle.aig_core.proofs.checks.check_keeping.Goals as goal
+use Rattle.aig_core.proofs.checks.check.Goals as goal
 
 pub with_order-requires-clause-well_formed : goal.with_order-requires-clause-well_formed
 with_order-requires-clause-well_formed c = well_formed c.args.circuit c.requires.in_form c.in-Ok.ensures.ok
