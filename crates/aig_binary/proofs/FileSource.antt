@@ -1,6 +1,7 @@
 -- A binary file that is read while its source gives it, from what was fetched first.
-use Rattle.std.proofs.Common.{◌≡◌, ◌∙◌, ◌++◌, ◌≢◌, ◌<◌, ◌≤◌, ◌∷◌, inl, inr, ℕ, List, [], drop, Bool, true, false, not}
-use Rattle.std.proofs.Common.{append_assoc, append-nil, Result, Ok, Err, sym, ap, length, refl}
+use Rattle.std.proofs.Common.{◌≡◌, ◌∙◌, ◌++◌, ◌≢◌, ◌≤◌, ◌∷◌, inl, inr, ℕ, List, [], drop, Bool, true, false, not}
+use Rattle.std.proofs.Common.{append_assoc, append-nil, Result, Ok, Err, sym, ap, length, refl, arith, eqb}
+use Rattle.std.proofs.lemmas.Bool.{eqb-false}
 use Rattle.std.proofs.lemmas.List.{drop-append-le}
 use Rattle.aig_io.specs.Devices.{CanFail, Past, gave, took}
 use Rattle.aig_io.specs.Windows.{Filled}
@@ -126,25 +127,31 @@ same_word word [] more some = absurd (some refl)
 same_word word (l ∷ ls) more some = refl
 
 pub word_stays : (first lines rest more : List ℕ) → first ≡ lines ++ rest → AreEnded (lines_of lines)
-    → 0 < length lines
+    → eqb (length lines) 0 ≡ false
     → first_word_is binary_word (lines_of (first ++ more)) ≡ first_word_is binary_word (lines_of lines)
 word_stays first lines rest more cut ended some =
     ap (first_word_is binary_word) (lines_cut first lines rest more cut ended)
-    ∙ same_word binary_word (lines_of lines) (lines_of (rest ++ more)) (some_lines lines some)
+    ∙ same_word binary_word (lines_of lines) (lines_of (rest ++ more))
+    (some_lines lines (omega (arith, eqb-false (length lines) 0 some)))
 
-pub begun : (limit : ℕ) (first lines rest : List ℕ) (used : ℕ) (r : AsciiReader) → first ≡ lines ++ rest
-    → AreEnded (lines_of lines) → 0 < length lines → first_word_is binary_word (lines_of lines) ≡ false
+-- from what the code reads and tests
+pub begun : (limit : ℕ) (first lines rest : List ℕ) (used : ℕ) (r : AsciiReader) {bytes : List ℕ} → bytes ≡ first
+    → bytes ≡ lines ++ rest → AreEnded (lines_of lines) → {empty : Bool} → empty ≡ eqb (length lines) 0
+    → empty ≡ false → {word : Bool} → word ≡ first_word_is binary_word (lines_of lines) → word ≡ false
     → used ≤ length lines
     → ((more : List ℕ) → circuit_at limit (lines_of (lines ++ more)) ≡ rest_of r (lines_of (drop used lines ++ more)))
-    → (held : List ℕ) → held ≡ drop used first → IsBegun limit first held r
-begun limit first lines rest used r cut ended some other within on held is = record {
-  other = λ more. word_stays first lines rest more cut ended some ∙ other;
-  told =
-      passed (λ bytes. circuit_at limit (lines_of bytes)) (λ bytes. rest_of r (lines_of bytes)) first lines rest held
-      used cut within on is;
-}
+    → {held : List ℕ} → held ≡ drop used first → IsBegun limit first held r
+begun limit first lines rest used r all cut ended is_empty some is_word other within on {held} is =
+    let parts = sym all ∙ cut in
+    record {
+      other = λ more.
+          word_stays first lines rest more parts ended (sym is_empty ∙ some) ∙ sym is_word ∙ other;
+      told =
+          passed (λ bytes. circuit_at limit (lines_of bytes)) (λ bytes. rest_of r (lines_of bytes)) first lines rest
+          held used parts within on is;
+    }
 
-module _ (limit : ℕ) (first held : List ℕ) (r : AsciiReader) (begin : IsBegun limit first held r) where
+module _ {limit : ℕ} {first held : List ℕ} {r : AsciiReader} (begin : IsBegun limit first held r) where
   abbrev tell : List ℕ → Result Circuit ReadFault
   tell bytes = rest_of r (lines_of bytes)
 
