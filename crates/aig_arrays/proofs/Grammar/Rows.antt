@@ -1,21 +1,17 @@
 -- Rows that words tell, and the other way round.
-use Rattle.std.proofs.Common.{◌≡◌, ◌≤◌, ◌<◌, ◌∷◌, ◌++◌, ◌∙◌, ◌+◌, ◌*◌, ◌||◌, ◌⊎◌, ℕ, zero, suc, false, List, [], length}
-use Rattle.std.proofs.Common.{get_or, take, drop, Option, None, Some, Result, Ok, Err, refl, ap, sym, arith, inl, inr}
-use Rattle.std.proofs.Common.{not, ltb, eqb, ltb-false, lt-ltb, le-ltb, eq-eqb, ne_eqb, rules, subst, append_assoc}
+use Rattle.std.proofs.Common.{◌≡◌, ◌≤◌, ◌∷◌, ◌++◌, ◌∙◌, ◌+◌, ℕ, zero, suc, List, [], length, get_or, take, drop}
+use Rattle.std.proofs.Common.{Result, Ok, Err, refl, ap, sym, arith, ltb, ltb-false, le-ltb, subst, append_assoc}
 use Rattle.std.proofs.Common.{take-append-drop}
-use Rattle.std.specs.List.{AllZip, concat}
+use Rattle.std.specs.List.{concat}
 use Rattle.std.proofs.Math.Seq.{take-append_seam, drop-append_seam}
-use Rattle.std.proofs.lemmas.Bool.{or_from}
 use Rattle.std.proofs.lemmas.List.{length-append, length-take-le}
 use Rattle.std.proofs.lemmas.Slice.Zip.{AllZip-long}
 use Rattle.aig_rows.specs.declared.fault.ReadKind.{ReadKind}
-use Rattle.aig_rows.specs.declared.row.Role.TheVariants as roles
 use Rattle.aig_rows.specs.Rows.{Form, roles_of}
-use Rattle.aig_rows.specs.declared.row.Role.{Role}
-use Rattle.aig_rows.specs.Reading.{◌>>=◌, carried_on, fault_in_row, own_literal, unless_wrong}
-use Rattle.aig_rows.proofs.Kept.Checks.{IsRight, AreRight, right_parts}
+use Rattle.aig_rows.specs.Reading.{◌>>=◌, fault_in_row, own_literal, unless_wrong}
+use Rattle.aig_rows.proofs.Kept.Checks.{right_parts}
 use Rattle.aig_rows.proofs.Grammar.Entries.{AreGoodRows, IsGoodRow, MayStand}
-use Rattle.aig_rows.proofs.Grammar.Rows.{all_may_stand, or_yes}
+use Rattle.aig_rows.proofs.Grammar.Rows.{all_may_stand, carried_behind, none_wrong, unless_none}
 use Rattle.aig_rows.proofs.Steps.{both_ok, ok_same, passed}
 use Rattle.aig_arrays.specs.Told.{Ahead, at_word, behind, row_told, rows_told, width, words_told}
 use Rattle.aig_arrays.specs.declared.fault.ArrayFault.{ArrayFault}
@@ -84,10 +80,6 @@ module _ {A : Type 0} (count : ℕ) (tell : List ℕ → Result A ReadKind) (at 
       h
 
 -- one row
-pub unless_none : {A : Type 0} (x y : A) (o : Option ReadKind) → unless_wrong x o ≡ Ok y → (o ≡ None) × (x ≡ y)
-unless_none x y None h = (refl, ok_same x y h)
-unless_none x y (Some k) h = cc
-
 record IsRowFirst (form : Form) (bound carried : ℕ) (a : Ahead) (p : List ℕ × Ahead) : Type 0 where
   pub words : a.words ≡ p.0 ++ p.1.words
   pub good : IsGoodRow form bound carried p.0
@@ -106,31 +98,6 @@ row_found form bound carried a p h =
     }
 
 -- a row that may stand has no fault
-is_reset : (own n : ℕ) → (n < 2) ⊎ (n ≡ own) → not (ltb n 2 || eqb n own) ≡ false
-is_reset own n (inl small) = rw (lt-ltb n 2 small) refl
-is_reset own n (inr same) = rw (eq-eqb n own same, or_yes (ltb n 2)) refl
-
-is_right : (bound carried own : ℕ) (r : Role) (n : ℕ) → MayStand bound carried own r n → IsRight bound carried own r n
-is_right bound carried own roles.Definition n h = search (rules, le-ltb, or_from, ne_eqb)
-is_right bound carried own roles.Literal n h =
-    record { defined = refl; within = le-ltb (2 * bound + 1) n h; reset = refl; sized = refl }
-is_right bound carried own roles.Reset n h =
-    record { defined = refl; within = refl; reset = is_reset own n h; sized = refl }
-is_right bound carried own roles.Size n h =
-    record { defined = refl; within = refl; reset = refl; sized = le-ltb bound (carried + n) h }
-
-module _ (bound carried own : ℕ) where
-  more_right : (r : Role) (n : ℕ) (rs : List Role) (ns : List ℕ) → IsRight bound carried own r n
-      → AreRight bound carried own rs ns → AreRight bound carried own (r ∷ rs) (n ∷ ns)
-  more_right r n rs ns h g = search (rules, or_from)
-
-  none_wrong : (rs : List Role) (ns : List ℕ) → AllZip (MayStand bound carried own) rs ns
-      → AreRight bound carried own rs ns
-  none_wrong [] [] h = record { defined = refl; within = refl; reset = refl; sized = refl }
-  none_wrong (r ∷ rs) (n ∷ ns) h =
-      more_right r n rs ns (is_right bound carried own r n h.0) (none_wrong rs ns h.1)
-  none_wrong rs ns h = absurd h
-
 good_is_told : (form : Form) (bound carried at : ℕ) (ns rest : List ℕ) → IsGoodRow form bound carried ns
     → row_told form bound carried (ahead at (ns ++ rest)) ≡ Ok (ns, ahead (at + width form) rest)
 good_is_told form bound carried at ns rest g =
@@ -140,10 +107,6 @@ good_is_told form bound carried at ns rest g =
     rw (right.defined, right.within, right.reset, right.sized) refl in
     tells_first (width form) (λ row. unless_wrong row (fault_in_row form bound carried row)) at ns rest ns
     (AllZip-long (MayStand bound carried own) (roles_of form) ns g) none
-
--- what is carried behind a row
-abbrev pub carried_behind : Form → ℕ → List ℕ → ℕ
-carried_behind form carried ns = carried_on form.first carried (get_or ns 0 0)
 
 -- words that are so many rows, and others
 pub record AreRowsFirst (form : Form) (bound carried count : ℕ) (words : List ℕ) (rows : List (List ℕ))

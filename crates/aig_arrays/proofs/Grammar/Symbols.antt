@@ -1,12 +1,12 @@
 -- Symbols that words tell, and the other way round.
-use Rattle.std.proofs.Common.{◌≡◌, ◌≤◌, ◌<◌, ◌∷◌, ◌++◌, ◌∙◌, ◌+◌, ◌-◌, ◌&&◌, ◌==◌, ℕ, zero, suc, true, false}
+use Rattle.std.proofs.Common.{◌≡◌, ◌≤◌, ◌∷◌, ◌++◌, ◌∙◌, ◌+◌, ◌-◌, ◌&&◌, ◌==◌, ℕ, zero, suc, true, false}
 use Rattle.std.proofs.Common.{List, [], length, take, drop, Bool, cond, not, Option, None, Some, Result, Ok, refl, ap}
 use Rattle.std.proofs.Common.{sym, arith, inl, inr, rules, subst, append_assoc, append-nil, flat_map, slice_range}
 use Rattle.std.proofs.Common.{nat_le, eqb-true, eq-eqb, leb-true, le-leb}
 use Rattle.std.specs.List.{AllByRecursion, list_any}
 use Rattle.std.specs.Option.{option_map}
 use Rattle.std.proofs.Math.Seq.{take-append_seam, drop-append_seam}
-use Rattle.std.proofs.lemmas.Bool.{and_parts, or_parts, or_from, lt-leb, leb-false, eqb-false, ne_eqb, not-true}
+use Rattle.std.proofs.lemmas.Bool.{and_parts, or_parts, or_from, eqb-false, ne_eqb, not-true}
 use Rattle.std.proofs.lemmas.List.{drop-drop, length-append, length-drop, length-take-le}
 use Rattle.std.proofs.lemmas.List.Folds.{drop_split}
 use Rattle.aig_circuit.specs.declared.circuit.Circuit.{Circuit}
@@ -15,16 +15,16 @@ use Rattle.aig_circuit.specs.declared.circuit.Kind.TheVariants as kinds
 use Rattle.aig_circuit.specs.declared.circuit.Symbol.{Symbol}
 use Rattle.aig_circuit.specs.Wellformed.{IsAmong, line_feed}
 use Rattle.aig_core.specs.declared.names.Names.{Names}
-use Rattle.aig_core.specs.Names.{is_named, with_name}
-use Rattle.aig_rows.specs.declared.fault.ReadKind.TheVariants as wrong
+use Rattle.aig_core.specs.Names.{with_name}
 use Rattle.aig_rows.proofs.Steps.{both_ok, ok_same}
-use Rattle.aig_text.specs.Reading.{checked_symbol, count_named, with_symbol}
+use Rattle.aig_text.specs.Reading.{checked_symbol, with_symbol}
 use Rattle.aig_text.specs.declared.header_line.Header.{Header}
 use Rattle.aig_text.proofs.Grammar.Symbols.{AreNew}
+use Rattle.aig_text.proofs.Grammar.Tail.{checked_tells, new_is_checked}
 use Rattle.aig_arrays.specs.Told.{Ahead, is_name, kind_told, next_symbol, symbol_told, symbols_told}
 use Rattle.aig_arrays.specs.Words.{kind_word, symbol_row, symbol_words}
 use Rattle.aig_arrays.specs.declared.fault.ArrayFault.{ArrayFault}
-use Rattle.aig_arrays.proofs.Grammar.Rows.{ahead, first_told, tells_first, unless_none}
+use Rattle.aig_arrays.proofs.Grammar.Rows.{ahead, first_told, tells_first}
 
 -- the names of symbols
 abbrev pub names_in : List Symbol → List ℕ
@@ -113,25 +113,6 @@ symbol_is_told names more start s low are line =
       any_none line_feed s.name line,
       kind_again s.kind,
     ) refl
-
--- a symbol that is right
-abbrev IsNew : Header → Names → Symbol → Type 0
-IsNew h before s = (s.position < count_named h s.kind) × (is_named before s.kind s.position ≡ false)
-
-by_tests : (far twice : Bool) → cond far (Some wrong.SymbolRange) (cond twice (Some wrong.SymbolTwice) None) ≡ None
-    → (far ≡ false) × (twice ≡ false)
-by_tests false false h = (refl, refl)
-by_tests b d h = cc
-
-checked_tells : (h : Header) (before : Names) (o : Option Symbol) (s : Symbol) → checked_symbol h before o ≡ Ok s
-    → (o ≡ Some s) × IsNew h before s
-unfolding checked_symbol
-checked_tells h before None s e = cc
-checked_tells h before (Some t) s e = search (rules, unless_none, by_tests, leb-false)
-
-new_is_checked : (h : Header) (before : Names) (s : Symbol) → IsNew h before s → checked_symbol h before (Some s) ≡ Ok s
-unfolding checked_symbol
-new_is_checked h before s n = rw (lt-leb (count_named h s.kind) s.position n.0, n.1) refl
 
 -- the circuit with these symbols more
 abbrev pub with_symbols : Circuit → List Symbol → Circuit
