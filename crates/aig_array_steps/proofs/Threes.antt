@@ -80,7 +80,7 @@ gate_rows_again = rows_again gate_in gate_row AreGateWords again where
   again : (v x y z : ℕ) → AreGateWords v x y z → gate_row (gate_in x y z) ≡ x ∷ y ∷ z ∷ []
   again v x y z right = let e : literal_of (variable_of x) ≡ x = omega (arith, right.0) in ap (λ w. w ∷ y ∷ z ∷ []) e
 
--- a reset is told by its word
+-- a reset is decoded from its word
 reset_again : (own reset : ℕ) → (reset ≤ 1) ⊎ (reset ≡ own) → reset_number own (reset_of reset) ≡ reset
 reset_again own reset h =
     ⊎_elim (λ (t : (eqb reset 0 ≡ true) × (reset ≡ 0)). rw t.0 (sym t.1))

@@ -7,7 +7,7 @@ use Rattle.aig_circuit.specs.declared.circuit.Symbol.{Symbol}
 use Rattle.aig_arrays.specs.Parts.Placed.{placed}
 use Rattle.aig_arrays.specs.Words.{symbol_row, symbol_words}
 
--- one list behind another
+-- one list after another
 pub placed_twice : (at : ℕ) (xs ys array : List ℕ)
     → placed (at + length xs) ys (placed at xs array) ≡ placed at (xs ++ ys) array
 placed_twice at [] ys array = let same : at + 0 ≡ at = omega arith in ap (λ n. placed n ys array) same

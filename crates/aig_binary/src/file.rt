@@ -2,7 +2,7 @@
 ghost use Rattle.std.specs.Prelude.{◌≡◌, IfOk, IfErr, MatchResult};
 ghost use Rattle.aig_circuit.specs.declared.circuit.Circuit.{Circuit as CircuitRecord};
 ghost use Rattle.aig_text.specs.Reading.{IsFirstFault};
-ghost use Rattle.aig_rows.specs.Reading.{want_of_memory};
+ghost use Rattle.aig_rows.specs.Reading.{out_of_memory};
 ghost use Rattle.aig_binary.specs.File.{IsFileOf, first_fault};
 
 use crate::reader::{BINARY_WORD, read_binary};
@@ -21,7 +21,7 @@ pub fn read_file(
 ) -> Result<Checked, ReadFault>
     ensures ok { IfOk result (λ c. IsFileOf bytes.now limits.max_var c) }
     ensures only { (c : CircuitRecord) → IsFileOf bytes.now limits.max_var c
-        → MatchResult result (λ d. d ≡ c) (λ e. e ≡ want_of_memory) }
+        → MatchResult result (λ d. d ≡ c) (λ e. e ≡ out_of_memory) }
     ensures fault { IfErr result (λ e. IsFirstFault e (first_fault limits.max_var bytes.now)) }
 {
     if first_word_is(bytes, BINARY_WORD) {

@@ -3,7 +3,7 @@
 //!
 //! Others call `read_file`, which reads a file of either kind, and `read_source`, which reads a
 //! source to its end, a part at a time; `read_binary` and `write_binary`; `aig_unroll` also calls
-//! `put_gates`, `aig_order` also `put_binary`.
+//! `put_gates`, `aig_convert` also `put_binary`.
 //!
 //! The definitions that matter most are `IsFileOf`, `IsBinaryText`, `first_binary_fault` and
 //! `binary_text`.

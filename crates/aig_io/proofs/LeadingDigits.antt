@@ -252,7 +252,7 @@ some_power : (count : ℕ) → 0 < 10 ^ count
 some_power zero = omega arith
 some_power (suc count) = omega (arith, pow-suc 10 count, some_power count)
 
--- the last digits of a number come behind those of what is left without them
+-- the last digits of a number come after those of what is left without them
 last_of : (count n : ℕ) → 10 ^ count ≤ n → n < 2 ^ 64
     → decimal n ≡ decimal (n / 10 ^ count) ++ map (λ d. 48 + d) (last_digits count n)
 last_of zero n some fits = search rules

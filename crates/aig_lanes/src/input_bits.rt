@@ -1,5 +1,5 @@
 //! The inputs of runs as bits. They are made run by run, where the lines of a stimulus stand one
-//! behind the other: a step of all runs takes a line of each, and those lie far apart.
+//! after the other: a step of all runs takes a line of each, and those lie far apart.
 ghost use Rattle.std.specs.Prelude.{◌≡◌, ◌+◌, ◌<◌, ◌≤◌, ℕ, IfOk, List, []};
 ghost use Rattle.std.specs.Prelude.{length, slice_index_or, slice_set};
 ghost use Rattle.std.specs.List.{All};

@@ -5,9 +5,9 @@ ghost use Rattle.aig_text.specs.AsciiText.{ascii_text};
 ghost use Rattle.aig_arrays.specs.Ordered.{IsNumberedImage};
 ghost use Rattle.aig_arrays.specs.Words.{HasWords, bytes_length, circuit_bytes};
 ghost use Rattle.aig_arrays.specs.Words.{circuit_words, counts_of};
-ghost use Rattle.aig_engines.specs.Conversion.{IsTextAs};
-ghost use Rattle.aig_engines.specs.File.{IsFileOf};
-ghost use Rattle.aig_engines.specs.Reading.{IsUnreadable};
+ghost use Rattle.aig_commands.specs.Conversion.{IsTextAs};
+ghost use Rattle.aig_commands.specs.File.{IsFileOf};
+ghost use Rattle.aig_commands.specs.Reading.{IsUnreadable};
 ghost use Rattle.aig_library.specs.Arrays.{ArePlaced, HasRoom, IsReadAs, IsReadRefused};
 ghost use Rattle.aig_library.specs.Arrays.{IsShownAs, ReadAnswers, WriteAnswers, arrays};
 ghost use Rattle.aig_library.specs.Arrays.{arrays_of, in_front};
@@ -20,10 +20,10 @@ use crate::outcome::{
 };
 use aig_arrays::{Counts, counts_of, numbered_image, put_bytes, put_words, read_arrays};
 use aig_binary::{read_file_keeping, write_binary};
+use aig_commands::{Stopped, refused_whole};
+use aig_convert::into_binary;
 use aig_core::{Checked, Keep, LARGEST, OutOfMemory, Steps, VecSink};
-use aig_engines::{Stopped, refused_whole};
 use aig_fault::Kind;
-use aig_order::into_binary;
 use aig_text::{Limits, write_ascii};
 use std::alloc::Global;
 

@@ -2,7 +2,7 @@
 ghost use Rattle.std.specs.Prelude.{◌≡◌, Some};
 ghost use Rattle.aig_fault.specs.Words.{message_text};
 ghost use Rattle.aig_rows.specs.Messages.{fault_text, kind_text, place_text};
-ghost use Rattle.aig_rows.specs.Reading.{want_of_memory};
+ghost use Rattle.aig_rows.specs.Reading.{out_of_memory};
 
 use aig_circuit::{Lit, Var};
 use aig_fault::Message;
@@ -153,7 +153,7 @@ impl fmt::Display for ReadFault {
 impl Error for ReadFault {}
 
 impl From<AllocError> for ReadFault {
-    ghost from_gives = { λ _ e. e ≡ want_of_memory };
+    ghost from_gives = { λ _ e. e ≡ out_of_memory };
 
     fn from(_refused: AllocError) -> ReadFault {
         ReadFault {
@@ -164,7 +164,7 @@ impl From<AllocError> for ReadFault {
 }
 
 impl<T: Drop> From<AllocFailed<T>> for ReadFault {
-    ghost from_gives = { λ _ e. e ≡ want_of_memory };
+    ghost from_gives = { λ _ e. e ≡ out_of_memory };
 
     fn from(_refused: AllocFailed<T>) -> ReadFault {
         ReadFault {

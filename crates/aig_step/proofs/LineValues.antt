@@ -51,7 +51,7 @@ values_on (a ∷ front) b vs v are is =
     first_and (value_of a) (values_of front) (values_of (front ++ b ∷ [])) vs v
     (λ (us : List Val) (e : values_of front ≡ Some us). values_on front b us v e is) are
 
--- a character that stands for none, whatever comes before and behind it
+-- a character that stands for none, whatever comes before and after it
 pub no_values : (front rest : List ℕ) (b : ℕ) → value_of b ≡ None → values_of (front ++ b ∷ rest) ≡ None
 no_values [] rest b none = ap (option_and_then (λ u. option_map (λ us. u ∷ us) (values_of rest))) none
 no_values (a ∷ front) rest b none =

@@ -151,8 +151,7 @@ pub(crate) fn literal_code(codes: &[u8], literal: Lit) -> Code
 }
 
 /// The byte of the value that a character stands for and that of its negation, if it stands for
-/// one. Characters come in no order that could be foreseen, so there is one branch alone, which is
-/// the same for all that stand for one.
+/// one. Characters are unpredictable: one branch, for validity.
 #[inline(always)]
 fn bytes_of_character(character: u8) -> Option<[u8; 2]>
     ensures { result ≡ option_map (λ v. bytes_of_values (v ∷ [])) (value_of character) }

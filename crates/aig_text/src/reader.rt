@@ -9,7 +9,7 @@ ghost use Rattle.aig_text.specs.Reading.{tail_at, unless_faulty};
 ghost use Rattle.aig_circuit.specs.Form.{IsInForm};
 ghost use Rattle.aig_core.specs.Fault.{first_structural_fault};
 ghost use Rattle.aig_core.specs.Names.{nothing_named};
-ghost use Rattle.aig_rows.specs.Reading.{want_of_memory};
+ghost use Rattle.aig_rows.specs.Reading.{out_of_memory};
 ghost use Rattle.aig_text.specs.AsciiGrammar.{IsAsciiText};
 
 use crate::header_line::{ASCII_WORD, Header};
@@ -112,7 +112,7 @@ pub fn read_ascii(
 ) -> Result<Checked, ReadFault>
     ensures ok { IfOk result (λ c. IsAsciiText bytes.now limits.max_var c) }
     ensures only { (c : CircuitRecord) → IsAsciiText bytes.now limits.max_var c
-        → MatchResult result (λ d. d ≡ c) (λ e. e ≡ want_of_memory) }
+        → MatchResult result (λ d. d ≡ c) (λ e. e ≡ out_of_memory) }
     ensures fault { IfErr result (λ e. IsFirstFault e
         (first_ascii_fault limits.max_var bytes.now)) }
 {

@@ -196,7 +196,7 @@ module _ (w : Layout) where
   abbrev pub AreSame : Frame → Frame → Type 0
   AreSame f g = (f.run ≡ g.run) × ShowSame w.signals f.line g.line
 
-  -- how a dump ends behind the last frame, at this time
+  -- how a dump ends after the last frame, at this time
   abbrev end_text : Bool → ℕ → List ℕ
   end_text done time = if done then time_text time else []
 

@@ -30,7 +30,7 @@ fn depth(alloc: Global, circuit: &Circuit) -> Result<u32, OutOfMemory>
     let mut levels = VarMap::for_circuit(alloc, circuit)?;
     let mut depth: u32 = 0;
     for place in order.list() {
-        // A gate is listed behind those that it uses, so their levels are known.
+        // A gate is listed after those that it uses, so their levels are known.
         let gate = circuit.gates[*place as usize];
         let left = level_of(&levels, gate.left);
         let right = level_of(&levels, gate.right);

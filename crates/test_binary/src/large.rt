@@ -1,7 +1,7 @@
 //! Large circuits that are converted, undone and unrolled. What comes is in the contracts; that
 //! memory suffices is not.
+use aig_convert::{to_binary, to_binary_with_map, undo};
 use aig_core::{Checked, Keep, Steps};
-use aig_order::{to_binary, to_binary_with_map, undo};
 use aig_text::{Limits, read_ascii};
 use aig_unroll::unroll;
 use std::alloc::{AllocError, Global};

@@ -77,7 +77,7 @@ fn outcome_words(alloc: Global, outcome: &Result<Verdict, SimFault>) -> Result<S
 
 /// A source that gives a witness file in pieces of three bytes, and fails at this call.
 fn source_of(alloc: Global, witness: &str, fails_at: u64) -> Option<MemorySource>
-    ensures { IfSome result (λ source. source.past.failures ≡ 0) }
+    ensures { IfSome result (λ source. source.history.failures ≡ 0) }
 {
     let bytes = witness_bytes(alloc, witness).ok()?;
     if bytes.len() > 1000 {

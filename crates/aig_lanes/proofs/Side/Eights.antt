@@ -195,7 +195,7 @@ woven_from m = m / 2 + 128 * (m % 2)
 pub woven_within : (m : ℕ) → m < 256 → woven_from m < 256
 woven_within m below = omega (arith, below)
 
--- three weavings bring the number of a row behind the number of a byte in it
+-- three weavings bring the number of a row after the number of a byte in it
 pub woven_thrice : (octet r : ℕ) → octet < 32 → r < 8
     → woven_from (woven_from (woven_from (8 * octet + r))) ≡ 32 * r + octet
 woven_thrice octet r in_row in_rows = search rules

@@ -114,7 +114,7 @@ row_is_found form bound carried l ns h g =
       right.sized,
     ) refl
 
--- what is carried behind a row
+-- what is carried after a row
 abbrev pub carried_behind : Form → ℕ → List ℕ → ℕ
 carried_behind form carried ns = carried_on form.first carried (get_or ns 0 0)
 
@@ -146,7 +146,7 @@ abbrev then_rows : Form → ℕ → ℕ → ℕ → List ℕ × Ahead → Found 
 then_rows form bound carried count first =
     rows_at form bound (carried_behind form carried first.0) count first.1 >>= with_first first.0
 
--- what a line tells, and what is ahead behind it
+-- what a line tells, and what is ahead after it
 pub first_found : {A : Type 0} (missing : ReadKind) (tell : Line → Result A ReadKind) (n : ℕ) (l : Line)
     (ls : List Line) (p : A × Ahead)
     → line_found missing tell n (l ∷ ls) ≡ Ok p → (x : A) × (tell l ≡ Ok x) × ((x, ahead (n + 1) ls) ≡ p)

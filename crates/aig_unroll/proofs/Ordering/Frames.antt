@@ -225,7 +225,7 @@ joined_there m n xs fits =
     ∙ ap (λ ys. take (n - m) (drop m xs) ++ ys) (sym (drop-drop (n - m) m xs))
     ∙ take-append-drop (n - m) (drop m xs)
 
--- One frame more was written behind those before it.
+-- One frame more was written after those before it.
 pub frame_put : {X : Type 0} (f : ℕ → List X) (width t : ℕ) (before after : List X) → IsPutAt f width t before after
     → length (f t) ≡ width → t * width ≤ length before → take (t * width) before ≡ flat_map f (range_with_len 0 t)
     → take ((t + 1) * width) after ≡ flat_map f (range_with_len 0 (t + 1))

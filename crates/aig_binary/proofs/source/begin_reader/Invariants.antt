@@ -8,9 +8,9 @@ abbrev pub invariant-loop-reader : goal.invariant-loop-reader
 invariant-loop-reader g l =
     let d = g.R.Source in
     record {
-      came : Filled l.fn.window l.window true (d.past l.fn.source) (d.past l.source);
+      came : Filled l.fn.window l.window true (d.history l.fn.source) (d.history l.source);
       bound : length l.window + d.bound l.source ≤ 2 ^ 62;
-      countable : CanFail (d.past l.source);
+      countable : CanFail (d.history l.source);
     }
 
 abbrev pub decreases-loop-reader : goal.decreases-loop-reader

@@ -8,10 +8,10 @@ abbrev pub invariant-loop-source : goal.invariant-loop-source
 invariant-loop-source g l =
     let d = g.R.Source in
     record {
-      came : Filled l.fn.bytes.items (take l.len l.bytes.items) true (d.past l.fn.source) (d.past l.source);
+      came : Filled l.fn.bytes.items (take l.len l.bytes.items) true (d.history l.fn.source) (d.history l.source);
       within : l.len ≤ vec_len l.bytes;
       bound : d.bound l.source + l.len ≡ d.bound l.fn.source + vec_len l.fn.bytes;
-      countable : CanFail (d.past l.source);
+      countable : CanFail (d.history l.source);
     }
 
 abbrev pub decreases-loop-source : goal.decreases-loop-source
