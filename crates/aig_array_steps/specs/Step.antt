@@ -43,7 +43,7 @@ value_bytes c a =
     map value_byte (map a (range_with_len 0 (1 + c.max_var))
     ++ map (literal_value a) (c.outputs ++ c.bad ++ c.constraints ++ next_literals c))
 
--- The bytes of inputs and state stand behind the first, and all bytes are now those of a step from there.
+-- The bytes of inputs and state stand after the first, and all bytes are now those of a step from there.
 pub record IsStepped (c : Circuit) (before after : List ℕ) : Type 0 where
   pub a : ℕ → Val
   pub given : List Val

@@ -69,7 +69,7 @@ module _ (c : Circuit) (order : List ℕ) (good : IsWellFormed c) (least : IsLea
       refl
       ∙ ap (range_with_len 1) (omega (arith, many))
 
-  -- the variable of a gate stands behind those of inputs and latches
+  -- the variable of a gate stands after those of inputs and latches
   above : (v : ℕ) → IsAmong v (variables c.gates) → start ≤ number v
   above v of_gate =
       let defined : IsAmong v (defined_variables c) = among_last first (variables c.gates) v of_gate in

@@ -153,7 +153,7 @@ counts_fit n words bytes =
 abbrev pub comment_in : Counts → List ℕ → Option (List ℕ)
 comment_in n bytes = if n.has_comment == 0 then None else Some bytes
 
--- the circuit with the comment that stands behind the names
+-- the circuit with the comment that stands after the names
 abbrev pub with_comment_decoded : Counts → List ℕ → Circuit → Circuit
 with_comment_decoded n bytes c = record c { comment = comment_in n (drop n.name_bytes bytes) }
 

@@ -29,7 +29,7 @@ abbrev pub AnswersFile : ℕ → Result Circuit ReadFault → List ℕ → Type 
 AnswersFile limit (Ok c) bytes = IsFileOf bytes limit c
 AnswersFile limit (Err fault) bytes = IsFirstFault fault (first_fault limit bytes)
 
--- More bytes came, and are held behind the others: whatever the source gave before, it gave them too; and it goes on or
+-- More bytes came, and are held after the others: whatever the source gave before, it gave them too; and it goes on or
 -- is at its end, as it was before or since.
 pub record ComesOn (held held_now : List ℕ) (more more_now : Bool) (source source_now : History) : Type 0 where
   pub given : List ℕ

@@ -127,7 +127,7 @@ abbrev pub closing : {T E : Type 0} → Result T E → End
 closing (Ok closed) = Written
 closing (Err fault) = NotKept
 
--- the use of the file behind a device, where it ended so, over the uses before it
+-- the use of the file after a device, where it ended so, over the uses before it
 abbrev pub uses_after : Option (List ℕ) → List ℕ → End → List Use → List Use
 uses_after None bytes end before = before
 uses_after (Some name) bytes end before = used name bytes end ∷ before

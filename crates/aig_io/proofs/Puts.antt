@@ -13,17 +13,17 @@ use Rattle.aig_io.specs.Devices.{History, TookBeginning, failed_once, took}
 use Rattle.aig_io.specs.Output.{WentOut, Out, Appended}
 use Rattle.aig_io.proofs.Took.{took_twice}
 
--- n bytes were put into a block that held some: it was filled, and what is behind it was held once blocks were sent
+-- n bytes were put into a block that held some: it was filled, and what is after it was held once blocks were sent
 pub left_behind : (held count n left : ℕ) → held ≤ ROOM → count ≡ min (ROOM - held) n → count < n
     → left ≡ (n - count - 1) % ROOM + 1 → left ≡ (held + n - 1) % ROOM + 1
 left_behind held count n left short filled more is = omega arith
 
--- a text was put behind what is held, where a block has room for both
+-- a text was put after what is held, where a block has room for both
 pub left_within : (held filled text : List ℕ) → filled ≡ held ++ text → 0 < length text → length filled ≤ ROOM
     → length filled ≡ (length held + length text - 1) % ROOM + 1
 left_within held filled text e some within = grind (arith, common_steps)
 
--- a text has more bytes with another behind it
+-- a text has more bytes with another after it
 pub some_first : (t u : List ℕ) → 0 < length t → 0 < length (t ++ u)
 some_first t u some = omega (arith, length-append t u)
 
@@ -138,7 +138,7 @@ module _ {W : Type 0} where
       → Appended b c (take n (drop at bytes)) → Appended a c (take (at + n) bytes)
   put_next a b c bytes at n p q = rw take-add (put_twice a b c (take at bytes) (take n (drop at bytes)) p q)
 
-  -- the first bytes of a text were put, and then those behind them
+  -- the first bytes of a text were put, and then those after them
   pub put_rest : (a b c : Out W) (bytes : List ℕ) (at : ℕ) → Appended a b (take at bytes) → Appended b c (drop at bytes)
       → Appended a c bytes
   put_rest a b c bytes at p q =

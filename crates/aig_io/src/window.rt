@@ -10,7 +10,7 @@ use crate::transfer::ReadError;
 use std::alloc::{AllocError, Global};
 use std::marker::Model;
 
-/// Bytes that a source gave, not let go yet, and room behind them.
+/// Bytes that a source gave, not let go yet, and room after them.
 #[derive(Drop)]
 pub struct Window {
     bytes: Vec<u8>,

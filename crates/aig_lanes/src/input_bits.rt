@@ -35,7 +35,7 @@ fn other_than(text: &[u8], first: usize, character: u8) -> u64
         .to_bitmask()
 }
 
-/// The characters from one on, fewer than 64, and zeros behind them.
+/// The characters from one on, fewer than 64, and zeros after them.
 fn pad(text: &[u8], first: usize) -> [u8; 64]
     requires { first ≤ length text.now × length text.now < first + 64 }
     ensures { (k : ℕ) → first + k < length text.now

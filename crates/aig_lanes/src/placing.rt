@@ -102,7 +102,7 @@ struct Placing {
     places: Vec<u32>,
     /// Of each place the variable that stands there.
     holders: Vec<u32>,
-    /// Places whose variables nothing reads any more, and behind them room for more.
+    /// Places whose variables nothing reads any more, and after them room for more.
     free: Vec<u32>,
     /// How many places are free.
     free_count: usize,

@@ -86,7 +86,7 @@ module _ (inputs : Inputs) where
   no_fault : (answer : AnswerRecord) (fault : Fault) → Comes inputs (jobs.Write answer) (Err fault) → ⊥
   no_fault answer fault comes = elim comes [ ]
 
-  -- of a reading behind which an answer is written
+  -- of a reading after which an answer is written
   module _ (reading : Reading) (IsText : List ℕ → Type 0)
       (last : (next : Job) → Makes reading (input_at inputs (source_of reading)) next → WritesText IsText next) where
     pub last_text : (text : List ℕ) → Comes inputs (jobs.Read reading) (Ok text) → IsText text

@@ -28,7 +28,7 @@ ReadAndWrittenIsConverted =
     ↔ IsConversionText (conversion (if is_ascii then numbers.ascii else 0) max_var) input text
 
 -- Arrays that are read in order are those that are read again of what the conversion to binary writes of the file, with
--- the new numbers behind the words.
+-- the new numbers after the words.
 abbrev pub OrderedArraysAreConverted : Type 0
 OrderedArraysAreConverted =
     (max_var : ℕ) (input text : List ℕ) (made : Arrays) → IsReadAs numbers.ordered max_var input made

@@ -36,7 +36,7 @@ abbrev pub IsShownAs : (ordered : Bool) → (found shown : Circuit) → (numbers
 IsShownAs true found shown numbers = IsNumberedImage found shown numbers
 IsShownAs false found shown numbers = (shown ≡ found) × (numbers ≡ [])
 
--- the words of a circuit with these numbers behind them, its bytes and its counts
+-- the words of a circuit with these numbers after them, its bytes and its counts
 abbrev pub arrays_of : Circuit → (numbers : List ℕ) → Arrays
 arrays_of shown numbers = arrays (circuit_words shown ++ numbers) (circuit_bytes shown) (counts_of shown)
 
@@ -54,7 +54,7 @@ pub record IsReadAs (options max_var : ℕ) (input : List ℕ) (made : Arrays) :
 abbrev pub HasRoom : (made before : Arrays) → Type 0
 HasRoom made before = (length made.words ≤ length before.words) × (length made.bytes ≤ length before.bytes)
 
--- at the front, and what stood behind is as it was
+-- at the front, and what stood after is as it was
 abbrev pub in_front : (made before : List ℕ) → List ℕ
 in_front made before = made ++ drop (length made) before
 

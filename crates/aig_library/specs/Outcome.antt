@@ -68,7 +68,7 @@ step_outcome step_faults.NotOrdered = fault_outcome (fault_at kinds.NotOrdered p
 step_outcome (step_faults.TooShort length) = ending numbers.too_short 0 length
 step_outcome (step_faults.BadValue value) = fault_outcome (fault_at kinds.BadValue (places.Value value) 0)
 
--- The text is at the front of the output, and what stood behind it is as it was; or it has more bytes than there is
+-- The text is at the front of the output, and what stood after it is as it was; or it has more bytes than there is
 -- room for, and the output is as it was. The outcome tells how many bytes it has: the first is that of a text that was
 -- placed.
 abbrev pub IsPlacedAs : (ℕ → Outcome) → (text before after : List ℕ) → Outcome → Type 0

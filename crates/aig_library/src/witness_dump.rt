@@ -39,7 +39,7 @@ fn verdict_and_dump(
     }
 }
 
-/// Puts a comment and a run behind it at the front of the output, where there is room for both.
+/// Puts a comment and a run after it at the front of the output, where there is room for both.
 fn place_texts(verdict: Verdict, comment: &[u8], run: &[u8], output: &mut [u8]) -> Outcome
     ensures { IsPlacedAs (verdict_outcome verdict) (comment.now ++ run.now)
         output.old output.new result }

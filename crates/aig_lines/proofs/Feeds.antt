@@ -86,7 +86,7 @@ fitting room front text fits =
     let all : room ≡ length front + (room - length front) = omega arith in
     ap (λ (k : ℕ). take k (front ++ text)) all ∙ take-append-add front text (room - length front)
 
--- the bytes of a buffer behind those that were kept: as many as fit
+-- the bytes of a buffer after those that were kept: as many as fit
 pub kept_more : (b text after copied : List ℕ) (len count : ℕ) → len ≤ length b
     → count ≡ min (length b - len) (length text) → copied ≡ take count text
     → take (len + count) (take len b ++ (copied ++ after)) ≡ take (length b) (take len b ++ text)

@@ -20,7 +20,7 @@ pub record IsTraceUpTo (c : Circuit) (columns : Columns) (bytes : List ℕ) (end
   pub is_text : IsTraceText c columns bytes ended text
 
 -- All came, no line is bad, and its trace was taken. Or memory was refused before a device was called; the trace was
--- taken of what came, which has a bad line, or behind which the source failed; or the sink failed on the way.
+-- taken of what came, which has a bad line, or after which the source failed; or the sink failed on the way.
 abbrev pub TraceSays : Circuit → Columns → Result (Unit {0}) SimFault → List ℕ → Ending → List ℕ → Delivery → Type 0
 TraceSays c columns (Ok done) bytes ending text delivery =
     (ending ≡ AtEnd) × (delivery ≡ All) × IsTraceUpTo c columns bytes true None text

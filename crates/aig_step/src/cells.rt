@@ -1,4 +1,4 @@
-//! A table of values as bytes: each value with its negation behind it, so that a literal is the
+//! A table of values as bytes: each value with its negation after it, so that a literal is the
 //! place of its own value.
 ghost use Rattle.std.specs.Prelude.{◌≡◌, ◌+◌, ◌-◌, ◌*◌, ◌<◌, ◌≤◌, ◌^◌, [], ◌∷◌, length, slice_set};
 ghost use Rattle.std.specs.Prelude.{IfOk, List, Some, None, false, option_map, true};

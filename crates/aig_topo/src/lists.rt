@@ -22,7 +22,7 @@ use std::alloc::{AllocError, Global};
 /// Each number is one more than a position, or 0 for none.
 #[derive(Clone, Copy)]
 struct GateNode {
-    /// What the left operand needs; once the gate waits, the gate behind it in its list.
+    /// What the left operand needs; once the gate waits, the gate after it in its list.
     next: u32,
     /// What the right operand needs; once the gate waits, what it needs beside that.
     rest: u32,

@@ -179,7 +179,7 @@ module _ (c : Circuit) (frames t : ℕ) (formed : IsWellFormed c) (ordered : IsI
       gate_places (1 + length c.inputs + length c.latches) (1 + length c.inputs + length c.latches + length c.gates)
       places here c.gates (omega arith) (omega (arith, places_are, gates_fit)) ordered.gates
 
--- the chain behind some constraints is the last one's gate
+-- the chain after some constraints is the last one's gate
 chain_end : (v chain x : ℕ) (xs : List ℕ) → chain_behind v chain (x ∷ xs) ≡ literal_of (v + length xs)
 chain_end v chain x [] = omega arith
 chain_end v chain x (y ∷ ys) = chain_end (v + 1) (literal_of v) y ys ∙ omega arith
@@ -204,7 +204,7 @@ pub chain_before : (c : Circuit) (frames t : ℕ) → 0 < t → 0 < length c.con
 chain_before c frames zero later some = absurd (omega (arith, later))
 chain_before c frames (suc t) later some = search (rules, suc-mul, chain_last)
 
--- The next frame: its inputs and gates are behind those of this one, and its latches have what stands for their next
+-- The next frame: its inputs and gates are after those of this one, and its latches have what stands for their next
 -- literals in this one.
 module _ (c : Circuit) (frames t input gate : ℕ) (substitution next : List ℕ)
     (is : IsFrame c frames t input gate substitution next) (more : t + 1 < frames) (latches : List ℕ)

@@ -92,7 +92,7 @@ abbrev pub chained : ℕ → ℕ → List ℕ → List Gate
 chained v chain [] = []
 chained v chain (x ∷ xs) = gate_of v chain x ∷ chained (v + 1) (literal_of v) xs
 
--- the chain behind these constraints
+-- the chain after these constraints
 abbrev pub chain_behind : ℕ → ℕ → List ℕ → ℕ
 chain_behind v chain [] = chain
 chain_behind v chain (x ∷ xs) = chain_behind (v + 1) (literal_of v) xs

@@ -269,7 +269,7 @@ impl Frames {
         put_copies(substitution, self.first_gate, first, gates, out);
     }
 
-    /// Puts the gates of constraints and of bad states in the frame, which are behind the copies.
+    /// Puts the gates of constraints and of bad states in the frame, which are after the copies.
     fn put_behind(&self, out: &mut [Gate])
         requires { length out.old
             ≡ length self.now.circuit.constraints + length self.now.circuit.bad }

@@ -1,5 +1,5 @@
 //! What stands for literals in a frame, and the loops that put it. A table says what stands for
-//! each variable up to the last latch; the variables behind them are those of gates, which follow
+//! each variable up to the last latch; the variables after them are those of gates, which follow
 //! on one another in each frame.
 ghost use Rattle.std.specs.Prelude.{◌≡◌, ◌+◌, ◌≤◌, length, map};
 ghost use Rattle.std.specs.List.{All, range_with_len};

@@ -118,7 +118,7 @@ impl GateText for GateDeltas {
 /// How many gates are made at once, and more where a frame ends.
 const PIECE: usize = 256;
 
-/// How much room the gates of a frame take: a piece of the copies, and what is behind them.
+/// How much room the gates of a frame take: a piece of the copies, and what is after them.
 pub(crate) fn room_of_gates(circuit: &Circuit) -> usize
     requires { IsWellFormed circuit.now }
     ensures { result ≡ gate_room circuit.now }
@@ -166,7 +166,7 @@ fn put_rest<F: GateText, W: Sink>(
     F::put_some(output, &room[..count]);
 }
 
-/// What is behind the copies is put together with the last of these.
+/// What is after the copies is put together with the last of these.
 fn put_frame_gates<F: GateText, W: Sink>(output: &mut Output<W>, copies: &Frames, room: &mut [Gate])
     requires { length room.old ≡ gate_room copies.now.circuit }
     ensures { Appended output.old output.new

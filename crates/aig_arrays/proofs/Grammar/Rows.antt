@@ -25,7 +25,7 @@ ok_at_word : {A : Type 0} (n : ℕ) (r : Result A ReadKind) (x : A) → at_word 
 ok_at_word n (Ok y) x h = cc
 ok_at_word n (Err e) x h = cc
 
--- so many words are there and tell something, and what is ahead is behind them
+-- so many words are there and tell something, and what is ahead is after them
 pub record IsDecodedFirst {A : Type 0} (count : ℕ) (tell : List ℕ → Result A ReadKind) (a : Ahead)
     (p : A × Ahead) : Type 0 where
   pub first : List ℕ

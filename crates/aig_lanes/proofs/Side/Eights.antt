@@ -20,7 +20,7 @@ use Rattle.aig_lanes.proofs.Side.InputBits.{bit_of_byte}
 use Rattle.aig_lanes.proofs.Side.Sheets.{rows_with, text_long, zip_drop, zip_take}
 use borrow.Rule.Slice.PartMut.{put_mid}
 
--- two lists, each with another behind it
+-- two lists, each with another after it
 zip_append : (f : ℕ → ℕ → ℕ) (xs ys highs lows : List ℕ) → length xs ≡ length ys
     → zip2 f (xs ++ highs) (ys ++ lows) ≡ zip2 f xs ys ++ zip2 f highs lows
 zip_append f [] [] highs lows same = refl

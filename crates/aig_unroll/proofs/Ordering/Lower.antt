@@ -37,7 +37,7 @@ first_below n v (resets.Uninit ∷ rs) some fits =
     let next : v + (1 + uninitialised rs) ≤ n = fits in
     (omega arith, first_below n (v + 1) rs some (omega arith))
 
--- the chain behind constraints
+-- the chain after constraints
 pub chain_below : (v chain : ℕ) (xs : List ℕ) → IsBelow v chain → IsBelow (v + length xs) (chain_behind v chain xs)
 chain_below v chain [] below = omega arith
 chain_below v chain (x ∷ xs) below =
@@ -115,7 +115,7 @@ module _ (c : Circuit) (frames : ℕ) where
       let behind = chain_below (first_constraint c frames t) (chain_at c frames t) c.constraints (omega arith) in
       omega (arith, next_gate c frames t)
 
-  -- and behind its constraints, before the gates of bad states
+  -- and after its constraints, before the gates of bad states
   pub chain_behind_below : (t : ℕ)
       → IsBelow (first_constraint c frames t + length c.constraints) (chain_at c frames (suc t))
   chain_behind_below t =

@@ -102,7 +102,7 @@ module _ (a : ℕ → Val) where
   variables_values v (x ∷ xs) all =
       ap₂ (λ (y : Val) (ys : List Val). y ∷ ys) (variable_value v ∙ all.0) (variables_values (v + 1) xs all.1)
 
--- the values of the chain behind each of these
+-- the values of the chain after each of these
 abbrev pub chain_values : Val → List Val → List Val
 chain_values held [] = []
 chain_values held (x ∷ xs) = value_and held x ∷ chain_values (value_and held x) xs
@@ -140,7 +140,7 @@ module _ (a : ℕ → Val) where
     chained_hold (v + 1) (literal_of v) (value_and held (literal_value a l)) ls (variable_value a v ∙ all.0) all.1,
   )
 
-  -- and the literal behind the chain has the `and` of all
+  -- and the literal after the chain has the `and` of all
   pub chain_goes_on : (v chain : ℕ) (held : Val) (ls : List ℕ) (xs : List Val)
       → literal_value a chain ≡ held → length ls ≡ length xs → StandAt a v (chain_values held xs)
       → literal_value a (chain_behind v chain ls) ≡ and_all held xs

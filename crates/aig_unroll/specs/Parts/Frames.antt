@@ -54,7 +54,7 @@ circuit_with inputs outputs bad gates = record {
   comment = None;
 }
 
--- the gates of a frame behind those of the circuit, where this stands for literals, these have the variables from this
+-- the gates of a frame after those of the circuit, where this stands for literals, these have the variables from this
 -- one on, and this is the chain before the frame
 abbrev pub behind_by : (ℕ → ℕ) → ℕ → ℕ → Circuit → List Gate
 behind_by f first chain c =

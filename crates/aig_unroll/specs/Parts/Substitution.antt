@@ -9,7 +9,7 @@ use Rattle.aig_circuit.specs.Literal.{negation_of, variable_of}
 abbrev pub with_sign : ℕ → ℕ → ℕ
 with_sign literal stands = if literal % 2 == 0 then stands else negation_of stands
 
--- What stands for a literal. Variables behind the table are those of gates, which are numbered from this one on.
+-- What stands for a literal. Variables after the table are those of gates, which are numbered from this one on.
 abbrev pub substituted : List ℕ → ℕ → ℕ → ℕ
 substituted substitution first literal =
     if nat_lt (variable_of literal) (length substitution)

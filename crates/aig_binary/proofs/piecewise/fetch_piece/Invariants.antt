@@ -3,7 +3,7 @@ use Rattle.aig_io.specs.Windows.{Filled}
 use Rattle.aig_io.specs.Devices.{CanFail}
 use Rattle.aig_binary.proofs.piecewise.fetch_piece.Given as goal
 
--- what came is held behind what was held
+-- what came is held after what was held
 abbrev pub invariant-loop-window : goal.invariant-loop-window
 invariant-loop-window g l =
     let d = g.R.Source in

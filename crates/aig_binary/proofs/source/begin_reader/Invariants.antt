@@ -3,7 +3,7 @@ use Rattle.aig_io.specs.Windows.{Filled}
 use Rattle.aig_io.specs.Devices.{CanFail}
 use Rattle.aig_binary.proofs.source.begin_reader.Given as goal
 
--- what came is held behind what was held
+-- what came is held after what was held
 abbrev pub invariant-loop-reader : goal.invariant-loop-reader
 invariant-loop-reader g l =
     let d = g.R.Source in

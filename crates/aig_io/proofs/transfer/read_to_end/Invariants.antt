@@ -3,7 +3,7 @@ use Rattle.aig_io.specs.Devices.{CanFail}
 use Rattle.aig_io.specs.Windows.{Filled}
 use Rattle.aig_io.proofs.transfer.read_to_end.Given as goal
 
--- what came is held behind what was held, and room behind that
+-- what came is held after what was held, and room after that
 abbrev pub invariant-loop-source : goal.invariant-loop-source
 invariant-loop-source g l =
     let d = g.R.Source in
