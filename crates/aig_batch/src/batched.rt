@@ -2,7 +2,6 @@
 ghost use Rattle.std.specs.Prelude.{◌≡◌, ℕ, List, None, length, true};
 ghost use Rattle.std.specs.List.{All};
 ghost use Rattle.aig_circuit.specs.declared.circuit.Circuit.{Circuit as CircuitRecord};
-ghost use Rattle.aig_io.specs.Devices.{CanFail};
 ghost use Rattle.aig_io.specs.Runs.{AtEnd, Sent, Transferred};
 ghost use Rattle.aig_batch.specs.Batched.{BatchSays};
 ghost use Rattle.aig_step.specs.Outcome.{first_bad_line};
@@ -50,7 +49,6 @@ fn trace_good<W: Sink>(
 ) -> Result<(), DeviceFault>
     requires fresh { IsFresh reader }
     requires same { reader.tracing.columns ≡ bench.old.shown.columns }
-    requires sink { CanFail (W.history sink.old) }
     requires runs { All (All (IsRunOf reader.tracing.circuit)) groups.now }
     requires room { All (HasRoomFor reader.tracing.circuit bench.old) groups.now }
     ensures { (c : CircuitRecord) (bytes : List ℕ) → MeansTheSame c reader.tracing.circuit
@@ -73,7 +71,6 @@ fn trace_lines<W: Sink>(
     bytes: &[u8],
 ) -> Result<(), DeviceFault>
     requires fresh { IsFresh reader }
-    requires sink { CanFail (W.history sink.old) }
     ensures { (c : CircuitRecord) → MeansTheSame c reader.tracing.circuit
         → first_bad_line c bytes.now true ≡ None
         → Sent (BatchSays c reader.tracing.columns (of_sink result) bytes.now AtEnd)
@@ -97,7 +94,6 @@ fn trace_collected<W: Sink>(
     requires same { MeansTheSame checked.now reader.tracing.circuit }
     requires columns { reader.tracing.columns ≡ columns }
     requires none_bad { first_bad_line checked.now bytes.now true ≡ None }
-    requires sink { CanFail (W.history sink.old) }
     ensures { Sent (BatchSays checked.now columns result bytes.now AtEnd)
         (W.history sink.old) (W.history sink.new) }
 {
@@ -146,8 +142,6 @@ pub fn simulate_batched<R: Source, W: Sink>(
     source: &mut R,
     sink: &mut W,
 ) -> Result<(), SimFault>
-    requires source { CanFail (R.history source.old) }
-    requires sink { CanFail (W.history sink.old) }
     ensures transferred { Transferred (BatchSays checked.now columns result)
         (R.history source.old) (R.history source.new) (W.history sink.old) (W.history sink.new) }
 {

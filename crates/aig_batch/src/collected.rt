@@ -1,6 +1,6 @@
 //! A whole stimulus, judged line by line while it comes.
 ghost use Rattle.std.specs.Prelude.{◌≡◌, [], IfErr, IfOk, None, OnOk, length, true};
-ghost use Rattle.aig_io.specs.Devices.{CanFail, gave_all};
+ghost use Rattle.aig_io.specs.Devices.{gave_all};
 ghost use Rattle.aig_io.specs.Runs.{Read};
 ghost use Rattle.aig_lines.specs.Feeders.{IsInitial};
 ghost use Rattle.aig_step.specs.Outcome.{first_bad_line};
@@ -43,7 +43,6 @@ fn collect_into<R: Source>(
     source: &mut R,
     bytes: &mut Vec<u8>,
 ) -> Result<(), SimFault>
-    requires source { CanFail (R.history source.old) }
     requires initial { IsInitial feeder.old }
     requires limit { feeder.old.limit ≡ longest_entry (length checked.now.inputs) }
     requires none { bytes.old.items ≡ [] }
@@ -82,7 +81,6 @@ pub(crate) fn collect<R: Source>(
     checked: &Checked,
     source: &mut R,
 ) -> Result<Vec<u8>, SimFault>
-    requires { CanFail (R.history source.old) }
     ensures came { IfOk result (λ all. R.history source.new
         ≡ gave_all all.items (R.history source.old)) }
     ensures good { IfOk result (λ all. first_bad_line checked.now all.items true ≡ None) }

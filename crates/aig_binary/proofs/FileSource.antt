@@ -3,7 +3,7 @@ use Rattle.std.proofs.Common.{◌≡◌, ◌∙◌, ◌++◌, ◌≢◌, ◌≤�
 use Rattle.std.proofs.Common.{append_assoc, append-nil, Result, Ok, Err, sym, ap, length, refl, arith, eqb}
 use Rattle.std.proofs.lemmas.Bool.{eqb-false}
 use Rattle.std.proofs.lemmas.List.{drop-append-le}
-use Rattle.aig_io.specs.Devices.{CanFail, History, gave, took}
+use Rattle.aig_io.specs.Devices.{History, gave, took}
 use Rattle.aig_io.specs.Windows.{Filled}
 use Rattle.aig_io.proofs.Took.{gave_then, took_none, some_later}
 use Rattle.aig_circuit.specs.declared.circuit.Circuit.{Circuit}
@@ -29,10 +29,6 @@ use Rattle.aig_binary.specs.BinaryReading.{binary_reading}
 use Rattle.aig_binary.specs.File.{IsFileOf, file_reading}
 use Rattle.aig_binary.proofs.Grammar.Accepted.{read_is_ordered, read_is_well_formed, reading_is_accepted}
 use Rattle.aig_binary.proofs.Grammar.Read.{line_fault}
-
-pub can_fail_still : (ended : Bool) (xs : List ℕ) (a b : History) → b ≡ gave xs ended a → CanFail a → CanFail b
-can_fail_still true xs a b is can = rw is can
-can_fail_still false xs a b is can = rw is can
 
 -- reading goes on
 reads_on_then : (x y z : Result Circuit ReadFault) → ReadsOn x y → ReadsOn y z → ReadsOn x z

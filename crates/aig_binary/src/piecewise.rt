@@ -3,7 +3,7 @@ ghost use Rattle.std.specs.Prelude.{◌≡◌, ◌+◌, ◌^◌, ◌<◌, ◌≤
 ghost use Rattle.std.specs.Prelude.{List, Result, IfErr, IfOk, IsOk, IsTrue};
 ghost use Rattle.std.specs.Prelude.{OnOk, drop, false, length, vec_len};
 ghost use Rattle.aig_circuit.specs.declared.circuit.Circuit.{Circuit as CircuitRecord};
-ghost use Rattle.aig_io.specs.Devices.{CanFail, GaveSome};
+ghost use Rattle.aig_io.specs.Devices.{GaveSome};
 ghost use Rattle.aig_io.specs.Windows.{Filled};
 ghost use Rattle.aig_rows.specs.declared.fault.ReadFault.{ReadFault as Fault};
 ghost use Rattle.aig_lines.specs.Lines.{lines_of, HasNoLineFeed};
@@ -96,7 +96,6 @@ pub(crate) fn fetch_piece<R: Source, P: Pieces>(
     window: &mut Window,
     least: usize,
 ) -> Result<bool, ReadError>
-    requires { CanFail (R.history source.old) }
     ensures ok { IfOk result (λ more. Filled window.old window.new more (R.history source.old)
         (R.history source.new)) }
     ensures least { IfOk result (λ more. IsTrue more → least ≤ length window.new) }
@@ -123,7 +122,6 @@ pub(crate) fn fetch_all<R: Source>(
     window: Window,
     more: bool,
 ) -> Result<Vec<u8>, ReadError>
-    requires { CanFail (R.history source.old) }
     ensures ok { IfOk result (λ all. ComesOn window all.items more false (R.history source.old)
         (R.history source.new)) }
     ensures bound { IfOk result (λ all. vec_len all ≤ R.bound source.old + length window) }
@@ -143,7 +141,6 @@ fn read_pieces<R: Source, P: Pieces>(
     window: &mut Window,
     reader: &mut P,
 ) -> Result<bool, ReadError>
-    requires source { CanFail (R.history source.old) }
     requires valid { P.is_valid reader.old }
     requires counted { P.next_line reader.old + length window.old + R.bound source.old ≤ 2 ^ 63 }
     ensures ok { IfOk result (λ more. ReadsFrom (P.rest reader.old) (P.rest reader.new)
@@ -181,7 +178,6 @@ pub(crate) fn read_rest<R: Source, P: Pieces>(
     window: Window,
     reader: P,
 ) -> Result<Circuit, SourceFault>
-    requires source { CanFail (R.history source.old) }
     requires valid { P.is_valid reader }
     requires counted { P.next_line reader + length window + R.bound source.old ≤ 2 ^ 63 }
     ensures { ReadsAs

@@ -1,7 +1,7 @@
 //! A source that is read to its end as a file of either kind.
 ghost use Rattle.std.specs.Prelude.{◌≡◌, ◌+◌, ◌^◌, ◌≤◌, ◌++◌, List, ℕ, IfErr, IfOk, IfSome};
 ghost use Rattle.std.specs.Prelude.{MatchOption, false, length, not, true};
-ghost use Rattle.aig_io.specs.Devices.{CanFail, GaveSome, History, gave};
+ghost use Rattle.aig_io.specs.Devices.{GaveSome, History, gave};
 ghost use Rattle.aig_io.specs.Windows.{Filled};
 ghost use Rattle.aig_lines.specs.Lines.{lines_of};
 ghost use Rattle.aig_text.specs.Reading.{first_word_is};
@@ -37,7 +37,6 @@ fn fit(bytes: &mut Vec<u8>) -> bool
 
 /// The first bytes of a source, with a line at least, and whether it goes on.
 fn fetch_first<R: Source>(alloc: Global, source: &mut R) -> Result<(Window, bool), ReadError>
-    requires { CanFail (R.history source.old) }
     ensures ok { IfOk result (λ x. R.history source.new
         ≡ gave x.0 (not x.1) (R.history source.old)) }
     ensures bound { IfOk result (λ x. R.bound source.new + length x.0 ≤ 2 ^ 62) }
@@ -85,7 +84,6 @@ fn begin_reader<R: Source>(
     window: &mut Window,
     limits: Limits,
 ) -> Result<(Option<BinaryReader>, bool), ReadError>
-    requires source { CanFail (R.history source.old) }
     requires counted { length window.old + R.bound source.old ≤ 2 ^ 62 }
     ensures begun { IfOk result (λ found. MatchOption found.0
         (Filled window.old window.new found.1 (R.history source.old) (R.history source.new))
@@ -127,7 +125,6 @@ fn read_whole<R: Source>(
     limits: Limits,
     keep: Keep,
 ) -> Result<Checked, SourceFault>
-    requires { CanFail (R.history source.old) }
     ensures { (before : History) → R.history source.old ≡ gave window (not more) before
         → ReadsAs (AnswersFile limits.max_var) result before (R.history source.new) }
 {
@@ -146,7 +143,6 @@ fn read_binary_file<R: Source>(
     window: Window,
     limits: Limits,
 ) -> Result<Checked, SourceFault>
-    requires source { CanFail (R.history source.old) }
     requires counted { length window + R.bound source.old ≤ 2 ^ 62 }
     requires binary { (more : List ℕ)
         → first_word_is binary_word (lines_of (window ++ more)) ≡ true }
@@ -170,7 +166,6 @@ pub fn read_source<R: Source>(
     limits: Limits,
     keep: Keep,
 ) -> Result<Checked, SourceFault>
-    requires { CanFail (R.history source.old) }
     ensures { ReadsAs (AnswersFile limits.max_var) result (R.history source.old)
         (R.history source.new) }
 {

@@ -2,7 +2,7 @@
 ghost use Rattle.std.specs.List.{All, flat_map};
 ghost use Rattle.std.specs.Prelude.{◌≡◌, ◌+◌, ◌-◌, ◌*◌, ◌<◌, ◌≤◌, length, take, OnErr, OnOk};
 ghost use Rattle.aig_io.specs.Output.{Appended};
-ghost use Rattle.aig_io.specs.Devices.{CanFail, took, TookBeginning};
+ghost use Rattle.aig_io.specs.Devices.{took, TookBeginning};
 ghost use Rattle.aig_circuit.specs.Wellformed.{IsWithinLimits};
 ghost use Rattle.aig_circuit.specs.declared.circuit.Latch.{Latch as LatchRecord};
 ghost use Rattle.aig_text.specs.AsciiText.{line_text, row_text};
@@ -104,7 +104,6 @@ pub fn put_binary<W: Sink>(output: &mut Output<W>, ordered: &Ordered)
 /// memory and fails only where the sink fails; the sink then took a beginning of the text, and is
 /// not called again.
 pub fn write_binary<W: Sink>(ordered: &Ordered, sink: &mut W) -> Result<(), WriteFault>
-    requires { CanFail (W.history sink.old) }
     ensures ok { OnOk result (W.history sink.new ≡ took (binary_text ordered.now)
         (W.history sink.old)) }
     ensures err { OnErr result (TookBeginning (binary_text ordered.now) (W.history sink.old)

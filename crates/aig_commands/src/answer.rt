@@ -2,7 +2,7 @@
 ghost use Rattle.std.specs.Prelude.{◌≡◌, IfErr, OnErr, OnOk};
 ghost use Rattle.aig_commands.specs.declared.stopped.Stopped.TheVariants.{WriteFailed};
 ghost use Rattle.aig_fault.specs.Words.{message_text};
-ghost use Rattle.aig_io.specs.Devices.{CanFail, took, TookBeginning};
+ghost use Rattle.aig_io.specs.Devices.{took, TookBeginning};
 ghost use Rattle.aig_commands.specs.Jobs.{text_of};
 ghost use Rattle.aig_commands.specs.Refuting.{none_text};
 ghost use Rattle.aig_commands.specs.Unrolling.{unrolled_text};
@@ -43,7 +43,6 @@ fn write_unrolled<W: Sink>(
     circuit: Unrolling,
     sink: &mut W,
 ) -> Result<(), WriteFault>
-    requires { CanFail (W.history sink.old) }
     ensures ok { OnOk result (W.history sink.new
         ≡ took (unrolled_text form circuit) (W.history sink.old)) }
     ensures err { OnErr result (TookBeginning (unrolled_text form circuit)
@@ -58,7 +57,6 @@ fn write_unrolled<W: Sink>(
 
 /// Sends a text. On an error the sink took a beginning of it.
 fn send_text<W: Sink>(text: &[u8], sink: &mut W) -> Result<(), DeviceFault>
-    requires { CanFail (W.history sink.old) }
     ensures ok { OnOk result (W.history sink.new ≡ took text.now (W.history sink.old)) }
     ensures err { OnErr result (TookBeginning text.now (W.history sink.old) (W.history sink.new)) }
 {
@@ -70,7 +68,6 @@ fn send_text<W: Sink>(text: &[u8], sink: &mut W) -> Result<(), DeviceFault>
 
 /// Sends a message. On an error the sink took a beginning of it.
 pub(crate) fn send_message<W: Sink>(message: &Message, sink: &mut W) -> Result<(), DeviceFault>
-    requires { CanFail (W.history sink.old) }
     ensures ok { OnOk result (W.history sink.new ≡ took (message_text message.now)
         (W.history sink.old)) }
     ensures err { OnErr result (TookBeginning (message_text message.now)
@@ -84,7 +81,6 @@ pub(crate) fn send_message<W: Sink>(message: &Message, sink: &mut W) -> Result<(
 
 /// Sends the line that no run of so many steps reaches a bad state.
 fn send_none_within<W: Sink>(frames: u32, sink: &mut W) -> Result<(), DeviceFault>
-    requires { CanFail (W.history sink.old) }
     ensures ok { OnOk result (W.history sink.new ≡ took (none_text frames) (W.history sink.old)) }
     ensures err { OnErr result (TookBeginning (none_text frames)
         (W.history sink.old) (W.history sink.new)) }
@@ -98,7 +94,6 @@ fn send_none_within<W: Sink>(frames: u32, sink: &mut W) -> Result<(), DeviceFaul
 impl Answer {
     /// Writes its text. It fails only where the sink fails, which then took a beginning of it.
     pub fn write<W: Sink>(self, sink: &mut W) -> Result<(), Stopped>
-        requires { CanFail (W.history sink.old) }
         ensures ok { OnOk result (W.history sink.new ≡ took (text_of self) (W.history sink.old)) }
         ensures err { OnErr result (TookBeginning (text_of self)
             (W.history sink.old) (W.history sink.new)) }

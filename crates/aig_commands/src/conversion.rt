@@ -3,7 +3,6 @@ ghost use Rattle.std.specs.Prelude.{◌≡◌, ◌≢◌, ◌<◌, [], true, IfE
 ghost use Rattle.aig_fault.specs.declared.fault.Place.TheVariants.{Whole};
 ghost use Rattle.aig_fault.specs.declared.kind.Kind.TheVariants.{HasBad};
 ghost use Rattle.aig_commands.specs.Stopping.{fault_at, StopsFor};
-ghost use Rattle.aig_io.specs.Devices.{CanFail};
 ghost use Rattle.aig_io.specs.Runs.{Read, Transferred};
 ghost use Rattle.aig_map.specs.Undone.{IsMapFault};
 ghost use Rattle.aig_command.specs.Answer.{IsKeptAlone};
@@ -102,7 +101,6 @@ pub(crate) fn read_conversion<R: Source>(
     request: &ToAig,
     source: &mut R,
 ) -> Result<Answer, Stopped>
-    requires source { CanFail (R.history source.old) }
     requires kept_alone { IsKeptAlone request.now }
     ensures read { Read (ReadSays (λ answer bytes.
         IsConversionText request.now bytes (text_of answer))
@@ -127,8 +125,6 @@ pub fn run_toaig<R: Source, W: Sink>(
     source: &mut R,
     sink: &mut W,
 ) -> Result<(), Stopped>
-    requires source { CanFail (R.history source.old) }
-    requires sink { CanFail (W.history sink.old) }
     requires kept_alone { IsKeptAlone request.now }
     ensures transferred { Transferred (Says (IsConversionText request.now)
         (IsConversionRefused request.now) result)

@@ -1,5 +1,4 @@
 //! Files of either kind.
-ghost use Rattle.aig_io.specs.Devices.{CanFail};
 ghost use Rattle.aig_io.specs.Runs.{Read};
 ghost use Rattle.aig_commands.specs.File.{IsFileOf};
 ghost use Rattle.aig_commands.specs.Reading.{AtItsEnd, IsUnreadable, ReadSays};
@@ -18,7 +17,6 @@ pub fn read_circuit<R: Source>(
     max_var: u32,
     keep: Keep,
 ) -> Result<Checked, Stopped>
-    requires { CanFail (R.history source.old) }
     ensures read { Read
         (ReadSays (λ found bytes. IsFileOf bytes max_var found) (AtItsEnd (IsUnreadable max_var))
         result)

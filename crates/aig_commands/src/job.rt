@@ -2,7 +2,6 @@
 ghost use Rattle.std.specs.Prelude.{◌≡◌, ℕ, List, IfOk};
 ghost use Rattle.aig_command.specs.Answer.{CanDo as CanAsk, IsCommand};
 ghost use Rattle.aig_command.specs.declared.request.Names.{Names as NamesRecord};
-ghost use Rattle.aig_io.specs.Devices.{CanFail};
 ghost use Rattle.aig_io.specs.Runs.{Read};
 ghost use Rattle.aig_commands.specs.Jobs.{CanDo, CanRead, job_of, Makes, read_for};
 ghost use Rattle.aig_commands.specs.Jobs.{Refuses, source_of};
@@ -124,7 +123,6 @@ impl Reading {
     /// Reads it, and answers what is to be done then. Of what a solver wrote no more is read than
     /// is needed to refuse it.
     pub fn read<R: Source>(self, alloc: Global, source: &mut R) -> Result<Job, Stopped>
-        requires source { CanFail (R.history source.old) }
         requires can_read { CanRead self }
         ensures read { Read (ReadSays (λ next bytes. Makes self bytes next) (Refuses self) result)
             (R.history source.old) (R.history source.new) }

@@ -1,6 +1,5 @@
 //! `aigunroll --invariant`: an invariant, and a solver's proof that no bad state is ever reached.
 ghost use Rattle.std.specs.Prelude.{◌<◌, IfOk, length};
-ghost use Rattle.aig_io.specs.Devices.{CanFail};
 ghost use Rattle.aig_io.specs.Runs.{Read};
 ghost use Rattle.aig_commands.specs.Proving.{IsInvariantModel, IsInvariantText, NotInvariantModel};
 ghost use Rattle.aig_commands.specs.Proving.{IsNeverText, IsStrengthened, NotStrengthened};
@@ -28,7 +27,6 @@ pub(crate) fn read_proving_model<R: Source>(
     request: &Invariant,
     model: &mut R,
 ) -> Result<Checked, Stopped>
-    requires { CanFail (R.history model.old) }
     ensures { Read (ReadSays (λ selected bytes. IsInvariantModel request.now bytes selected)
         (AtItsEnd (NotInvariantModel request.now)) result) (R.history model.old)
         (R.history model.new) }
@@ -45,7 +43,6 @@ pub(crate) fn read_strengthened<R: Source>(
     selected: Checked,
     source: &mut R,
 ) -> Result<Checked, Stopped>
-    requires { CanFail (R.history source.old) }
     ensures read { Read (ReadSays (λ strengthened bytes. IsStrengthened selected bytes strengthened)
         (AtItsEnd (NotStrengthened selected)) result) (R.history source.old)
         (R.history source.new) }
@@ -62,7 +59,6 @@ pub(crate) fn read_clauses<R: Source>(
     selected: Checked,
     source: &mut R,
 ) -> Result<Answer, Stopped>
-    requires { CanFail (R.history source.old) }
     ensures read { Read (ReadSays (λ answer bytes. IsInvariantText selected bytes (text_of answer))
         (AtItsEnd (NotStrengthened selected)) result) (R.history source.old)
         (R.history source.new) }
@@ -82,7 +78,6 @@ pub(crate) fn read_never<R: Source>(
     strengthened: Checked,
     source: &mut R,
 ) -> Result<(), Stopped>
-    requires source { CanFail (R.history source.old) }
     requires can_unroll { CanUnroll strengthened 1 }
     ensures { Read (ReadSays (λ _ _. IsNeverText _request.now strengthened never_text)
         IsRefutationRefused result) (R.history source.old) (R.history source.new) }

@@ -3,7 +3,6 @@ ghost use Rattle.std.specs.Prelude.{◌≡◌, ◌<◌, ◌≤◌, IfErr, IfOk, 
 ghost use Rattle.aig_circuit.specs.declared.circuit.Circuit.{Circuit as CircuitRecord};
 ghost use Rattle.aig_command.specs.Aiger.{most_frames};
 ghost use Rattle.aig_command.specs.declared.request.UnrolledForm.TheVariants.{Clauses};
-ghost use Rattle.aig_io.specs.Devices.{CanFail};
 ghost use Rattle.aig_io.specs.Runs.{Read};
 ghost use Rattle.aig_replay.specs.Alone.{HasSelected, selected_of};
 ghost use Rattle.aig_unroll.specs.Outcome.{HasClauses};
@@ -72,7 +71,6 @@ pub(crate) fn read_selected<R: Source>(
     request: &Reach,
     model: &mut R,
 ) -> Result<Checked, Stopped>
-    requires source { CanFail (R.history model.old) }
     requires frames { (1 ≤ request.now.frames) × (request.now.frames ≤ most_frames) }
     ensures read { Read (ReadSays (λ selected bytes. IsSelectedModel request.now bytes selected)
         (AtItsEnd (IsModelRefused request.now)) result) (R.history model.old)
@@ -90,7 +88,6 @@ fn read_answer<R: Source>(
     selected: &Checked,
     source: &mut R,
 ) -> Result<Answer, Stopped>
-    requires source { CanFail (R.history source.old) }
     requires fits { ¬ IsTooLarge selected.now request.now.frames }
     ensures read { Read (ReadSays (λ answer bytes.
         IsReachText request.now selected.now bytes (text_of answer))
@@ -110,7 +107,6 @@ pub(crate) fn read_solved<R: Source>(
     selected: Checked,
     source: &mut R,
 ) -> Result<Answer, Stopped>
-    requires source { CanFail (R.history source.old) }
     requires can_unroll { CanUnroll selected request.now.frames }
     ensures read { Read (ReadSays (λ answer bytes.
         IsSolvedText request.now.wrote request.now selected bytes (text_of answer))

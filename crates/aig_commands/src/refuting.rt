@@ -1,7 +1,6 @@
 //! A solver's proof that the clauses of a circuit cannot be satisfied.
 ghost use Rattle.std.specs.Prelude.{◌≡◌, ◌<◌, IfErr, IfOk, length};
 ghost use Rattle.aig_commands.specs.declared.stopped.Stopped.TheVariants.{OutOfMemory};
-ghost use Rattle.aig_io.specs.Devices.{CanFail};
 ghost use Rattle.aig_io.specs.Runs.{Read};
 ghost use Rattle.aig_unroll.specs.Unrolled.{IsUnrolled};
 ghost use Rattle.aig_commands.specs.Jobs.{text_of};
@@ -36,7 +35,6 @@ pub(crate) fn read_refutation<R: Source>(
     frames: u32,
     source: &mut R,
 ) -> Result<(), Stopped>
-    requires source { CanFail (R.history source.old) }
     requires can_unroll { CanUnroll selected.now frames }
     ensures { Read (ReadSays (λ _ _. IsUnsatisfiable selected.now frames) IsRefutationRefused
         result)
@@ -56,7 +54,6 @@ pub(crate) fn read_none_within<R: Source>(
     selected: &Checked,
     source: &mut R,
 ) -> Result<Answer, Stopped>
-    requires source { CanFail (R.history source.old) }
     requires can_unroll { CanUnroll selected.now request.now.frames }
     ensures read { Read (ReadSays (λ answer _. IsNoneText request.now selected.now (text_of answer))
         IsRefutationRefused result) (R.history source.old) (R.history source.new) }

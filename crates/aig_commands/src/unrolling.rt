@@ -1,7 +1,6 @@
 //! `aigunroll`: copies of a circuit in time, as one circuit or as clauses.
 ghost use Rattle.std.specs.Prelude.{◌≡◌, ◌<◌, ◌≤◌, IfErr, IfOk, length, OnOk};
 ghost use Rattle.aig_commands.specs.Stopping.{StopsFor};
-ghost use Rattle.aig_io.specs.Devices.{CanFail};
 ghost use Rattle.aig_io.specs.Runs.{Read, Transferred};
 ghost use Rattle.aig_command.specs.Answer.{HasFrames};
 ghost use Rattle.aig_replay.specs.Alone.{HasSelected, NotSelected, selected_of};
@@ -74,7 +73,6 @@ pub(crate) fn read_unrolling<R: Source>(
     request: &Unroll,
     source: &mut R,
 ) -> Result<Answer, Stopped>
-    requires source { CanFail (R.history source.old) }
     requires frames { HasFrames request.now }
     ensures read { Read (ReadSays (λ answer bytes.
         IsUnrollingText request.now bytes (text_of answer))
@@ -98,8 +96,6 @@ pub fn run_unroll<R: Source, W: Sink>(
     source: &mut R,
     sink: &mut W,
 ) -> Result<(), Stopped>
-    requires source { CanFail (R.history source.old) }
-    requires sink { CanFail (W.history sink.old) }
     requires frames { HasFrames request.now }
     ensures transferred { Transferred (Says (IsUnrollingText request.now)
         (IsUnrollingRefused request.now) result)

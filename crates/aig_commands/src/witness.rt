@@ -1,6 +1,6 @@
 //! `aigsim --witness`: a witness file, judged for the circuit of a model.
 ghost use Rattle.std.specs.Prelude.{◌≡◌, OnErr, OnOk, true};
-ghost use Rattle.aig_io.specs.Devices.{CanFail, took, TookBeginning};
+ghost use Rattle.aig_io.specs.Devices.{took, TookBeginning};
 ghost use Rattle.aig_io.specs.Runs.{Transferred};
 ghost use Rattle.aig_fault.specs.Words.{message_text};
 ghost use Rattle.aig_command.specs.Answer.{IsWitnessAlone};
@@ -29,7 +29,6 @@ fn answer_line(verdict: Verdict) -> Message
 /// Sends the line of a verdict. It fails only where the sink fails, which then took a beginning of
 /// the line.
 fn send_answer<W: Sink>(verdict: Verdict, sink: &mut W) -> Result<(), DeviceFault>
-    requires { CanFail (W.history sink.old) }
     ensures ok { OnOk result (W.history sink.new ≡ took (answer_line verdict)
         (W.history sink.old)) }
     ensures err { OnErr result (TookBeginning (answer_line verdict)
@@ -47,8 +46,6 @@ pub fn judge<R: Source, W: Sink>(
     witness: &mut R,
     output: &mut W,
 ) -> Result<Verdict, Stopped>
-    requires witness { CanFail (R.history witness.old) }
-    requires output { CanFail (W.history output.old) }
     ensures transferred { Transferred (AnswerSays found result)
         (R.history witness.old) (R.history witness.new) (W.history output.old)
         (W.history output.new) }
@@ -72,9 +69,6 @@ pub fn run_witness<M: Source, R: Source, W: Sink>(
     witness: &mut R,
     output: &mut W,
 ) -> Result<Verdict, Stopped>
-    requires model { CanFail (M.history model.old) }
-    requires witness { CanFail (R.history witness.old) }
-    requires output { CanFail (W.history output.old) }
     requires asked { request.now.witness ≡ true }
     requires alone { IsWitnessAlone request.now }
     ensures transferred { TransferredFor request.now (λ found. AnswerSays found result) result

@@ -1,6 +1,6 @@
 //! The mapped image of a circuit: the binary image with a map block, by which it can be undone.
 ghost use Rattle.std.specs.Prelude.{◌≡◌, ◌+◌, ◌*◌, ◌≤◌, None, IfOk, OnErr, OnOk, length, min};
-ghost use Rattle.aig_io.specs.Devices.{CanFail, took, TookBeginning};
+ghost use Rattle.aig_io.specs.Devices.{took, TookBeginning};
 ghost use Rattle.aig_io.specs.Output.{Appended};
 ghost use Rattle.aig_circuit.specs.declared.circuit.TheConstants.{LARGEST};
 ghost use Rattle.aig_circuit.specs.Wellformed.{IsWellFormed};
@@ -89,7 +89,6 @@ impl MappedImage {
 /// no memory and fails only where the sink fails; the sink then took a beginning of the text, and
 /// is not called again.
 pub fn write_mapped<W: Sink>(image: &MappedImage, sink: &mut W) -> Result<(), WriteFault>
-    requires { CanFail (W.history sink.old) }
     ensures ok { OnOk result (W.history sink.new ≡ took (binary_text image.now)
         (W.history sink.old)) }
     ensures err { OnErr result (TookBeginning (binary_text image.now) (W.history sink.old)

@@ -1,6 +1,5 @@
 //! What a simulation writes: its trace, or the dump of that.
 ghost use Rattle.std.specs.Prelude.{◌≡◌, Err, if◌then◌else◌};
-ghost use Rattle.aig_io.specs.Devices.{CanFail};
 ghost use Rattle.aig_io.specs.Runs.{Transferred};
 ghost use Rattle.aig_step.specs.declared.fault.SimFault.TheVariants.{WriteFailed};
 ghost use Rattle.aig_dump.specs.Dumped.{DumpSays, TraceSaysAs};
@@ -22,8 +21,6 @@ pub fn write_trace<R: Source, W: Sink>(
     stimulus: &mut R,
     output: &mut W,
 ) -> Result<(), SimFault>
-    requires stimulus { CanFail (R.history stimulus.old) }
-    requires output { CanFail (W.history output.old) }
     ensures stimulus { (R.history stimulus.new).origin ≡ (R.history stimulus.old).origin }
     ensures output { (W.history output.new).origin ≡ (W.history output.old).origin }
     ensures transferred { Transferred (TraceSaysAs batch found.now columns result)
@@ -56,8 +53,6 @@ pub fn write_dump<R: Source, W: Sink>(
     stimulus: &mut R,
     output: &mut W,
 ) -> Result<(), SimFault>
-    requires stimulus { CanFail (R.history stimulus.old) }
-    requires output { CanFail (W.history output.old) }
     ensures stimulus { (R.history stimulus.new).origin ≡ (R.history stimulus.old).origin }
     ensures transferred { Transferred (DumpSays batch found.now result)
         (R.history stimulus.old) (R.history stimulus.new) (W.history output.old)

@@ -1,6 +1,6 @@
 //! The dump of a witness's run, from a source to a sink.
 ghost use Rattle.std.specs.Prelude.{◌≡◌, ◌++◌, IfErr, IfOk, MatchResult, OnErr, OnOk};
-ghost use Rattle.aig_io.specs.Devices.{CanFail, gave_all, took, TookBeginning};
+ghost use Rattle.aig_io.specs.Devices.{gave_all, took, TookBeginning};
 ghost use Rattle.aig_io.specs.Runs.{AtEnd, Read};
 ghost use Rattle.aig_claims.specs.RunDump.{HasNoDump, comment_line};
 ghost use Rattle.aig_dump.specs.InMemory.{JudgedRun};
@@ -18,7 +18,6 @@ fn read_witness<R: Source>(
     found: &Checked,
     witness: &mut R,
 ) -> Result<Vec<u8>, SimFault>
-    requires { CanFail (R.history witness.old) }
     ensures ok { IfOk result (λ bytes. R.history witness.new
         ≡ gave_all bytes.items (R.history witness.old)) }
     ensures err { IfErr result (λ fault. Read (HasNoDump found.now fault)
@@ -37,7 +36,6 @@ pub fn read_and_dump<R: Source>(
     found: Checked,
     witness: &mut R,
 ) -> Result<(Verdict, Vec<u8>), SimFault>
-    requires { CanFail (R.history witness.old) }
     ensures read { Read (λ bytes ending. MatchResult result
         (λ made. (ending ≡ AtEnd) × JudgedRun found made.0 bytes made.1.items)
         (λ fault. HasNoDump found fault bytes ending))
@@ -59,7 +57,6 @@ pub fn read_and_dump<R: Source>(
 /// Sends the verdict and the dump of a run. It fails only where the sink fails, which then took a
 /// beginning of them.
 pub fn send_dump<W: Sink>(verdict: Verdict, run: &[u8], sink: &mut W) -> Result<(), WriteFault>
-    requires { CanFail (W.history sink.old) }
     ensures ok { OnOk result (W.history sink.new
         ≡ took (comment_line verdict ++ run.now) (W.history sink.old)) }
     ensures err { OnErr result

@@ -16,7 +16,7 @@ pub struct NamedSource<'a, A: FileAccess> {
     name: &'a str,
     stage: Stage,
     left: u64,
-    failures: u64,
+    failures: Record,
     ends: Record,
 }
 
@@ -30,11 +30,11 @@ impl<'a, A: FileAccess> Model for NamedSource<'a, A> {
 
     ghost view = { λ s.
         history_at s.access.ghost_name s.name.now s.stage (A.files s.access.now)
-        (sum_of s.ends.notes) s.failures };
+        (sum_of s.ends.notes) (sum_of s.failures.notes) };
 
     ghost invariant = { λ s. IsAt false s.name.now s.stage (A.files s.access.now)
         × HasCounted s.stage (bytes_at s.stage (A.files s.access.now))
-        (sum_of s.ends.notes) s.failures
+        (sum_of s.ends.notes) (sum_of s.failures.notes)
         × (s.left + length (bytes_at s.stage (A.files s.access.now)) ≡ 2 ^ 62) };
 }
 
@@ -50,7 +50,7 @@ impl<'a, A: FileAccess> NamedSource<'a, A> {
             name,
             stage: Stage::Untouched,
             left: 1 << 62,
-            failures: 0,
+            failures: Record::new(),
             ends: Record::new(),
         }
     }
@@ -133,13 +133,9 @@ impl<A: FileAccess> Source for NamedSource<'_, A> {
             }
             Err(fault) => {
                 self.stage = Stage::Failed;
-                self.failures += 1;
+                self.failures.note(&[1], &[]);
                 Err(fault)
             }
         }
-    }
-
-    fn failures(&self) -> u64 {
-        self.failures
     }
 }

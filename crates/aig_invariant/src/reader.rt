@@ -2,7 +2,7 @@
 ghost use Rattle.std.specs.Prelude.{◌≡◌, map, Err, IfErr, IfOk, Ok, OnOk};
 ghost use Rattle.aig_circuit.specs.declared.circuit.Latch.{Latch as LatchRecord};
 ghost use Rattle.aig_circuit.specs.Wellformed.{IsWellFormed};
-ghost use Rattle.aig_io.specs.Devices.{CanFail, gave_all};
+ghost use Rattle.aig_io.specs.Devices.{gave_all};
 ghost use Rattle.aig_io.specs.Runs.{AtEnd, Read};
 ghost use Rattle.aig_lines.specs.Lines.{lines_of};
 ghost use Rattle.aig_invariant.specs.Invariant.{with_cubes};
@@ -68,7 +68,6 @@ fn read_bytes<R: Source>(
     found: &Checked,
     source: &mut R,
 ) -> Result<Vec<u8>, InvariantFault>
-    requires { CanFail (R.history source.old) }
     ensures ok { IfOk result (λ bytes. R.history source.new
         ≡ gave_all bytes.items (R.history source.old)) }
     ensures err { IfErr result (λ fault. Read (NotInvariant found.now fault)
@@ -90,7 +89,6 @@ pub fn with_invariant<R: Source>(
     found: Checked,
     source: &mut R,
 ) -> Result<Checked, InvariantFault>
-    requires { CanFail (R.history source.old) }
     ensures { Read (InvariantSays found result) (R.history source.old) (R.history source.new) }
 {
     match read_bytes(alloc, &found, source) {

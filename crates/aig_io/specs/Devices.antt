@@ -1,5 +1,5 @@
 -- What a source gave and a sink took, whatever they are (this project's devices).
-use Rattle.std.specs.Prelude.{◌≡◌, ◌+◌, ◌-◌, ◌<◌, ◌^◌, ◌++◌, ℕ, zero, suc, List, [], Bool, true, false, take}
+use Rattle.std.specs.Prelude.{◌≡◌, ◌+◌, ◌++◌, ℕ, zero, suc, List, [], Bool, true, false, take}
 use Rattle.std.specs.Prelude.{Option, None, Result, Ok, Err}
 use base.Stored.{Gv, gnil}
 use Rattle.aig_io.specs.Files.{Use}
@@ -29,10 +29,6 @@ pub record History : Type 0 where
 -- no call was made yet
 abbrev pub unused : Origin → History
 unused origin = record { origin = origin; bytes = []; ends = 0; failures = 0 }
-
--- one more failure can be counted
-abbrev pub CanFail : History → Type 0
-CanFail history = history.failures < 2 ^ 64 - 1
 
 -- how many bytes a sink is handed at most in one slice
 abbrev pub block_size : ℕ

@@ -12,16 +12,17 @@ use std::marker::Model;
 #[derive(Drop)]
 pub struct VecSink {
     bytes: Vec<u8>,
-    failures: u64,
+    failures: Record,
 }
 
 impl Model for VecSink {
     ghost use Rattle.aig_io.specs.Devices.{History, no_file};
+    ghost use Rattle.aig_io.specs.Notes.{sum_of};
 
     ghost Value = { History };
 
     ghost view = { λ s.
-        record { origin = no_file; bytes = s.bytes.items; ends = 0; failures = s.failures } };
+        record { origin = no_file; bytes = s.bytes.items; ends = 0; failures = sum_of s.failures.notes } };
 }
 
 impl VecSink {
@@ -31,7 +32,7 @@ impl VecSink {
     {
         VecSink {
             bytes: Vec::new(alloc),
-            failures: 0,
+            failures: Record::new(),
         }
     }
 
@@ -41,7 +42,7 @@ impl VecSink {
     {
         Ok(VecSink {
             bytes: Vec::with_capacity(alloc, room)?,
-            failures: 0,
+            failures: Record::new(),
         })
     }
 
@@ -58,14 +59,10 @@ impl Sink for VecSink {
 
     fn send(&mut self, bytes: &[u8]) -> Result<usize, DeviceFault> {
         if self.bytes.extend_from_slice(bytes).is_err() {
-            self.failures += 1;
+            self.failures.note(&[1], &[]);
             return Err(DeviceFault);
         }
         Ok(bytes.len())
-    }
-
-    fn failures(&self) -> u64 {
-        self.failures
     }
 }
 
@@ -134,10 +131,5 @@ impl Source for SliceSource<'_> {
             self.ends.note(&[1], &[]);
         }
         Ok(count)
-    }
-
-    fn failures(&self) -> u64 {
-        let _bytes = self.bytes;
-        0
     }
 }

@@ -2,7 +2,6 @@
 ghost use Rattle.std.specs.Prelude.{◌≡◌, ◌+◌, ◌-◌, ◌*◌, ◌%◌, ◌<◌, ◌≤◌, [], ◌++◌};
 ghost use Rattle.std.specs.Prelude.{length, take, false, decimal, codes};
 ghost use Rattle.std.specs.Prelude.{is_err};
-ghost use Rattle.aig_io.specs.Devices.{CanFail};
 ghost use Rattle.aig_io.specs.Output.{Appended, output_to, row_text};
 ghost use Rattle.aig_io.specs.declared.block.TheConstants.{ROOM};
 ghost use Rattle.aig_io.specs.declared.digits.TheConstants.{MOST_DIGITS};
@@ -24,21 +23,16 @@ pub struct Output<'a, W: Sink> {
 }
 
 impl<'a, W: Sink> Model for Output<'a, W> {
-    ghost use Rattle.std.specs.Prelude.{◌≡◌, false};
-    ghost use Rattle.aig_io.specs.Devices.{CanFail};
     ghost use Rattle.aig_io.specs.Output.{Out, output_to};
 
     ghost Value = { Out W };
 
     ghost view = { λ o. output_to W.history o.sink o.block o.failed };
-
-    ghost invariant = { λ o. o.failed ≡ false → CanFail (W.history o.sink.now) };
 }
 
 impl<'a, W: Sink> Output<'a, W> {
     /// Nothing is on its way yet.
     pub fn new(sink: &'a mut W) -> Self
-        requires { CanFail (W.history sink.old) }
         ensures { result ≡ output_to W.history sink.entry [] false }
     {
         Output {

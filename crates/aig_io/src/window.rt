@@ -1,7 +1,7 @@
 //! A window over the bytes of a source.
 ghost use Rattle.std.specs.Prelude.{◌≡◌, ◌+◌, ◌^◌, ◌<◌, ◌≤◌, ◌++◌, []};
 ghost use Rattle.std.specs.Prelude.{drop, length, IfErr, IfOk, IsTrue, OnOk};
-ghost use Rattle.aig_io.specs.Devices.{CanFail, GaveSome};
+ghost use Rattle.aig_io.specs.Devices.{GaveSome};
 ghost use Rattle.aig_io.specs.Windows.{Filled};
 
 use crate::device::Source;
@@ -66,7 +66,6 @@ impl Window {
 
     /// Fetches more bytes, and answers whether any came. None come at the end of the source.
     pub fn fill<R: Source>(&mut self, source: &mut R) -> Result<bool, ReadError>
-        requires { CanFail (R.history source.old) }
         ensures ok { IfOk result (λ more.
             Filled self.old self.new more (R.history source.old) (R.history source.new)) }
         ensures bound { OnOk result

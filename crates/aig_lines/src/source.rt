@@ -1,6 +1,5 @@
 //! The bytes of a source, from the first to the end.
 ghost use Rattle.std.specs.Prelude.{◌≡◌};
-ghost use Rattle.aig_io.specs.Devices.{CanFail};
 ghost use Rattle.aig_lines.specs.Feeders.{FoldedSource, IsInitial};
 
 use crate::feeder::{LineFeeder, LineTaker};
@@ -15,7 +14,6 @@ pub fn feed_source<T: LineTaker, R: Source>(
 ) -> Result<bool, DeviceFault>
     requires initial { IsInitial feeder.old }
     requires counted { T.counted taker.old ≡ 0 }
-    requires source { CanFail (R.history source.old) }
     ensures { (s : T.State) → T.IsAt taker.old s → FoldedSource T.step T.IsAt feeder.old.limit s
         (R.history source.old) (R.history source.new) result feeder.new taker.new }
 {

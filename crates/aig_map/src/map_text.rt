@@ -2,7 +2,7 @@
 ghost use Rattle.std.specs.Prelude.{◌≡◌, ◌++◌, [], length, IfOk, OnOk};
 ghost use Rattle.std.specs.List.{flat_map};
 ghost use Rattle.std.specs.Option.{unwrap_or};
-ghost use Rattle.aig_io.specs.Devices.{CanFail, took};
+ghost use Rattle.aig_io.specs.Devices.{took};
 ghost use Rattle.aig_io.specs.Output.{Appended};
 ghost use Rattle.aig_text.specs.AsciiText.{numbers_text};
 ghost use Rattle.aig_map.specs.declared.map_block.MappedGate.{MappedGate as MappedRecord};
@@ -98,7 +98,6 @@ fn write_comment<W: Sink>(
     comment: &Option<Listing<u8>>,
     sink: &mut W,
 ) -> Result<(), DeviceFault>
-    requires { CanFail (W.history sink.old) }
     ensures { OnOk result (W.history sink.new
         ≡ took (block_text block.now ++ unwrap_or comment.now []) (W.history sink.old)) }
 {

@@ -4,7 +4,7 @@ ghost use Rattle.aig_answer.specs.Answer.{answer_of, closed};
 ghost use Rattle.aig_answer.specs.Laws.{read_from};
 ghost use Rattle.aig_answer.specs.declared.reader.Spot.TheVariants.{Wrong};
 ghost use Rattle.aig_answer.specs.declared.reader.Status.TheVariants.{Satisfiable};
-ghost use Rattle.aig_io.specs.Devices.{CanFail, gave_all};
+ghost use Rattle.aig_io.specs.Devices.{gave_all};
 ghost use Rattle.aig_io.specs.Runs.{AtEnd, Read};
 ghost use Rattle.aig_replay.specs.Parts.{NotTaken};
 
@@ -40,7 +40,6 @@ fn check_said(reader: Reader) -> Result<(), AnswerFault>
 /// Reads an answer that the clauses can be satisfied, to its end, and puts its values. After a
 /// wrong byte nothing more is fetched, since a wrong text need not end.
 pub(crate) fn read_answer<R: Source>(answer: &mut R, bits: &mut [u8]) -> Result<(), AnswerFault>
-    requires { CanFail (R.history answer.old) }
     ensures ok { OnOk result ((bytes : List ℕ)
         × (R.history answer.new ≡ gave_all bytes (R.history answer.old))
         × (answer_of (closed (read_from bits.old bytes).reader) ≡ Ok Satisfiable)

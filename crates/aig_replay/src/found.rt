@@ -4,7 +4,7 @@ ghost use Rattle.std.specs.Prelude.{map, replicate};
 ghost use Rattle.aig_circuit.specs.declared.circuit.Circuit.{Circuit as CircuitRecord};
 ghost use Rattle.aig_circuit.specs.declared.circuit.Latch.{Latch as LatchRecord};
 ghost use Rattle.aig_circuit.specs.Wellformed.{IsWellFormed};
-ghost use Rattle.aig_io.specs.Devices.{CanFail, TookBeginning, took};
+ghost use Rattle.aig_io.specs.Devices.{TookBeginning, took};
 ghost use Rattle.aig_io.specs.Output.{Appended};
 ghost use Rattle.aig_io.specs.Runs.{Read};
 ghost use Rattle.aig_meaning.specs.Meaning.{MeansTheSame};
@@ -152,7 +152,6 @@ fn find_by_answer<R: Source>(
     bits: &mut [u8],
     first: &mut [u8],
 ) -> Result<FoundRun, AnswerFault>
-    requires source { CanFail (R.history answer.old) }
     requires latches { length first.old ≡ length stepper.old.circuit.latches }
     ensures { (d : CircuitRecord) → IsWellFormed d → MeansTheSame d stepper.old.circuit
         → bits.old ≡ replicate (all_inputs d frames) 48
@@ -176,7 +175,6 @@ pub fn find_witness<R: Source>(
     selected: Option<u32>,
     answer: &mut R,
 ) -> Result<FoundWitness, AnswerFault>
-    requires source { CanFail (R.history answer.old) }
     requires fits { ¬ IsTooLarge found.now frames }
     ensures { Read (WitnessSays found.now selected frames result)
         (R.history answer.old) (R.history answer.new) }
@@ -216,7 +214,6 @@ impl FoundWitness {
     /// Writes the witness file. It fails only where the sink fails, which then took a beginning of
     /// the text, and is not called again.
     pub fn write<W: Sink>(self, sink: &mut W) -> Result<(), WriteFault>
-        requires { CanFail (W.history sink.old) }
         ensures ok { OnOk result (W.history sink.new
             ≡ took (witness_text self) (W.history sink.old)) }
         ensures err { OnErr result (TookBeginning (witness_text self) (W.history sink.old)

@@ -2,7 +2,7 @@
 ghost use Rattle.std.specs.List.{flat_map};
 ghost use Rattle.std.specs.Prelude.{◌≡◌, ◌-◌, ◌<◌, ◌∷◌, ℕ, List, OnErr, OnOk, Some};
 ghost use Rattle.aig_io.specs.Output.{Appended};
-ghost use Rattle.aig_io.specs.Devices.{CanFail, took, TookBeginning};
+ghost use Rattle.aig_io.specs.Devices.{took, TookBeginning};
 ghost use Rattle.aig_text.specs.AsciiText.{ascii_text, comment_text, header_text};
 ghost use Rattle.aig_text.specs.AsciiText.{line_text, more_numbers_text};
 ghost use Rattle.aig_text.specs.AsciiText.{numbers_text, row_text, shortened};
@@ -266,7 +266,6 @@ fn put_text<W: Sink>(output: &mut Output<W>, circuit: &Circuit)
 /// memory and fails only where the sink fails; the sink then took a beginning of the text, and is
 /// not called again.
 pub fn write_ascii<W: Sink>(circuit: &Checked, sink: &mut W) -> Result<(), WriteFault>
-    requires { CanFail (W.history sink.old) }
     ensures ok { OnOk result (W.history sink.new ≡ took (ascii_text circuit.now)
         (W.history sink.old)) }
     ensures err { OnErr result (TookBeginning (ascii_text circuit.now) (W.history sink.old)

@@ -1,7 +1,7 @@
 -- The files and streams of a program, and what is done with the source and the destination that a request names: each
 -- is a stream, or a file with its name (this project's profile).
 use Rattle.std.specs.Prelude.{◌≡◌, ◌∷◌, ℕ, List, [], take, Option, None, Some, Result, Ok, Err, false, true}
-use Rattle.aig_io.specs.Devices.{CanFail, History}
+use Rattle.aig_io.specs.Devices.{History}
 use Rattle.aig_io.specs.Files.{End, Files, Left, NotKept, Whole, Written, used}
 use Rattle.aig_io.specs.Runs.{All, AtEnd, Beginning, Broken, Delivery, Ending, IsCut, NotSent, Open, came, sent}
 use Rattle.aig_files.specs.Named.{IsFailure}
@@ -17,12 +17,9 @@ abbrev pub world : Files → History → History → History → World
 world files input output errors =
     record { files = files; input = input; output = output; errors = errors }
 
--- no file is open, and each stream can be called
-pub record IsReady (w : World) : Type 0 where
-  pub idle : w.files.current ≡ None
-  pub input : CanFail w.input
-  pub output : CanFail w.output
-  pub errors : CanFail w.errors
+-- no file is open
+abbrev pub IsIdle : World → Type 0
+IsIdle w = w.files.current ≡ None
 
 -- the files after one more use of them
 abbrev pub with_use : List ℕ → List ℕ → End → Files → Files

@@ -2,7 +2,6 @@
 //! place to report it. Formatting and sending take no memory, so that out of memory can be reported
 //! too.
 ghost use Rattle.std.specs.Prelude.{◌≡◌, ◌++◌, [], codes};
-ghost use Rattle.aig_io.specs.Devices.{CanFail};
 ghost use Rattle.aig_io.specs.Output.{Appended};
 ghost use Rattle.aig_command.specs.Answer.{name_of};
 ghost use Rattle.aig_tools.specs.Lines.{IsReported, line_of, memory_line, name_at, shown};
@@ -35,7 +34,6 @@ fn name_or_dash(name: &Option<String>) -> &str
 
 /// Sends a text.
 fn report_text<E: Sink>(errors: &mut E, text: &[u8])
-    requires { CanFail (E.history errors.old) }
     ensures { IsReported text.now (E.history errors.old) (E.history errors.new) }
 {
     let mut output = Output::new(errors);
@@ -45,7 +43,6 @@ fn report_text<E: Sink>(errors: &mut E, text: &[u8])
 
 /// Sends a line about no file: the program's name, and what is wrong.
 fn report_line<E: Sink>(errors: &mut E, text: &[u8])
-    requires { CanFail (E.history errors.old) }
     ensures { IsReported (line_of [] text.now) (E.history errors.old) (E.history errors.new) }
 {
     let mut output = Output::new(errors);
@@ -57,7 +54,6 @@ fn report_line<E: Sink>(errors: &mut E, text: &[u8])
 
 /// Reports that memory ran out. No file is at fault, so none is named.
 pub(crate) fn report_memory<E: Sink>(errors: &mut E)
-    requires { CanFail (E.history errors.old) }
     ensures { IsReported memory_line (E.history errors.old) (E.history errors.new) }
 {
     report_line(errors, b"out of memory");
@@ -65,7 +61,6 @@ pub(crate) fn report_memory<E: Sink>(errors: &mut E)
 
 /// Reports that an argument is no text.
 pub(crate) fn report_words<E: Sink>(errors: &mut E)
-    requires { CanFail (E.history errors.old) }
     ensures { IsReported words_line (E.history errors.old) (E.history errors.new) }
 {
     report_line(errors, b"an argument is not UTF-8 text");
@@ -73,7 +68,6 @@ pub(crate) fn report_words<E: Sink>(errors: &mut E)
 
 /// Reports why arguments are refused.
 pub(crate) fn report_usage<E: Sink>(errors: &mut E, usage: &Usage)
-    requires { CanFail (E.history errors.old) }
     ensures { IsReported (usage_text usage.now) (E.history errors.old) (E.history errors.new) }
 {
     match usage {
@@ -104,7 +98,6 @@ fn put_subject<E: Sink>(output: &mut Output<E>, names: &Names, part: Part, stopp
 
 /// Reports why a job stopped at this source, or after it, in one line that names what is at fault.
 pub(crate) fn report_stop<E: Sink>(errors: &mut E, names: &Names, part: Part, stopped: &Stopped)
-    requires { CanFail (E.history errors.old) }
     ensures { IsReported (stop_line names.now part stopped.now)
         (E.history errors.old) (E.history errors.new) }
 {

@@ -1,6 +1,5 @@
 //! `aigsim`: simulation of AIGER files, and witness files that are judged.
 ghost use Rattle.std.specs.Prelude.{◌≡◌, false};
-ghost use Rattle.aig_io.specs.Devices.{CanFail};
 ghost use Rattle.aig_io.specs.Runs.{Transferred};
 ghost use Rattle.aig_dump.specs.Dumped.{DumpSays, TraceSaysAs};
 ghost use Rattle.aig_commands.specs.Outcome.{TransferredFor};
@@ -25,8 +24,6 @@ fn trace_stimulus<R: Source, W: Sink>(
     stimulus: &mut R,
     output: &mut W,
 ) -> Result<Option<Verdict>, Stopped>
-    requires stimulus { CanFail (R.history stimulus.old) }
-    requires output { CanFail (W.history output.old) }
     ensures stimulus { (R.history stimulus.new).origin ≡ (R.history stimulus.old).origin }
     ensures transferred { Transferred (OfSteps (TraceSaysAs batch found columns) result)
         (R.history stimulus.old) (R.history stimulus.new) (W.history output.old)
@@ -46,8 +43,6 @@ fn dump_stimulus<R: Source, W: Sink>(
     stimulus: &mut R,
     output: &mut W,
 ) -> Result<Option<Verdict>, Stopped>
-    requires stimulus { CanFail (R.history stimulus.old) }
-    requires output { CanFail (W.history output.old) }
     ensures stimulus { (R.history stimulus.new).origin ≡ (R.history stimulus.old).origin }
     ensures transferred { Transferred (OfSteps (DumpSays batch found) result)
         (R.history stimulus.old) (R.history stimulus.new) (W.history output.old)
@@ -67,8 +62,6 @@ fn dump_run<R: Source, W: Sink>(
     witness: &mut R,
     output: &mut W,
 ) -> Result<Verdict, Stopped>
-    requires witness { CanFail (R.history witness.old) }
-    requires output { CanFail (W.history output.old) }
     ensures transferred { Transferred (RunDumpSays found result)
         (R.history witness.old) (R.history witness.new) (W.history output.old)
         (W.history output.new) }
@@ -88,8 +81,6 @@ pub(crate) fn perform<R: Source, W: Sink>(
     stimulus: &mut R,
     output: &mut W,
 ) -> Result<Option<Verdict>, Stopped>
-    requires stimulus { CanFail (R.history stimulus.old) }
-    requires output { CanFail (W.history output.old) }
     ensures stimulus { (R.history stimulus.new).origin ≡ (R.history stimulus.old).origin }
     ensures transferred { Transferred (TaskSays task found result)
         (R.history stimulus.old) (R.history stimulus.new) (W.history output.old)
@@ -127,9 +118,6 @@ pub fn run_sim<M: Source, R: Source, W: Sink>(
     stimulus: &mut R,
     output: &mut W,
 ) -> Result<(), Stopped>
-    requires model { CanFail (M.history model.old) }
-    requires stimulus { CanFail (R.history stimulus.old) }
-    requires output { CanFail (W.history output.old) }
     requires traced { request.now.witness ≡ false }
     ensures transferred { TransferredFor request.now
         (λ found. TaskSays (task_of request.now) found (without_verdict result)) result

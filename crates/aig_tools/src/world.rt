@@ -1,14 +1,14 @@
 //! The files and streams of a program, and what is done with those that a request names. No two
 //! files are open at once.
 ghost use Rattle.std.specs.Prelude.{◌≡◌, ◌<◌, ◌≤◌, IfErr, IfOk, length, None, OnOk, Some};
-ghost use Rattle.aig_io.specs.Devices.{CanFail, History};
+ghost use Rattle.aig_io.specs.Devices.{History};
 ghost use Rattle.aig_command.specs.Answer.{name_of};
 ghost use Rattle.aig_commands.specs.declared.stopped.Stopped.TheVariants.{WriteFailed};
 ghost use Rattle.aig_commands.specs.Jobs.{CanDo, CanRead, Makes, Refuses, text_of};
 ghost use Rattle.aig_commands.specs.Reading.{ReadSays};
 ghost use Rattle.aig_tools.specs.Ends.{Concludes, done_status};
 ghost use Rattle.aig_tools.specs.SimulationOutcome.{TaskSays};
-ghost use Rattle.aig_tools.specs.Worlds.{IsReady, ReadIn, SentIn, TakesAs, TransferredBetween};
+ghost use Rattle.aig_tools.specs.Worlds.{IsIdle, ReadIn, SentIn, TakesAs, TransferredBetween};
 ghost use Rattle.aig_tools.specs.Worlds.{world};
 
 use crate::reporting::report_stop;
@@ -56,7 +56,6 @@ fn answer_named<A: FileAccess, W: Sink>(
     output: &mut W,
 ) -> Result<Option<Verdict>, Stopped>
     requires idle { (A.files files.old).current ≡ None }
-    requires output { CanFail (W.history output.old) }
     ensures idle { (A.files files.new).current ≡ None }
     ensures transferred { (input errors : History)
         → TransferredBetween (TaskSays task model result) (Some name.now) None
@@ -88,11 +87,11 @@ impl<A: FileAccess, R: Source, W: Sink, E: Sink> World<A, R, W, E> {
         name: &Option<String>,
         reading: Reading,
     ) -> Result<Job, Stopped>
-        requires ready { IsReady self.old }
+        requires ready { IsIdle self.old }
         requires can_read { CanRead reading }
         ensures idle { self.new.files.current ≡ None }
         ensures errors { self.new.errors ≡ self.old.errors }
-        ensures ready { OnOk result (IsReady self.new) }
+        ensures ready { OnOk result (IsIdle self.new) }
         ensures read { ReadIn
             (ReadSays (λ next bytes. Makes reading bytes next) (Refuses reading) result)
             (name_of name.now) self.old self.new }
@@ -117,7 +116,7 @@ impl<A: FileAccess, R: Source, W: Sink, E: Sink> World<A, R, W, E> {
         task: Task,
         model: Checked,
     ) -> Result<Option<Verdict>, Stopped>
-        requires { IsReady self.old }
+        requires { IsIdle self.old }
         ensures idle { self.new.files.current ≡ None }
         ensures errors { self.new.errors ≡ self.old.errors }
         ensures transferred { TransferredBetween (TaskSays task model result) (name_of name.now)
@@ -139,7 +138,7 @@ impl<A: FileAccess, R: Source, W: Sink, E: Sink> World<A, R, W, E> {
 
     /// Writes an answer to the destination of this name, which is made for the first byte.
     pub(crate) fn write(&mut self, name: &Option<String>, answer: Answer) -> Result<(), Stopped>
-        requires ready { IsReady self.old }
+        requires ready { IsIdle self.old }
         requires some { 0 < length (text_of answer) }
         ensures idle { self.new.files.current ≡ None }
         ensures errors { self.new.errors ≡ self.old.errors }
@@ -167,7 +166,6 @@ impl<A: FileAccess, R: Source, W: Sink, E: Sink> World<A, R, W, E> {
         part: Part,
         done: Result<Option<Verdict>, Stopped>,
     ) -> u8
-        requires errors { CanFail self.old.errors }
         requires idle { self.old.files.current ≡ None }
         ensures idle { self.new.files.current ≡ None }
         ensures concludes { Concludes names.now part done self.old self.new result }

@@ -1,7 +1,6 @@
 //! A circuit over a stimulus text.
 ghost use Rattle.std.specs.Prelude.{◌≡◌, ◌+◌, ◌-◌, ◌^◌, ◌<◌, ◌≤◌, [], ℕ, List};
 ghost use Rattle.std.specs.Prelude.{false, length, not, true};
-ghost use Rattle.aig_io.specs.Devices.{CanFail};
 ghost use Rattle.aig_io.specs.Runs.{Transferred};
 ghost use Rattle.aig_lines.specs.Feeders.{HasFoldedBytes, IsInitial};
 ghost use Rattle.aig_lines.specs.Feeding.{Feeding, fold_bytes};
@@ -89,7 +88,6 @@ fn trace_all<R: Source, W: Sink>(
     requires room { 0 < length block.old }
     requires empty { lines.old.output.held ≡ [] }
     requires fine { lines.old.output.failed ≡ false }
-    requires source { CanFail (R.history source.old) }
     ensures { StreamEnds lines.old.tracing.circuit lines.old.tracing.columns result
         (R.history source.old) (R.history source.new) lines.old.output lines.new.output }
 {
@@ -130,8 +128,6 @@ pub fn simulate<R: Source, W: Sink>(
     source: &mut R,
     sink: &mut W,
 ) -> Result<(), SimFault>
-    requires source { CanFail (R.history source.old) }
-    requires sink { CanFail (W.history sink.old) }
     ensures transferred { Transferred (TraceSays checked.now columns result)
         (R.history source.old) (R.history source.new) (W.history sink.old) (W.history sink.new) }
 {

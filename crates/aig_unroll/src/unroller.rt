@@ -2,7 +2,7 @@
 ghost use Rattle.std.specs.Prelude.{◌≡◌, ◌<◌, ◌≤◌, length, IfErr, IfOk, OnErr, OnOk};
 ghost use Rattle.aig_circuit.specs.Wellformed.{IsWellFormed};
 ghost use Rattle.aig_io.specs.Output.{Appended};
-ghost use Rattle.aig_io.specs.Devices.{CanFail, took, TookBeginning};
+ghost use Rattle.aig_io.specs.Devices.{took, TookBeginning};
 ghost use Rattle.aig_text.specs.AsciiText.{ascii_text};
 ghost use Rattle.aig_binary.specs.BinaryText.{binary_text};
 ghost use Rattle.aig_cnf.specs.ClauseText.{cnf_text};
@@ -152,7 +152,6 @@ impl Unrolling {
     /// It takes no memory and fails only where the sink fails; the sink then took a beginning of
     /// the text, and is not called again.
     pub fn write_ascii<W: Sink>(self, sink: &mut W) -> Result<(), WriteFault>
-        requires { CanFail (W.history sink.old) }
         ensures ok { OnOk result (W.history sink.new
             ≡ took (ascii_text self) (W.history sink.old)) }
         ensures err { OnErr result (TookBeginning (ascii_text self) (W.history sink.old)
@@ -169,7 +168,6 @@ impl Unrolling {
     /// It takes no memory and fails only where the sink fails; the sink then took a beginning of
     /// the text, and is not called again.
     pub fn write_binary<W: Sink>(self, sink: &mut W) -> Result<(), WriteFault>
-        requires { CanFail (W.history sink.old) }
         ensures ok { OnOk result (W.history sink.new
             ≡ took (binary_text self) (W.history sink.old)) }
         ensures err { OnErr result (TookBeginning (binary_text self) (W.history sink.old)
@@ -215,7 +213,6 @@ impl Unrolling {
     /// slices of at most 8,192 bytes. It takes no memory and fails only where the sink fails; the
     /// sink then took a beginning of the text, and is not called again.
     pub fn write_cnf<W: Sink>(self, sink: &mut W) -> Result<(), WriteFault>
-        requires { CanFail (W.history sink.old) }
         ensures ok { OnOk result (W.history sink.new ≡ took (cnf_text self) (W.history sink.old)) }
         ensures err { OnErr result (TookBeginning (cnf_text self) (W.history sink.old)
             (W.history sink.new)) }

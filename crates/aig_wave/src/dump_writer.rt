@@ -1,6 +1,5 @@
 //! What takes a trace text, and puts the dump of it.
 ghost use Rattle.std.specs.Prelude.{◌≡◌, ◌++◌, ℕ, List, [], false, true, is_err};
-ghost use Rattle.aig_io.specs.Devices.{CanFail};
 ghost use Rattle.aig_io.specs.Output.{Appended, Out, output_to};
 ghost use Rattle.aig_wave.specs.Dumping.{Dumps};
 ghost use Rattle.aig_wave.specs.Frames.{frames_of};
@@ -61,7 +60,6 @@ impl<'a, W: Sink> Model for DumpWriter<'a, W> {
 impl<'a, W: Sink> DumpWriter<'a, W> {
     /// Nothing was taken yet.
     pub(crate) fn new(room: WaveMemory, sink: &'a mut W) -> Self
-        requires { CanFail (W.history sink.old) }
         ensures begun { Dumps room (output_to W.history sink.entry [] false) result [] }
         ensures output { result.output ≡ output_to W.history sink.entry [] false }
     {

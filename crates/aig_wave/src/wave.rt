@@ -1,7 +1,7 @@
 //! A sink for a trace text, which sends the dump of it on.
 ghost use Rattle.std.specs.Prelude.{◌≡◌, ◌<◌, ◌≤◌, ℕ, [], IfOk, IsTrue, OnOk, is_err};
 ghost use Rattle.std.specs.Prelude.{is_ok, length};
-ghost use Rattle.aig_io.specs.Devices.{CanFail, History, after_send, block_size, unused};
+ghost use Rattle.aig_io.specs.Devices.{History, after_send, block_size, unused};
 ghost use Rattle.aig_wave.specs.Frames.{frames_of};
 ghost use Rattle.aig_wave.specs.Layout.{Layout as LayoutRecord};
 ghost use Rattle.aig_wave.specs.Standing.{WasSent, wave_origin};
@@ -20,7 +20,7 @@ use std::snapshot::Snapshot;
 pub struct WaveSink<'a, W: Sink> {
     dump_writer: DumpWriter<'a, W>,
     before: Snapshot<W>,
-    failures: u64,
+    failures: Record,
     log: Record,
 }
 
@@ -38,13 +38,13 @@ impl<'a, W: Sink> Model for WaveSink<'a, W> {
             (W.history s.before.value);
         bytes = bytes_of s.log.notes;
         ends = sum_of s.log.notes;
-        failures = s.failures;
+        failures = sum_of s.failures.notes;
       };
     } };
 
     ghost invariant = { λ s. IsDump s.before.value (W.history s.before.value) s.dump_writer
         (bytes_of s.log.notes)
-        × (0 < s.failures → s.dump_writer.output.failed ≡ true) };
+        × (0 < sum_of s.failures.notes → s.dump_writer.output.failed ≡ true) };
 }
 
 impl<'a, W: Sink> WaveSink<'a, W> {
@@ -52,7 +52,6 @@ impl<'a, W: Sink> WaveSink<'a, W> {
     // Not built into its callers, whose stack would then hold the block of the output more often.
     #[inline(never)]
     pub fn new(room: WaveMemory, sink: &'a mut W) -> Self
-        requires { CanFail (W.history sink.old) }
         ensures { result.history ≡ unused (wave_origin room sink.entry.ghost_name
             (W.history sink.old)) }
     {
@@ -60,7 +59,7 @@ impl<'a, W: Sink> WaveSink<'a, W> {
         WaveSink {
             dump_writer: DumpWriter::new(room, sink),
             before,
-            failures: 0,
+            failures: Record::new(),
             log: Record::new(),
         }
     }
@@ -93,7 +92,6 @@ impl<W: Sink> Sink for WaveSink<'_, W> {
     fn send(&mut self, bytes: &[u8]) -> Result<usize, DeviceFault>
         requires some { 0 < length bytes.now }
         requires short { length bytes.now ≤ block_size }
-        requires countable { CanFail self.old.history }
         ensures within { IfOk result (λ n. n ≤ length bytes.now) }
         ensures moves { IfOk result (λ n. 0 < n) }
         ensures history { self.new.history ≡ after_send bytes.now result self.old.history }
@@ -101,16 +99,12 @@ impl<W: Sink> Sink for WaveSink<'_, W> {
         ensures sent { IsTrue (is_ok result) → self.new.waving.output.held ≡ [] }
     {
         if self.dump_writer.has_failed() {
-            self.failures += 1;
+            self.failures.note(&[1], &[]);
             return Err(DeviceFault);
         }
         self.dump_writer.take_bytes(bytes);
         self.dump_writer.flush();
         self.log.note(&[0], bytes);
         Ok(bytes.len())
-    }
-
-    fn failures(&self) -> u64 {
-        self.failures
     }
 }

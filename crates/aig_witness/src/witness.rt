@@ -1,7 +1,6 @@
 //! A witness file, judged for a circuit.
 ghost use Rattle.std.specs.Prelude.{◌≡◌, ◌≤◌, length};
 ghost use Rattle.aig_circuit.specs.declared.circuit.TheConstants.{LARGEST};
-ghost use Rattle.aig_io.specs.Devices.{CanFail};
 ghost use Rattle.aig_io.specs.Runs.{Read};
 ghost use Rattle.aig_lines.specs.Feeders.{IsInitial};
 ghost use Rattle.aig_witness.specs.Confirming.{ConfirmSays};
@@ -26,7 +25,6 @@ fn judge_all<R: Source>(
     requires limit { feeder.old.limit ≡ longest_line (shape_of checker.old.circuit) }
     requires begun { StandsWhen checker.old Nothing }
     requires few { length checker.old.circuit.bad ≤ LARGEST }
-    requires source { CanFail (R.history source.old) }
     ensures { Read (ConfirmSays checker.old.circuit result)
         (R.history source.old) (R.history source.new) }
 {
@@ -48,7 +46,6 @@ pub fn confirm<R: Source>(
     checked: &Checked,
     source: &mut R,
 ) -> Result<Verdict, SimFault>
-    requires { CanFail (R.history source.old) }
     ensures read { Read (ConfirmSays checked.now result) (R.history source.old)
         (R.history source.new) }
 {

@@ -1,6 +1,5 @@
 use Rattle.std.proofs.Common.{◌+◌, ◌≤◌, ◌^◌, length, true}
 use Rattle.aig_io.specs.Windows.{Filled}
-use Rattle.aig_io.specs.Devices.{CanFail}
 use Rattle.aig_binary.proofs.source.begin_reader.Given as goal
 
 -- what came is held after what was held
@@ -10,7 +9,6 @@ invariant-loop-reader g l =
     record {
       came : Filled l.fn.window l.window true (d.history l.fn.source) (d.history l.source);
       bound : length l.window + d.bound l.source ≤ 2 ^ 62;
-      countable : CanFail (d.history l.source);
     }
 
 abbrev pub decreases-loop-reader : goal.decreases-loop-reader

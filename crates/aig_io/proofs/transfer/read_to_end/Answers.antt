@@ -23,5 +23,4 @@ loop-source-preserved g c =
           });
       within = search rules;
       bound = search rules;
-      countable = search rules;
     }

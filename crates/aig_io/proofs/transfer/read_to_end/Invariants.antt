@@ -1,5 +1,4 @@
 use Rattle.std.proofs.Common.{◌≡◌, ◌+◌, ◌≤◌, take, true, vec_len}
-use Rattle.aig_io.specs.Devices.{CanFail}
 use Rattle.aig_io.specs.Windows.{Filled}
 use Rattle.aig_io.proofs.transfer.read_to_end.Given as goal
 
@@ -11,7 +10,6 @@ invariant-loop-source g l =
       came : Filled l.fn.bytes.items (take l.len l.bytes.items) true (d.history l.fn.source) (d.history l.source);
       within : l.len ≤ vec_len l.bytes;
       bound : d.bound l.source + l.len ≡ d.bound l.fn.source + vec_len l.fn.bytes;
-      countable : CanFail (d.history l.source);
     }
 
 abbrev pub decreases-loop-source : goal.decreases-loop-source
