@@ -8,4 +8,5 @@ pub mod FileLaws
 pub mod File
 pub mod Sources
 pub mod Messages
+pub mod Stops
 pub mod Parts

@@ -18,6 +18,7 @@ mod piecewise;
 mod reader;
 mod source;
 mod source_fault;
+mod stops;
 mod writer;
 
 pub use crate::delta::{Delta, get_delta, put_delta};

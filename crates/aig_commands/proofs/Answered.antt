@@ -15,7 +15,7 @@ use Rattle.aig_replay.specs.Reached.{NotFoundBy, WitnessSays, read_over, said_in
 use Rattle.aig_command.specs.declared.request.Reach.{Reach}
 use Rattle.aig_commands.specs.Reaching.{IsReachRefused}
 use Rattle.aig_commands.specs.Reading.{AtAnyTime, NotRead}
-use Rattle.aig_commands.specs.Stops.{answer_stops}
+use Rattle.aig_replay.specs.Stops.{answer_stops}
 
 -- a reader that met a wrong byte stays where it is
 stays : (r : Reader) (byte : ℕ) → r.spot ≡ Wrong → (next r byte).reader ≡ r

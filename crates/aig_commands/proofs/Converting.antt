@@ -2,17 +2,17 @@
 use Rattle.std.proofs.Common.{◌≡◌, ◌≢◌, List, [], ℕ, true, refl}
 use Rattle.aig_circuit.specs.declared.circuit.Circuit.{Circuit}
 use Rattle.aig_command.specs.declared.request.ToAig.{ToAig}
-use Rattle.aig_commands.specs.Stopping.{StopsFor, fault_at}
+use Rattle.aig_fault.specs.Stopping.{StopsFor, fault_at}
 use Rattle.aig_fault.specs.declared.fault.Place.TheVariants.{Whole}
 use Rattle.aig_fault.specs.declared.kind.Kind.TheVariants.{HasBad}
-use Rattle.aig_commands.specs.declared.stopped.Stopped.{Stopped}
-use Rattle.aig_commands.proofs.Stoppings.{stops_weaker}
+use Rattle.aig_fault.specs.declared.stopped.Stopped.{Stopped}
+use Rattle.aig_fault.proofs.Stoppings.{stops_weaker}
 use Rattle.aig_map.specs.Undone.{IsMapFault}
 use Rattle.aig_map.specs.declared.fault.MapFault.{MapFault}
 use Rattle.aig_map.specs.declared.fault.MapFault.TheVariants as map_faults
 use Rattle.aig_commands.specs.Conversion.{IsConversionRefused, IsSource, has_bad_states, has_no_source}
 use Rattle.aig_commands.specs.File.{IsFileOf}
-use Rattle.aig_commands.specs.Stops.{map_stops}
+use Rattle.aig_map.specs.Stops.{map_stops}
 
 module _ (request : ToAig) (found : Circuit) (bytes : List ℕ) (file : IsFileOf bytes request.max_var found) where
   -- a map cannot be undone

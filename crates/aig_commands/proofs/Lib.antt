@@ -1,4 +1,3 @@
-pub mod Stoppings
 pub mod Readings
 pub mod Converting
 pub mod Trips

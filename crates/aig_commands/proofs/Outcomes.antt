@@ -5,15 +5,15 @@ use Rattle.aig_io.specs.Devices.{History, TookBeginning, took}
 use Rattle.aig_io.specs.Runs.{All, Beginning, Delivery, Ending, NotSent, Read, Transferred}
 use Rattle.aig_io.proofs.Runs.{read_weaker}
 use Rattle.aig_fault.specs.declared.fault.Fault.{Fault}
-use Rattle.aig_commands.specs.declared.stopped.Stopped.{Stopped}
-use Rattle.aig_commands.specs.declared.stopped.Stopped.TheVariants as stops
+use Rattle.aig_fault.specs.declared.stopped.Stopped.{Stopped}
+use Rattle.aig_fault.specs.declared.stopped.Stopped.TheVariants as stops
 use Rattle.aig_commands.specs.Outcome.{Says}
 use Rattle.aig_commands.specs.Reading.{AtItsEnd, NotRead}
 use Rattle.aig_commands.proofs.Readings.{CameWhole}
 use Rattle.aig_step.specs.declared.fault.SimFault.{SimFault}
 use Rattle.aig_step.specs.declared.fault.SimFault.TheVariants as faults
 use Rattle.aig_witness.specs.Confirming.{ConfirmSays}
-use Rattle.aig_commands.specs.Stops.{sim_stops}
+use Rattle.aig_step.specs.Stops.{sim_stops}
 use Rattle.aig_commands.specs.WitnessOutcome.{AnswerSays}
 
 -- a source was read, and the sink took a beginning of the text for it, and failed

@@ -4,9 +4,9 @@ use Rattle.aig_rows.proofs.Steps.{ok_same}
 use Rattle.aig_circuit.specs.declared.circuit.Circuit.{Circuit}
 use Rattle.aig_circuit.specs.Wellformed.{IsWellFormed}
 use Rattle.aig_cnf.specs.ClauseText.{cnf_text}
-use Rattle.aig_commands.specs.Stopping.{StopsFor}
-use Rattle.aig_commands.specs.declared.stopped.Stopped.{Stopped}
-use Rattle.aig_commands.proofs.Stoppings.{stops_weaker}
+use Rattle.aig_fault.specs.Stopping.{StopsFor}
+use Rattle.aig_fault.specs.declared.stopped.Stopped.{Stopped}
+use Rattle.aig_fault.proofs.Stoppings.{stops_weaker}
 use Rattle.aig_io.specs.Devices.{History}
 use Rattle.aig_io.specs.Runs.{Ending, Read}
 use Rattle.aig_io.proofs.Runs.{read_weaker}
@@ -29,7 +29,7 @@ use Rattle.aig_commands.specs.Proving.{IsInvariantText, IsNeverText, IsStrengthe
 use Rattle.aig_commands.specs.Proving.{over_one_frame}
 use Rattle.aig_commands.specs.Reading.{AtItsEnd, NotRead, ReadSays}
 use Rattle.aig_commands.specs.Refuting.{IsRefutationRefused, IsUnsatisfiable}
-use Rattle.aig_commands.specs.Stops.{invariant_stops}
+use Rattle.aig_invariant.specs.Stops.{invariant_stops}
 use Rattle.aig_commands.specs.Unrolling.{IsUnrolledFor, NotUnrolledAs}
 use Rattle.aig_commands.proofs.Reachings.{one_selected}
 use Rattle.aig_commands.proofs.Readings.{CameWhole, made_after, stopped_after}

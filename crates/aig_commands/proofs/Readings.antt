@@ -4,10 +4,10 @@ use Rattle.aig_binary.specs.Sources.{AnswersFile, ReadsAs}
 use Rattle.aig_binary.specs.declared.source_fault.SourceFault.{SourceFault}
 use Rattle.aig_binary.specs.declared.source_fault.SourceFault.TheVariants as faults
 use Rattle.aig_circuit.specs.declared.circuit.Circuit.{Circuit}
-use Rattle.aig_commands.specs.Stopping.{StopsFor}
+use Rattle.aig_fault.specs.Stopping.{StopsFor}
 use Rattle.aig_fault.specs.declared.fault.Fault.{Fault}
-use Rattle.aig_commands.specs.declared.stopped.Stopped.{Stopped}
-use Rattle.aig_commands.specs.declared.stopped.Stopped.TheVariants as stops
+use Rattle.aig_fault.specs.declared.stopped.Stopped.{Stopped}
+use Rattle.aig_fault.specs.declared.stopped.Stopped.TheVariants as stops
 use Rattle.aig_io.specs.Devices.{History}
 use Rattle.aig_io.specs.Runs.{AtEnd, Broken, Ending, Open, Read}
 use Rattle.aig_io.specs.declared.transfer.ReadError.TheVariants as errors
@@ -18,7 +18,8 @@ use Rattle.aig_rows.specs.declared.fault.ReadKind.TheVariants as kinds
 use Rattle.aig_text.specs.Reading.{IsFirstFault}
 use Rattle.aig_commands.specs.File.{first_fault}
 use Rattle.aig_commands.specs.Reading.{AtItsEnd, IsUnreadable, NotRead}
-use Rattle.aig_commands.specs.Stops.{kind_stops, place_of, source_stops}
+use Rattle.aig_binary.specs.Stops.{source_stops}
+use Rattle.aig_rows.specs.Stops.{kind_stops, place_of}
 
 -- what is refused once all came
 at_its_end : (IsRefused : Fault → List ℕ → Type 0) (stopped : Stopped) (bytes : List ℕ)

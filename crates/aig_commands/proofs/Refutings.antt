@@ -18,7 +18,7 @@ use Rattle.aig_commands.specs.File.{IsFileOf}
 use Rattle.aig_commands.specs.Laws.{RefutationsMeanNone}
 use Rattle.aig_commands.specs.Reading.{NotRead, ReadSays}
 use Rattle.aig_commands.specs.Refuting.{IsNoneText, IsRefutationRefused, IsUnsatisfiable, none_text}
-use Rattle.aig_commands.specs.Stops.{refutation_stops}
+use Rattle.aig_refute.specs.Stops.{refutation_stops}
 use Rattle.aig_commands.proofs.Readings.{CameWhole, made_after}
 use Rattle.aig_commands.proofs.TripsExist.{well_formed_file}
 

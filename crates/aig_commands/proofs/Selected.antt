@@ -7,10 +7,10 @@ use Rattle.aig_command.specs.declared.request.Unroll.{Unroll}
 use Rattle.aig_command.specs.declared.request.UnrolledForm.{UnrolledForm}
 use Rattle.aig_command.specs.declared.request.UnrolledForm.TheVariants.{Clauses}
 use Rattle.aig_cnf.specs.ClauseText.{cnf_text}
-use Rattle.aig_commands.specs.Stopping.{StopsFor}
+use Rattle.aig_fault.specs.Stopping.{StopsFor}
 use Rattle.aig_fault.specs.declared.fault.Fault.{Fault}
-use Rattle.aig_commands.specs.declared.stopped.Stopped.{Stopped}
-use Rattle.aig_commands.proofs.Stoppings.{stops_weaker}
+use Rattle.aig_fault.specs.declared.stopped.Stopped.{Stopped}
+use Rattle.aig_fault.proofs.Stoppings.{stops_weaker}
 use Rattle.aig_replay.specs.Alone.{HasSelected, NotSelected, selected_of}
 use Rattle.aig_replay.specs.declared.fault.SelectFault.{SelectFault}
 use Rattle.aig_replay.specs.declared.fault.SelectFault.TheVariants as select_faults
@@ -26,7 +26,8 @@ use Rattle.aig_io.specs.Runs.{Read}
 use Rattle.aig_commands.specs.Reaching.{IsModelRefused, IsSelectedModel, clauses_selected}
 use Rattle.aig_commands.specs.Reading.{AtItsEnd, ReadSays}
 use Rattle.aig_commands.specs.Refuting.{CanUnroll}
-use Rattle.aig_commands.specs.Stops.{asked_stops, clause_stops, unroll_stops}
+use Rattle.aig_replay.specs.Stops.{asked_stops}
+use Rattle.aig_unroll.specs.Stops.{clause_stops, unroll_stops}
 use Rattle.aig_commands.specs.Unrolling.{IsUnrolledFor, IsUnrollingRefused, NotUnrolledAs, NotWritable, bad_of}
 use Rattle.aig_commands.specs.Unrolling.{cannot_unroll, cannot_write, has_not_bad}
 use Rattle.aig_commands.proofs.Readings.{CameWhole, made_after, stopped_after}

@@ -8,15 +8,15 @@ use Rattle.aig_map.specs.MapBlock.{IsMappedImage}
 use Rattle.aig_map.specs.Undone.{IsMapFault, IsUndoneFrom}
 use Rattle.aig_map.specs.declared.fault.MapFault.{MapFault}
 use Rattle.aig_command.specs.declared.request.ToAig.{ToAig}
-use Rattle.aig_commands.specs.Stopping.{fault_at}
+use Rattle.aig_fault.specs.Stopping.{fault_at}
 use Rattle.aig_fault.specs.declared.fault.Fault.{Fault}
 use Rattle.aig_fault.specs.declared.fault.Place.TheVariants.{Whole}
 use Rattle.aig_fault.specs.declared.kind.Kind.TheVariants.{HasBad}
-use Rattle.aig_commands.specs.declared.stopped.Stopped.TheVariants.{Refused}
+use Rattle.aig_fault.specs.declared.stopped.Stopped.TheVariants.{Refused}
 use Rattle.aig_commands.specs.File.{IsFileOf}
 use Rattle.aig_commands.specs.OutputsAsBad.{with_outputs_as_bad}
 use Rattle.aig_commands.specs.Reading.{IsUnreadable}
-use Rattle.aig_commands.specs.Stops.{map_stops}
+use Rattle.aig_map.specs.Stops.{map_stops}
 
 -- the circuit without its symbols and its comment
 abbrev pub stripped : Circuit → Circuit

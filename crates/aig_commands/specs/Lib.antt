@@ -1,6 +1,4 @@
 pub use Rattle.aig_binary.specs.File
-pub mod Stopping
-pub mod Stops
 pub mod OutputsAsBad
 pub mod Conversion
 pub mod Simulation

@@ -2,8 +2,8 @@
 -- anything else is called.
 use Rattle.std.specs.Prelude.{◌≡◌, ◌⊎◌, ℕ, List, Result, Ok, Err}
 use Rattle.aig_fault.specs.declared.fault.Fault.{Fault}
-use Rattle.aig_commands.specs.declared.stopped.Stopped.{Stopped}
-use Rattle.aig_commands.specs.declared.stopped.Stopped.TheVariants.{WriteFailed}
+use Rattle.aig_fault.specs.declared.stopped.Stopped.{Stopped}
+use Rattle.aig_fault.specs.declared.stopped.Stopped.TheVariants.{WriteFailed}
 use Rattle.aig_io.specs.Devices.{History}
 use Rattle.aig_io.specs.Runs.{All, AtEnd, Delivery, Ending, IsCut, NotSent, Read, Transferred}
 use Rattle.aig_circuit.specs.declared.circuit.Circuit.{Circuit}

@@ -16,8 +16,8 @@ use Rattle.aig_io.specs.Runs.{AtEnd}
 use Rattle.aig_replay.specs.Alone.{HasSelected, selected_of}
 use Rattle.aig_unroll.specs.Outcome.{HasClauses}
 use Rattle.aig_fault.specs.declared.fault.Fault.{Fault}
-use Rattle.aig_commands.specs.declared.stopped.Stopped.TheVariants.{Refused}
-use Rattle.aig_commands.specs.Stops.{invariant_stops}
+use Rattle.aig_fault.specs.declared.stopped.Stopped.TheVariants.{Refused}
+use Rattle.aig_invariant.specs.Stops.{invariant_stops}
 use Rattle.aig_commands.specs.Reaching.{IsModelRefused, IsSelectedModel}
 use Rattle.aig_commands.specs.Unrolling.{IsUnrolledFor, NotUnrolledAs}
 

@@ -13,8 +13,8 @@ use Rattle.aig_command.specs.declared.request.Reach.{Reach}
 use Rattle.aig_command.specs.declared.request.Unroll.{Unroll}
 use Rattle.aig_command.specs.declared.request.UnrolledForm.TheVariants.{Clauses}
 use Rattle.aig_fault.specs.declared.fault.Fault.{Fault}
-use Rattle.aig_commands.specs.declared.stopped.Stopped.TheVariants.{Refused}
-use Rattle.aig_commands.specs.Stops.{answer_stops}
+use Rattle.aig_fault.specs.declared.stopped.Stopped.TheVariants.{Refused}
+use Rattle.aig_replay.specs.Stops.{answer_stops}
 use Rattle.aig_commands.specs.Unrolling.{IsUnrollingRefused, IsUnrollingText}
 
 -- the request for the clauses on which the answer is

@@ -1,13 +1,13 @@
 -- What the answer of reading a source to its end says.
 use Rattle.std.specs.Prelude.{◌≡◌, ◌++◌, ℕ, List, Result, Ok, Err}
 use Rattle.aig_fault.specs.declared.fault.Fault.{Fault}
-use Rattle.aig_commands.specs.declared.stopped.Stopped.{Stopped}
-use Rattle.aig_commands.specs.declared.stopped.Stopped.TheVariants.{OutOfMemory, ReadFailed, Refused, WriteFailed}
+use Rattle.aig_fault.specs.declared.stopped.Stopped.{Stopped}
+use Rattle.aig_fault.specs.declared.stopped.Stopped.TheVariants.{OutOfMemory, ReadFailed, Refused, WriteFailed}
 use Rattle.aig_io.specs.Runs.{AtEnd, Broken, Ending, IsUnbroken, Open}
 use Rattle.aig_rows.specs.declared.fault.ReadFault.{ReadFault}
 use Rattle.aig_text.specs.Reading.{IsFirstFault}
 use Rattle.aig_commands.specs.File.{first_fault}
-use Rattle.aig_commands.specs.Stops.{read_stops}
+use Rattle.aig_rows.specs.Stops.{read_stops}
 
 -- all came, and is refused with this fault
 abbrev pub AtItsEnd : (Fault → List ℕ → Type 0) → Fault → List ℕ → Ending → Type 0

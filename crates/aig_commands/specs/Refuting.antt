@@ -13,10 +13,10 @@ use Rattle.aig_unroll.specs.Unrolled.{IsTooLarge, IsUnrolled, IsUnsupported}
 use Rattle.aig_witness.specs.declared.verdict.Verdict.TheVariants.{Confirmed}
 use Rattle.aig_witness.specs.Witness.{Claim, IsVerdict}
 use Rattle.aig_fault.specs.declared.fault.Fault.{Fault}
-use Rattle.aig_commands.specs.declared.stopped.Stopped.TheVariants.{Refused}
+use Rattle.aig_fault.specs.declared.stopped.Stopped.TheVariants.{Refused}
 use Rattle.aig_io.specs.Runs.{Ending}
 use Rattle.aig_refute.specs.Refuted.{EndsFor}
-use Rattle.aig_commands.specs.Stops.{refutation_stops}
+use Rattle.aig_refute.specs.Stops.{refutation_stops}
 
 -- the circuit can be unrolled over so many frames
 pub record CanUnroll (c : Circuit) (frames : ℕ) : Type 0 where

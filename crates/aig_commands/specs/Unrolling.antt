@@ -5,11 +5,11 @@ use Rattle.aig_circuit.specs.declared.circuit.Circuit.{Circuit}
 use Rattle.aig_text.specs.AsciiText.{ascii_text}
 use Rattle.aig_binary.specs.BinaryText.{binary_text}
 use Rattle.aig_cnf.specs.ClauseText.{cnf_text}
-use Rattle.aig_commands.specs.Stopping.{fault_at}
+use Rattle.aig_fault.specs.Stopping.{fault_at}
 use Rattle.aig_fault.specs.declared.fault.Fault.{Fault}
 use Rattle.aig_fault.specs.declared.fault.Place.TheVariants.{Whole}
 use Rattle.aig_fault.specs.declared.kind.Kind.TheVariants.{NoSuchBadState}
-use Rattle.aig_commands.specs.declared.stopped.Stopped.TheVariants.{Refused}
+use Rattle.aig_fault.specs.declared.stopped.Stopped.TheVariants.{Refused}
 use Rattle.aig_unroll.specs.declared.fault.ClauseFault.{ClauseFault}
 use Rattle.aig_unroll.specs.declared.fault.UnrollFault.{UnrollFault}
 use Rattle.aig_unroll.specs.Outcome.{HasClauses, NotInClauses, NotUnrolled}
@@ -20,7 +20,7 @@ use Rattle.aig_command.specs.declared.request.UnrolledForm.{UnrolledForm}
 use Rattle.aig_command.specs.declared.request.UnrolledForm.TheVariants.{Ascii, Binary, Clauses}
 use Rattle.aig_commands.specs.File.{IsFileOf}
 use Rattle.aig_commands.specs.Reading.{IsUnreadable}
-use Rattle.aig_commands.specs.Stops.{clause_stops, unroll_stops}
+use Rattle.aig_unroll.specs.Stops.{clause_stops, unroll_stops}
 
 -- how an unrolled circuit is written: its canonical text, in binary or in ASCII, or its clauses
 abbrev pub unrolled_text : UnrolledForm → Circuit → List ℕ

@@ -8,11 +8,11 @@ use Rattle.aig_witness.specs.declared.verdict.Verdict.{Verdict}
 use Rattle.aig_witness.specs.declared.verdict.Verdict.TheVariants.{Confirmed, NotConfirmed}
 use Rattle.aig_witness.specs.Confirming.{ConfirmSays}
 use Rattle.aig_witness.specs.Witness.{Claim, IsVerdict, SaysClaim}
-use Rattle.aig_commands.specs.declared.stopped.Stopped.{Stopped}
-use Rattle.aig_commands.specs.declared.stopped.Stopped.TheVariants.{WriteFailed}
+use Rattle.aig_fault.specs.declared.stopped.Stopped.{Stopped}
+use Rattle.aig_fault.specs.declared.stopped.Stopped.TheVariants.{WriteFailed}
 use Rattle.aig_step.specs.declared.fault.SimFault.{SimFault}
 use Rattle.aig_commands.specs.File.{IsFileOf}
-use Rattle.aig_commands.specs.Stops.{sim_stops}
+use Rattle.aig_step.specs.Stops.{sim_stops}
 
 -- The verdict for these bytes of a model and of a witness file: the model is the file of a circuit, this is claimed of
 -- it, and this is the verdict on that.

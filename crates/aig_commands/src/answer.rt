@@ -1,18 +1,17 @@
 //! What is written in the end of a job.
 ghost use Rattle.std.specs.Prelude.{◌≡◌, IfErr, OnErr, OnOk};
-ghost use Rattle.aig_commands.specs.declared.stopped.Stopped.TheVariants.{WriteFailed};
+ghost use Rattle.aig_fault.specs.declared.stopped.Stopped.TheVariants.{WriteFailed};
 ghost use Rattle.aig_fault.specs.Words.{message_text};
 ghost use Rattle.aig_io.specs.Devices.{took, TookBeginning};
 ghost use Rattle.aig_commands.specs.Jobs.{text_of};
 ghost use Rattle.aig_commands.specs.Refuting.{none_text};
 ghost use Rattle.aig_commands.specs.Unrolling.{unrolled_text};
 
-use crate::stopped::Stopped;
 use aig_binary::{Ordered, write_binary};
 use aig_command::UnrolledForm;
 use aig_convert::{MappedImage, write_mapped};
 use aig_core::{Checked, DeviceFault, Output, Sink};
-use aig_fault::Message;
+use aig_fault::{Message, Stopped};
 use aig_replay::FoundWitness;
 use aig_text::{WriteFault, write_ascii};
 use aig_unroll::Unrolling;

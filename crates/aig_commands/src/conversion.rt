@@ -2,7 +2,7 @@
 ghost use Rattle.std.specs.Prelude.{◌≡◌, ◌≢◌, ◌<◌, [], true, IfErr, IfOk, length, OnOk};
 ghost use Rattle.aig_fault.specs.declared.fault.Place.TheVariants.{Whole};
 ghost use Rattle.aig_fault.specs.declared.kind.Kind.TheVariants.{HasBad};
-ghost use Rattle.aig_commands.specs.Stopping.{fault_at, StopsFor};
+ghost use Rattle.aig_fault.specs.Stopping.{fault_at, StopsFor};
 ghost use Rattle.aig_io.specs.Runs.{Read, Transferred};
 ghost use Rattle.aig_map.specs.Undone.{IsMapFault};
 ghost use Rattle.aig_command.specs.Answer.{IsKeptAlone};
@@ -16,10 +16,10 @@ ghost use Rattle.aig_commands.specs.Reading.{AtItsEnd, ReadSays};
 use crate::answer::Answer;
 use crate::file::read_circuit;
 use crate::outputs_as_bad::{symbols_if_free, with_outputs_as_bad};
-use crate::stopped::Stopped;
 use aig_command::ToAig;
 use aig_convert::{MapFault, into_binary, into_binary_with_map, undo};
 use aig_core::{Checked, Circuit, Keep, OutOfMemory, Sink, Source, Steps, Symbols};
+use aig_fault::Stopped;
 use std::alloc::Global;
 
 /// What is wanted of the check later: a binary image of the circuit that is read needs an order of

@@ -3,9 +3,9 @@ ghost use Rattle.aig_io.specs.Runs.{Read};
 ghost use Rattle.aig_commands.specs.File.{IsFileOf};
 ghost use Rattle.aig_commands.specs.Reading.{AtItsEnd, IsUnreadable, ReadSays};
 
-use crate::stopped::Stopped;
 use aig_binary::read_source;
 use aig_core::{Checked, Keep, Source};
+use aig_fault::Stopped;
 use aig_text::Limits;
 use std::alloc::Global;
 

@@ -12,11 +12,11 @@ use crate::conversion::read_conversion;
 use crate::file::read_circuit;
 use crate::proving::{read_clauses, read_never, read_proving_model, read_strengthened};
 use crate::reaching::{read_selected, read_solved};
-use crate::stopped::Stopped;
 use crate::task::{Task, task_of};
 use crate::unrolling::read_unrolling;
 use aig_command::{Command, Invariant, Reach, Sim, ToAig, Unroll};
 use aig_core::{Checked, Keep, Source};
+use aig_fault::Stopped;
 use std::alloc::Global;
 
 /// One of the sources of a job.

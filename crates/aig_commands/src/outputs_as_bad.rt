@@ -2,12 +2,11 @@
 ghost use Rattle.std.specs.Prelude.{◌≡◌, ◌≢◌, [], IfErr, IfOk, map};
 ghost use Rattle.aig_fault.specs.declared.fault.Place.TheVariants.{Whole};
 ghost use Rattle.aig_fault.specs.declared.kind.Kind.TheVariants.{HasBad};
-ghost use Rattle.aig_commands.specs.Stopping.{fault_at, StopsFor};
+ghost use Rattle.aig_fault.specs.Stopping.{fault_at, StopsFor};
 ghost use Rattle.aig_commands.specs.OutputsAsBad.{kind_as_bad, symbol_as_bad, with_outputs_as_bad};
 
-use crate::stopped::{Stopped, refused_whole};
 use aig_core::{BorrowedSymbol, Checked, Circuit, Kind, OutOfMemory, Symbols};
-use aig_fault::Kind as FaultKind;
+use aig_fault::{Kind as FaultKind, Stopped, refused_whole};
 use std::alloc::Global;
 
 /// What becomes of the kind that a symbol names.

@@ -12,10 +12,10 @@ use crate::answer::Answer;
 use crate::file::read_circuit;
 use crate::reaching::selected_with_clauses;
 use crate::refuting::read_refutation;
-use crate::stopped::Stopped;
 use crate::unrolling::unroll_as;
 use aig_command::{Invariant, UnrolledForm};
 use aig_core::{Checked, Keep, Source};
+use aig_fault::Stopped;
 use aig_invariant::with_invariant;
 use std::alloc::Global;
 

@@ -1,6 +1,6 @@
 //! A solver's proof that the clauses of a circuit cannot be satisfied.
 ghost use Rattle.std.specs.Prelude.{◌≡◌, ◌<◌, IfErr, IfOk, length};
-ghost use Rattle.aig_commands.specs.declared.stopped.Stopped.TheVariants.{OutOfMemory};
+ghost use Rattle.aig_fault.specs.declared.stopped.Stopped.TheVariants.{OutOfMemory};
 ghost use Rattle.aig_io.specs.Runs.{Read};
 ghost use Rattle.aig_unroll.specs.Unrolled.{IsUnrolled};
 ghost use Rattle.aig_commands.specs.Jobs.{text_of};
@@ -9,9 +9,9 @@ ghost use Rattle.aig_commands.specs.Refuting.{CanUnroll, IsNoneText, IsRefutatio
 ghost use Rattle.aig_commands.specs.Refuting.{IsUnsatisfiable};
 
 use crate::answer::Answer;
-use crate::stopped::Stopped;
 use aig_command::Reach;
 use aig_core::{Checked, Ordered, Source};
+use aig_fault::Stopped;
 use aig_refute::check_refutation;
 use aig_unroll::unroll;
 use std::alloc::Global;

@@ -1,6 +1,6 @@
 //! `aigunroll`: copies of a circuit in time, as one circuit or as clauses.
 ghost use Rattle.std.specs.Prelude.{◌≡◌, ◌<◌, ◌≤◌, IfErr, IfOk, length, OnOk};
-ghost use Rattle.aig_commands.specs.Stopping.{StopsFor};
+ghost use Rattle.aig_fault.specs.Stopping.{StopsFor};
 ghost use Rattle.aig_io.specs.Runs.{Read, Transferred};
 ghost use Rattle.aig_command.specs.Answer.{HasFrames};
 ghost use Rattle.aig_replay.specs.Alone.{HasSelected, NotSelected, selected_of};
@@ -13,9 +13,9 @@ ghost use Rattle.aig_commands.specs.Unrolling.{NotWritable};
 
 use crate::answer::Answer;
 use crate::file::read_circuit;
-use crate::stopped::Stopped;
 use aig_command::{Unroll, UnrolledForm};
 use aig_core::{Checked, Keep, Sink, Source};
+use aig_fault::Stopped;
 use aig_replay::{SelectFault, with_selected_bad};
 use aig_unroll::{ClauseFault, Unrolling};
 use std::alloc::Global;

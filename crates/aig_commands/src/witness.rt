@@ -9,10 +9,9 @@ ghost use Rattle.aig_commands.specs.WitnessOutcome.{answer_line, AnswerSays};
 
 use crate::answer::send_message;
 use crate::file::read_circuit;
-use crate::stopped::Stopped;
 use aig_command::Sim;
 use aig_core::{Checked, DeviceFault, Keep, Sink, Source};
-use aig_fault::Message;
+use aig_fault::{Message, Stopped};
 use aig_witness::{Verdict, confirm};
 use std::alloc::Global;
 

@@ -15,6 +15,7 @@ mod growth;
 pub mod laws;
 mod reader;
 mod row;
+mod stops;
 
 pub use crate::fault::InvariantFault;
 pub use crate::reader::with_invariant;

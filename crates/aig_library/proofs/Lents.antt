@@ -24,12 +24,12 @@ use Rattle.aig_commands.specs.Jobs.{IsSolvedRefused, Refuses}
 use Rattle.aig_commands.specs.Reaching.{IsReachRefused}
 use Rattle.aig_commands.specs.Reading.{AtAnyTime, AtItsEnd, ReadSays}
 use Rattle.aig_commands.specs.Refuting.{IsRefutationRefused}
-use Rattle.aig_commands.specs.Stops.{refutation_stops}
+use Rattle.aig_refute.specs.Stops.{refutation_stops}
 use Rattle.aig_commands.specs.declared.job.Reading.{Reading}
 use Rattle.aig_commands.specs.declared.job.Reading.TheVariants as readings
 use Rattle.aig_fault.specs.declared.fault.Fault.{Fault}
-use Rattle.aig_commands.specs.declared.stopped.Stopped.{Stopped}
-use Rattle.aig_commands.specs.declared.stopped.Stopped.TheVariants as stops
+use Rattle.aig_fault.specs.declared.stopped.Stopped.{Stopped}
+use Rattle.aig_fault.specs.declared.stopped.Stopped.TheVariants as stops
 use Rattle.aig_library.specs.Outcome.{StopsInMemory}
 
 -- what a refutation is refused for, it is refused for at its end

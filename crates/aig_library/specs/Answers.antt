@@ -11,7 +11,7 @@ use Rattle.aig_witness.specs.declared.verdict.Verdict.{Verdict}
 use Rattle.aig_witness.specs.declared.verdict.Verdict.TheVariants.{Confirmed, NotConfirmed}
 use Rattle.aig_dump.specs.InMemory.{IsBadStimulus, IsBadWitness}
 use Rattle.aig_fault.specs.declared.fault.Fault.{Fault}
-use Rattle.aig_commands.specs.declared.stopped.Stopped.TheVariants as stops
+use Rattle.aig_fault.specs.declared.stopped.Stopped.TheVariants as stops
 use Rattle.aig_invariant.specs.Laws.{IsNever}
 use Rattle.aig_commands.specs.Conversion.{IsConversionRefused, IsConversionText}
 use Rattle.aig_commands.specs.File.{IsFileOf}
@@ -21,7 +21,7 @@ use Rattle.aig_commands.specs.Reaching.{IsModelRefused, IsReachRefused, IsReachT
 use Rattle.aig_commands.specs.Reading.{IsUnreadable}
 use Rattle.aig_commands.specs.Refuting.{IsNoneWithin, NotRefuted}
 use Rattle.aig_commands.specs.Simulation.{IsWrittenText}
-use Rattle.aig_commands.specs.Stops.{sim_stops}
+use Rattle.aig_step.specs.Stops.{sim_stops}
 use Rattle.aig_commands.specs.Unrolling.{IsUnrollingRefused, IsUnrollingText}
 use Rattle.aig_commands.specs.WitnessDump.{IsWitnessDumpText}
 use Rattle.aig_commands.specs.WitnessOutcome.{IsWitnessAnswer}

@@ -12,7 +12,7 @@ use Rattle.aig_array_steps.specs.declared.one_step.StepFault.{StepFault}
 use Rattle.aig_commands.specs.Conversion.{IsTextAs}
 use Rattle.aig_commands.specs.File.{IsFileOf}
 use Rattle.aig_commands.specs.Reading.{IsUnreadable}
-use Rattle.aig_commands.specs.Stopping.{fault_at}
+use Rattle.aig_fault.specs.Stopping.{fault_at}
 use Rattle.aig_fault.specs.declared.fault.Fault.{Fault}
 use Rattle.aig_fault.specs.declared.fault.Place.TheVariants.{Whole}
 use Rattle.aig_fault.specs.declared.kind.Kind.TheVariants.{TooLarge}

@@ -4,15 +4,15 @@ use Rattle.aig_array_steps.specs.declared.one_step.StepFault.{StepFault}
 use Rattle.aig_array_steps.specs.declared.one_step.StepFault.TheVariants as step_faults
 use Rattle.aig_arrays.specs.declared.fault.ArrayFault.{ArrayFault}
 use Rattle.aig_arrays.specs.declared.fault.ArrayFault.TheVariants as array_faults
-use Rattle.aig_commands.specs.Stops.{kind_stops}
-use Rattle.aig_commands.specs.Stopping.{fault_at, refusal}
+use Rattle.aig_rows.specs.Stops.{kind_stops}
+use Rattle.aig_fault.specs.Stopping.{fault_at, refusal}
 use Rattle.aig_fault.specs.Words.{kind_number}
 use Rattle.aig_fault.specs.declared.fault.Fault.{Fault}
 use Rattle.aig_fault.specs.declared.fault.Place.{Place}
 use Rattle.aig_fault.specs.declared.fault.Place.TheVariants as places
 use Rattle.aig_fault.specs.declared.kind.Kind.TheVariants as kinds
-use Rattle.aig_commands.specs.declared.stopped.Stopped.{Stopped}
-use Rattle.aig_commands.specs.declared.stopped.Stopped.TheVariants as stops
+use Rattle.aig_fault.specs.declared.stopped.Stopped.{Stopped}
+use Rattle.aig_fault.specs.declared.stopped.Stopped.TheVariants as stops
 use Rattle.aig_text.specs.Reading.{kind_of}
 use Rattle.aig_library.specs.Numbers as numbers
 use Rattle.aig_library.specs.declared.outcome.Outcome.{Outcome}

@@ -3,4 +3,5 @@ pub mod MapSpelling
 pub mod MapReading
 pub mod Undone
 pub mod Messages
+pub mod Stops
 pub mod Parts

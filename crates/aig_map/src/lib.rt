@@ -16,6 +16,7 @@ mod map_reading;
 mod map_text;
 mod recorded;
 mod recording;
+mod stops;
 mod turns;
 mod undone;
 

@@ -1,4 +1,5 @@
 pub mod Store
 pub mod Agree
 pub mod Messages
+pub mod Stops
 pub mod Refuted

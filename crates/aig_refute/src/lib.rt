@@ -18,6 +18,7 @@ mod kernel;
 mod propagation;
 mod reader;
 mod reading;
+mod stops;
 mod words;
 
 pub use crate::checker::Checker;

@@ -7,3 +7,4 @@ pub mod Alone
 pub mod Reached
 pub mod Held
 pub mod Messages
+pub mod Stops

@@ -16,6 +16,7 @@ mod found;
 pub mod laws;
 mod search;
 mod start;
+mod stops;
 mod writer;
 
 pub use crate::alone::with_selected_bad;

@@ -7,5 +7,6 @@ pub mod Begun
 pub mod Outcomes
 pub mod Kept
 pub mod Messages
+pub mod Stops
 pub mod Laws
 pub mod Parts

@@ -12,10 +12,12 @@ pub mod laws;
 mod number;
 mod row;
 mod rows;
+mod stops;
 mod word;
 
 pub use crate::fault::{CANNOT_READ, CANNOT_WRITE, OUT_OF_MEMORY, Place, ReadFault, ReadKind};
 pub use crate::number::{canonical_number, ends_line, leading_number, more_numbers};
 pub use crate::row::{FromRow, NextState};
 pub use crate::rows::{Due, next_states, read_first_rows, read_rows};
+pub use crate::stops::kind_stops;
 pub use aig_fault::Message;

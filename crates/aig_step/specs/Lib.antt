@@ -6,4 +6,5 @@ pub mod StimulusText
 pub mod Outcome
 pub mod Laws
 pub mod Messages
+pub mod Stops
 pub mod Parts

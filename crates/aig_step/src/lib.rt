@@ -15,6 +15,7 @@ mod machine;
 mod simulator;
 mod stepper;
 mod stimulus;
+mod stops;
 mod trace;
 
 pub use crate::cells::{Code, Table};

@@ -14,6 +14,7 @@ mod parts;
 mod pieces;
 mod reader;
 mod section;
+mod stops;
 mod tail_lines;
 mod writer;
 

@@ -19,7 +19,7 @@ use Rattle.aig_wave.specs.Wave.{wave_text}
 use Rattle.aig_commands.specs.File.{IsFileOf}
 use Rattle.aig_commands.specs.Simulation.{IsDumpText, IsSimulationText, columns_of, task_of}
 use Rattle.aig_tools.specs.SimulationOutcome.{OfSteps, SimulationsWriteTheirTexts, TaskSays}
-use Rattle.aig_commands.specs.Stops.{sim_stops}
+use Rattle.aig_step.specs.Stops.{sim_stops}
 use Rattle.aig_commands.specs.WitnessDump.{RunDumpSays}
 use Rattle.aig_commands.specs.declared.task.Task.TheVariants as tasks
 

@@ -15,7 +15,7 @@ use Rattle.aig_commands.specs.declared.job.Part.{Part}
 use Rattle.aig_commands.specs.declared.job.Part.TheVariants.{File, Model}
 use Rattle.aig_commands.specs.declared.job.Reading.{Reading}
 use Rattle.aig_commands.specs.declared.task.Task.{Task}
-use Rattle.aig_commands.specs.declared.stopped.Stopped.{Stopped}
+use Rattle.aig_fault.specs.declared.stopped.Stopped.{Stopped}
 use Rattle.aig_witness.specs.declared.verdict.Verdict.{Verdict}
 use Rattle.aig_witness.specs.declared.verdict.Verdict.TheVariants.{Confirmed, NotConfirmed}
 use Rattle.aig_tools.specs.Lines.{IsReported, name_at, stop_line, usage_text}

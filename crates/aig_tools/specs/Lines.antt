@@ -7,9 +7,9 @@ use Rattle.aig_command.specs.declared.usage.Usage.{Usage}
 use Rattle.aig_command.specs.declared.usage.Usage.TheVariants as usages
 use Rattle.aig_commands.specs.declared.job.Part.{Part}
 use Rattle.aig_commands.specs.declared.job.Part.TheVariants.{File, Model, Refutation}
-use Rattle.aig_commands.specs.Stopping.{stopped_text}
-use Rattle.aig_commands.specs.declared.stopped.Stopped.{Stopped}
-use Rattle.aig_commands.specs.declared.stopped.Stopped.TheVariants.{OutOfMemory, ReadFailed, Refused, WriteFailed}
+use Rattle.aig_fault.specs.Stopping.{stopped_text}
+use Rattle.aig_fault.specs.declared.stopped.Stopped.{Stopped}
+use Rattle.aig_fault.specs.declared.stopped.Stopped.TheVariants.{OutOfMemory, ReadFailed, Refused, WriteFailed}
 use Rattle.aig_io.specs.Devices.{History, TookBeginning, took}
 use Rattle.aig_io.specs.Messages.{out_of_memory_text}
 

@@ -6,10 +6,10 @@ use Rattle.aig_command.specs.declared.request.Sim.{Sim}
 use Rattle.aig_step.specs.declared.fault.SimFault.{SimFault}
 use Rattle.aig_witness.specs.declared.verdict.Verdict.{Verdict}
 use Rattle.aig_dump.specs.Dumped.{DumpSays, TraceSaysAs}
-use Rattle.aig_commands.specs.declared.stopped.Stopped.{Stopped}
+use Rattle.aig_fault.specs.declared.stopped.Stopped.{Stopped}
 use Rattle.aig_commands.specs.File.{IsFileOf}
 use Rattle.aig_commands.specs.Simulation.{IsWrittenText, task_of}
-use Rattle.aig_commands.specs.Stops.{sim_stops}
+use Rattle.aig_step.specs.Stops.{sim_stops}
 use Rattle.aig_commands.specs.WitnessDump.{RunDumpSays}
 use Rattle.aig_commands.specs.WitnessOutcome.{AnswerSays}
 use Rattle.aig_commands.specs.declared.task.Task.{Task}

@@ -3,7 +3,7 @@
 ghost use Rattle.std.specs.Prelude.{◌≡◌, ◌<◌, ◌≤◌, IfErr, IfOk, length, None, OnOk, Some};
 ghost use Rattle.aig_io.specs.Devices.{History};
 ghost use Rattle.aig_command.specs.Answer.{name_of};
-ghost use Rattle.aig_commands.specs.declared.stopped.Stopped.TheVariants.{WriteFailed};
+ghost use Rattle.aig_fault.specs.declared.stopped.Stopped.TheVariants.{WriteFailed};
 ghost use Rattle.aig_commands.specs.Jobs.{CanDo, CanRead, Makes, Refuses, text_of};
 ghost use Rattle.aig_commands.specs.Reading.{ReadSays};
 ghost use Rattle.aig_tools.specs.Ends.{Concludes, done_status};

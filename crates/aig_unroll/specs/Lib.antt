@@ -3,4 +3,5 @@ pub mod SideBySide
 pub mod Laws
 pub mod Outcome
 pub mod Messages
+pub mod Stops
 pub mod Parts

@@ -9,6 +9,7 @@
 mod fault;
 mod frames;
 pub mod laws;
+mod stops;
 mod substitution;
 mod unroller;
 mod unrolling;

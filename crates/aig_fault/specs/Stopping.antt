@@ -6,8 +6,8 @@ use Rattle.aig_io.specs.declared.transfer.ReadError.TheVariants as errors
 use Rattle.aig_fault.specs.declared.fault.Fault.{Fault}
 use Rattle.aig_fault.specs.declared.fault.Place.{Place}
 use Rattle.aig_fault.specs.declared.kind.Kind.{Kind}
-use Rattle.aig_commands.specs.declared.stopped.Stopped.{Stopped}
-use Rattle.aig_commands.specs.declared.stopped.Stopped.TheVariants.{OutOfMemory, ReadFailed, Refused, WriteFailed}
+use Rattle.aig_fault.specs.declared.stopped.Stopped.{Stopped}
+use Rattle.aig_fault.specs.declared.stopped.Stopped.TheVariants.{OutOfMemory, ReadFailed, Refused, WriteFailed}
 use Rattle.aig_fault.specs.Words.{fault_text}
 
 abbrev pub fault_at : Kind → Place → ℕ → Fault

@@ -1,13 +1,14 @@
 //! Why a call made nothing.
 ghost use Rattle.std.specs.Prelude.{◌≡◌};
 ghost use Rattle.aig_io.specs.Output.{Appended};
-ghost use Rattle.aig_commands.specs.declared.stopped.Stopped.TheVariants.{OutOfMemory, Refused};
-ghost use Rattle.aig_commands.specs.declared.stopped.Stopped.TheVariants.{WriteFailed};
+ghost use Rattle.aig_fault.specs.declared.stopped.Stopped.TheVariants.{OutOfMemory, Refused};
+ghost use Rattle.aig_fault.specs.declared.stopped.Stopped.TheVariants.{WriteFailed};
 ghost use Rattle.aig_fault.specs.declared.fault.Place.TheVariants.{Line, Whole};
-ghost use Rattle.aig_commands.specs.Stopping.{refusal, stopped_by, stopped_text};
+ghost use Rattle.aig_fault.specs.Stopping.{refusal, stopped_by, stopped_text};
 
-use aig_core::{DeviceFault, Output, ReadError, Sink};
-use aig_fault::{Fault, Kind, Place};
+use crate::fault::{Fault, Place};
+use crate::kind::Kind;
+use aig_io::{DeviceFault, Output, ReadError, Sink};
 use std::alloc::{AllocError, AllocFailed};
 use thiserror::Error;
 
