@@ -555,6 +555,17 @@ printf '#!/bin/bash\nread -r _ ignored < <(grep ^SigIgn /proc/self/status)\necho
 edit
 wants '1\n' "$proves" 0
 check 'it is ignored' signalled
+# no file grows then, so what comes goes through pipes
+limited() { { (ulimit -f 0 && exec env --default-signal=XFSZ "$tree/aiger") 2>&1 | cat; } 2>&1; return "${PIPESTATUS[0]}"; }
+wants '1\n' '' 0
+check 'where no file may grow, and the program is noted' limited
+look_again
+check 'where it is noted, and was not looked at in this second' limited
+look_again
+rm -f "$out/launch.stamp"
+check 'and where nothing is noted' limited
+wants "$out/launch.seen\n" '' 0
+check 'which leaves no other file' find "$out" -name 'launch.*'
 cp "$program" "$work/program"
 
 # --- a folder that cannot be written ---
