@@ -13,9 +13,9 @@ const WAVEFORM: &str = "to write a waveform, use --vcd";
 
 const FRAMES: &str = "the number of time frames is given by --frames";
 
-/// What stands here for the option with which the argument of the command begins.
-fn hint<'a>(command: &str, argument: &str) -> Option<&'a str> {
-    let hint = match (command, argument.get(..2)?) {
+/// What stands here for this option of the command.
+fn hint<'a>(command: &str, option: &str) -> Option<&'a str> {
+    let hint = match (command, option) {
         ("aigtoaig" | "aigunroll", "-a") => IN_ASCII,
         ("aigtoaig", "-s") => STRIPPED,
         ("aigsim", "-r" | "-s") => BY_CHANCE,
@@ -27,25 +27,14 @@ fn hint<'a>(command: &str, argument: &str) -> Option<&'a str> {
     Some(hint)
 }
 
-/// The hint for the first argument that has one.
-fn first_hint<'a>(words: &[String]) -> Option<&'a str> {
-    let [_, command, arguments @ ..] = words else {
-        return None;
-    };
-    for argument in arguments {
-        if let Some(hint) = hint(command.as_str(), argument.as_str()) {
-            return Some(hint);
-        }
-    }
-    None
-}
-
-/// The text of `clap` on a command line that is refused. Where it has a tip, which is that an option
-/// that there is not may be meant as a value, the hint stands in its place.
+/// The text of `clap` on a command line that is refused. Where it says how an option that is not
+/// known can be passed as a value, and there is a hint on this option, it says that instead.
 pub(crate) fn with_hint(alloc: Global, words: &[String], text: &str) -> Result<String, AllocError> {
-    if let Some(hint) = first_hint(words)
-        && let Some((before, after)) = text.split_once("  tip: to pass ")
-        && let Some((_, after)) = after.split_once('\n')
+    if let [_, command, ..] = words
+        && let Some((before, named)) = text.split_once("  tip: to pass '")
+        && let Some((option, tip)) = named.split_once('\'')
+        && let Some(hint) = hint(command.as_str(), option)
+        && let Some((_, after)) = tip.split_once('\n')
     {
         return format!(in alloc; "{before}  tip: {hint}\n{after}");
     }
