@@ -244,7 +244,8 @@ check 'the lines of crates.txt that it copies' cat "$work/lines"
 wants "$small" '' 0
 check 'the launch after it' launch aigtoaig --ascii < "$work/small"
 again="\n\nUsage: aiger <COMMAND>\n\nFor more information, try '--help'.\n"
-wants '' "error: 'aiger' requires a subcommand but one was not provided\n  [subcommands: aigtoaig, aigsim, aigunroll]$again" 2
+"$program" --help > "$work/help"
+wants '' "$(cat "$work/help")\n" 2
 check 'no words to the launcher' launch
 wants '' "error: unrecognized subcommand 'aigtoaig --ascii'\n\n  tip: a similar subcommand exists: 'aigtoaig'$again" 2
 check 'one word of two to the launcher' launch 'aigtoaig --ascii'
