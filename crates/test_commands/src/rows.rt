@@ -697,12 +697,7 @@ fn longest_shown(alloc: Global, line: &str) -> Result<usize, Fail> {
 
 #[test]
 fn help_fits_a_terminal(rt: HostRuntime) -> Result<(), Fail> {
-    let lines = [
-        "help",
-        "help aigtoaig",
-        "help aigsim",
-        "help aigunroll",
-    ];
+    let lines = ["help", "help aigtoaig", "help aigsim", "help aigunroll"];
     for line in lines.iter() {
         let longest = longest_shown(rt.alloc(), line)?;
         assert!(rt; longest <= 80, "{line}");
