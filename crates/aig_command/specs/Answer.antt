@@ -69,14 +69,14 @@ version_text = codes "aiger " ++ VERSION.now ++ codes "\n"
 abbrev pub IsWrong : List Text → ErrorKind → Type 0
 IsWrong words kind = IsAmong kind (faults words) × (takes aiger words ≡ false)
 
--- the command, with the files of these names, is what the arguments ask for; a text of help has a byte at least, and no
--- file is named with help or version
+-- the command, with the files of these names, is what the arguments ask for; a text that is shown has a byte at least,
+-- and no file is named with it
 abbrev pub IsCommand : List Text → Names → Command → Type 0
 IsCommand words names (commands.Help text) =
     IsWrong words DisplayHelp × (asks_for_help words ≡ true) × (0 < string_len text) × (names ≡ no_names)
 IsCommand words names (commands.Version text) =
-    IsWrong words DisplayVersion × (asks_for_version words ≡ true) × (string_bytes text ≡ version_text)
-    × (names ≡ no_names)
+    IsWrong words DisplayVersion × (asks_for_version words ≡ true) × (0 < string_len text)
+    × (string_bytes text ≡ version_text) × (names ≡ no_names)
 IsCommand words names command = command_of words ≡ Some (asks (files_of names) command)
 
 -- the arguments are refused for this reason, which has words
@@ -145,7 +145,8 @@ abbrev pub IsErrorAnswer : ErrorKind → List Text → Result Command Usage → 
 IsErrorAnswer kind words (Ok (commands.Help text)) =
     (kind ≡ DisplayHelp) × (asks_for_help words ≡ true) × (0 < string_len text)
 IsErrorAnswer kind words (Ok (commands.Version text)) =
-    (kind ≡ DisplayVersion) × (asks_for_version words ≡ true) × (string_bytes text ≡ version_text)
+    (kind ≡ DisplayVersion) × (asks_for_version words ≡ true) × (0 < string_len text)
+    × (string_bytes text ≡ version_text)
 IsErrorAnswer kind words (Err usage.OutOfMemory) = ⊤
 IsErrorAnswer kind words (Err (usage.Words text)) =
     (kind ≢ OutOfMemory) × (kind ≡ DisplayHelp → asks_for_help words ≡ false)

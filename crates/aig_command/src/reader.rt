@@ -121,7 +121,8 @@ fn clap_text(alloc: Global, words: &[String], error: &Error) -> Result<String, A
 
 /// The program and its version, also behind a command.
 fn version_text(alloc: Global) -> Result<String, AllocError>
-    ensures { IfOk result (λ text. string_bytes text ≡ version_text) }
+    ensures some { IfOk result (λ text. 0 < string_len text) }
+    ensures is { IfOk result (λ text. string_bytes text ≡ version_text) }
 {
     format!(in alloc; "aiger {VERSION}\n")
 }
