@@ -97,7 +97,7 @@ module _ (words : List Text) (kind : ErrorKind) (passes : takes aiger words ≡ 
   refused_command (Ok (commands.Help text)) h =
       (subst (IsWrong words) h.0 (is_wrong (λ memory. cc (h.0))), h.1, h.2, refl)
   refused_command (Ok (commands.Version text)) h =
-      (subst (IsWrong words) h.0 (is_wrong (λ memory. cc (h.0))), h.1, h.2, refl)
+      (subst (IsWrong words) h.0 (is_wrong (λ memory. cc (h.0))), h.1, h.2, h.3, refl)
   refused_command (Ok command) h = absurd h
   refused_command (Err reason) h = tt
 
