@@ -92,6 +92,9 @@ checks_at() {
     fi
 }
 
+# designs_at FOLDER PROGRAM: what this aiger-check says of each assertion of the designs in a folder
+designs_at() { ( cd "$1" && unset AIGER && "$2" --quiet --time 10 --top queue ./*.sv | sed '$d; s|(\./|(|' ); }
+
 # --- release/install ---
 install_files='bin/aiger
 bin/aiger-check
@@ -213,7 +216,7 @@ install_packages() {
 newest_needed() { objdump -T "$1" | grep -o 'GLIBC_[0-9.]*' | sort -uV | tail -n 1; }
 
 if ! command -v dpkg-deb > /dev/null; then
-    skip 18 'no dpkg-deb'
+    skip 19 'no dpkg-deb'
 else
     root=$work/root
     mkdir "$root"
@@ -247,6 +250,13 @@ python3-aigtools_${version}_all.deb" env LC_ALL=C ls "$packages"
         PYTHONPATH="$root/usr/lib/python3/dist-packages" python3 -c "$module"
     export LIBAIGTOOLS=$root$multiarch/libaigtools.so.1
     checks_at 'the package' "$root/usr/bin/aiger-check"
+    if command -v yosys > /dev/null && command -v berkeley-abc > /dev/null && command -v cadical > /dev/null; then
+        # the lines of README, of the copies that the package has
+        check 'the designs of the package' same "$(sed -n 's|^    \(.*\)examples/verilog/\(.*: .*\)|\1\2|p' "$top/README.md")" \
+            designs_at "$root/usr/share/doc/aiger-check/examples" "$root/usr/bin/aiger-check"
+    else
+        skip 1 'no yosys, berkeley-abc or cadical'
+    fi
     unset LIBAIGTOOLS
     check 'no folder' fails 125 "there is no folder $work/none" "$tree/release/deb" "$work/none"
 fi

@@ -90,11 +90,9 @@ def judged(program, page, skips):
         yield None if is_same else f"{command} prints\n{came}and not\n{wanted}"
 
 
-# a model for README's table: two latches that are never both 1; one of these whose negation is the bad state; and one
-# whose outputs become bad states
+# models for README's table: two latches that are never both 1; and an input behind two latches
 SAFE = b"aag 5 1 2 0 2 1\n2\n4 8\n6 4\n10\n8 2 5\n10 6 4\n"
 UNSAFE = b"aag 3 1 2 0 0 1\n2\n4 2\n6 4\n6\n"
-OLD = b"aag 1 1 0 1 0\n2\n2\n"
 # what a command of the table prints, by a word of it; and those that only a run makes succeed, or only that there is none
 PRINTS = {"--refutation m20.drat": b"none within 20\n", "--refutation m.drat": b"never\n", "--witness": b"confirmed 2\n"}
 OF_RUN, OF_NONE = ("--answer", "--witness"), ("--refutation",)
@@ -120,7 +118,7 @@ def table_rows(program):
     for is_safe in (True, False):
         with tempfile.TemporaryDirectory() as folder:
             (Path(folder) / "aiger").symlink_to(program)
-            for name, text in {"model.aag": SAFE if is_safe else UNSAFE, "old.aig": OLD, "steps.txt": b"1\n"}.items():
+            for name, text in {"model.aag": SAFE if is_safe else UNSAFE, "steps.txt": b"1\n"}.items():
                 (Path(folder) / name).write_bytes(text)
             # of a model with a run ABC's rows are no invariant
             asked = found if is_safe else [it for it in found if not re.search(r"\bm\.(pla|cnf|drat)", it)]
