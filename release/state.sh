@@ -93,8 +93,8 @@ write_pc() { sed "s|^prefix=.*|prefix=$1|; s|^libdir=.*|libdir=$2|" "$top/releas
 write_check() {
     cat << CHECK
 #!/bin/sh
-# Runs aiger_check.py of ../$1, with the program aiger beside this one.
+# Runs aiger_check.py of ../$1, with the program aiger beside this one, and leaves no other file there.
 here=\$(dirname "\$(readlink -f "\$0")")
-AIGER=\${AIGER:-\$here/aiger} exec python3 "\$here/../$1/aiger_check.py" "\$@"
+AIGER=\${AIGER:-\$here/aiger} exec python3 -B "\$here/../$1/aiger_check.py" "\$@"
 CHECK
 }
