@@ -3,7 +3,7 @@
 # asked_for WORD..: whether memory of the program that the words run is marked for large pages, at the latest once it has read
 # all that came of a circuit and waits for more
 asked_for() {
-    local from child marked state
+    local from child state marked=0
     rm -f "$work/pipe"
     mkfifo "$work/pipe"
     "$@" aigtoaig - /dev/null < "$work/pipe" > /dev/null 2>&1 &
