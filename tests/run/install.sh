@@ -92,6 +92,14 @@ checks_at() {
     fi
 }
 
+# not_in_manual PROGRAM: the options in the help of this aiger-check that its manual page does not have
+not_in_manual() {
+    local option
+    for option in $("$1" --help | grep -oE '(^|[ ,])--?[A-Za-z-]+' | tr -d ', ' | sort -u); do
+        grep -qF -- "Cm ${option//-/\\-}" "$top/man/aiger-check.1" || echo "$option"
+    done
+}
+
 # designs_at FOLDER PROGRAM: what this aiger-check says of each assertion of the designs in a folder
 designs_at() { ( cd "$1" && unset AIGER && "$2" --quiet --time 10 --top queue ./*.sv | sed '$d; s|(\./|(|' ); }
 
@@ -119,6 +127,7 @@ check 'Python finds the library' same "$module_says" \
 ln -s "$staged/opt/aig/bin/aiger-check" "$work/linked"
 checks_at 'a prefix' "$staged/opt/aig/bin/aiger-check"
 checks_at 'a prefix, by a link' "$work/linked"
+check 'its options stand in the manual page' same '' not_in_manual "$work/linked"
 check 'another aiger for it' fails 2 'aiger-check: ' env AIGER=false "$work/linked" "$work/model.aag"
 check 'the destination by =' "$tree/release/install" --destdir="$work/by name" /opt/aig
 check 'its files' same "$install_files" files_below "$work/by name/opt/aig"
