@@ -8,6 +8,7 @@ export AIGER=$1
 . "$top/tests/lib/pages.sh"
 . "$top/tests/lib/streams.sh"
 need_program
+PATH=$PATH:/usr/sbin:/sbin   # where chroot is, which the PATH of a user may not have
 
 # --- a root that has the program, a circuit, and nothing else ---
 root=$work/root
