@@ -9,6 +9,7 @@
 . "$(dirname "${BASH_SOURCE[0]}")/../lib/judge.sh"
 . "$top/release/state.sh"
 unset LIBAIGTOOLS PYTHONPATH LD_LIBRARY_PATH
+PATH=$(tr : '\n' <<< "$PATH" | grep -v '/sbin$' | paste -sd :)   # as that of a user, whoever runs this
 
 # check NAME WORD..: whether the words succeed; what they say is shown where they do not
 check() {

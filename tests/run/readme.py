@@ -1,13 +1,13 @@
 #!/usr/bin/env python3
 """Runs the commands of pages, and sees that each prints what stands there.
 
-    tests/run/readme.py PROGRAM [PAGE ..]      by default README.md, examples/README.md and the manual pages
+    tests/run/readme.py PROGRAM [PAGE ..]      by default README.md, examples/README.md, docs/TOOLS.md and the manual pages
 
 A command is an indented line that begins with `$`. What it prints is the indented lines behind it. In a manual page
 both stand in literal displays. Those of a page run in one shell, in which the program is found on the PATH too, so that
 a folder and a variable hold for the next ones. Those with python3 are skipped where the library is too old for the
 Python module, as the released one is while a version is made; tests/run/library.py sees that it is not. Those with
-aiger-check are skipped there too, and where a tool that it works with is not installed.
+aiger-check are skipped there too, and where a tool that it works with is not installed; so are those of docs/TOOLS.md.
 
 Then the commands of README's table run one after another, over a model whose bad state is never reached and over one in
 which it is, and all must do what the table says.
@@ -28,7 +28,8 @@ from lib import counts
 
 TOP = Path(__file__).resolve().parents[2]
 README = TOP / "README.md"
-PAGES = (README, TOP / "examples" / "README.md", TOP / "man" / "aiger.1", TOP / "man" / "aiger-check.1")
+OF_TOOLS = TOP / "docs" / "TOOLS.md"
+PAGES = (README, TOP / "examples" / "README.md", OF_TOOLS, TOP / "man" / "aiger.1", TOP / "man" / "aiger-check.1")
 TOOLS = "yosys", "berkeley-abc", "cadical"
 COMMAND = re.compile(r"^    \$ (.*)\n((?:    (?!\$ ).*\n)*)", re.M)
 SKIPPED = object()
@@ -66,11 +67,17 @@ def has_module():
     return ran.returncode == 0
 
 
-def skipped_words():
-    """The words whose commands are skipped: what they need is not there."""
-    if not has_module():
-        return "python3", "aiger-check"
-    return () if all(map(shutil.which, TOOLS)) else ("aiger-check",)
+def has_tools():
+    """Whether what aiger-check works with is installed."""
+    return all(map(shutil.which, TOOLS))
+
+
+def skipped_words(page, of_module, of_tools):
+    """The words whose commands are skipped on a page, since there is no module, or a tool is not installed."""
+    if page == OF_TOOLS and not of_tools:
+        return ("",)
+    words = () if of_module else ("python3",)
+    return words if of_module and of_tools else (*words, "aiger-check")
 
 
 def judged(program, page, skips):
@@ -126,10 +133,10 @@ def table_rows(program):
 
 
 def main(program, *pages):
-    program, skips = counts.need_program(program), skipped_words()
-    said = [it for page in pages or PAGES for it in judged(program, page, skips)]
+    program, there = counts.need_program(program), (has_module(), has_tools())
+    said = [it for page in pages or PAGES for it in judged(program, page, skipped_words(page, *there))]
     if not pages:
-        said += table_rows(program) if all(map(shutil.which, TOOLS)) else [SKIPPED]
+        said += table_rows(program) if has_tools() else [SKIPPED]
     skipped = said.count(SKIPPED)
     wrong = [it for it in said if it and it is not SKIPPED]
     counts.finish(wrong, len(said) - len(wrong) - skipped, skipped)
