@@ -1,7 +1,7 @@
 -- Steps of a reading, one after another, and what a line is judged to be.
 use Rattle.std.proofs.Common.{◌≡◌, ◌∙◌, ℕ, Bool, true, false, cond, Result, Ok, Err, refl, rules, Option, Some, None}
 use Rattle.std.proofs.Common.{ap}
-use Rattle.aig_rows.specs.declared.fault.ReadKind.{ReadKind}
+use Rattle.aig_fault.specs.declared.kind.Kind.{Kind}
 use Rattle.aig_rows.specs.Reading.{◌>>=◌, at_line}
 use Rattle.aig_rows.specs.Laws.{IsJudged}
 
@@ -11,7 +11,7 @@ pub both_ok : {A B E : Type 0} (r : Result A E) (f : A → Result B E) (y : B) �
 both_ok (Ok x) f y h = (x, refl, h)
 both_ok (Err e) f y h = cc
 
-pub ok_at_line : {A : Type 0} (n : ℕ) (r : Result A ReadKind) (x : A) → at_line n r ≡ Ok x → r ≡ Ok x
+pub ok_at_line : {A : Type 0} (n : ℕ) (r : Result A Kind) (x : A) → at_line n r ≡ Ok x → r ≡ Ok x
 ok_at_line n (Ok y) x h = cc
 ok_at_line n (Err e) x h = cc
 
@@ -33,8 +33,8 @@ ok_same x y h = cc
 -- What a line is judged to be, where it holds something and where it holds nothing.
 
 -- What a scanner reads decides what is judged, where it reads exactly what the line holds.
-pub by_scanner : {A B : Type 0} (Holds : A → Type 0) (judge : A → Result B ReadKind) (otherwise : ReadKind)
-    (judged : Option A → Result B ReadKind) (read : Option A)
+pub by_scanner : {A B : Type 0} (Holds : A → Type 0) (judge : A → Result B Kind) (otherwise : Kind)
+    (judged : Option A → Result B Kind) (read : Option A)
     → ((x : A) → Holds x → read ≡ Some x) → ((x : A) → read ≡ Some x → Holds x)
     → ((x : A) → judged (Some x) ≡ judge x) → judged None ≡ Err otherwise
     → IsJudged Holds judge otherwise (judged read)

@@ -1,7 +1,7 @@
 use Rattle.std.proofs.Common.{◌≡◌, ◌++◌, ◌+◌, ◌<◌, ◌∙◌, ◌∷◌, Err, List, ℕ, [], length, length-append, inr, ap, sym}
 use Rattle.std.proofs.Common.{arith, drop, refl}
-use Rattle.aig_rows.specs.declared.fault.ReadKind.{ReadKind}
-use Rattle.aig_rows.specs.declared.fault.Place.TheVariants as places
+use Rattle.aig_fault.specs.declared.kind.Kind.{Kind}
+use Rattle.aig_fault.specs.declared.fault.Place.TheVariants as places
 use Rattle.aig_text.proofs.LastBytes.{rest_is}
 use Rattle.aig_binary.specs.Begun.{gates_from}
 use Rattle.aig_binary.specs.BinaryReading.{gate_at}
@@ -91,4 +91,4 @@ returns-then-is_cut-clause-all c =
     let n : length found ≡ c.len-at.result = sym c.len-at.ensures in
     rw same (inr (
     ap (λ (k : ℕ). gate_at (c.args.variable + k) rest) n ∙ c.in-Err.ensures.gate
-    ∙ ap (λ (k : ReadKind). Err k) (c.if-is_cut.ensures.0 refl)))
+    ∙ ap (λ (k : Kind). Err k) (c.if-is_cut.ensures.0 refl)))

@@ -1,7 +1,7 @@
 use Rattle.std.proofs.Common.{◌∙◌, ◌+◌, Err, ℕ, inr, ap, arith, drop, length, length-drop, sym}
 use Rattle.aig_binary.proofs.OneByOne.{alone_cut, alone_done, alone_wrong}
-use Rattle.aig_rows.specs.declared.fault.Place.TheVariants as places
-use Rattle.aig_rows.specs.declared.fault.ReadKind.TheVariants as kinds
+use Rattle.aig_fault.specs.declared.fault.Place.TheVariants as places
+use Rattle.aig_fault.specs.declared.kind.Kind.TheVariants as kinds
 use Rattle.aig_binary.proofs.gates.read_gates.Goals as goal
 
 pub returns-in-Err-clause-gates : goal.returns-in-Err-clause-gates

@@ -1,7 +1,7 @@
 use Rattle.std.proofs.Common.{◌∙◌, ap, inr, sym, Err, ℕ, arith}
 use Rattle.aig_lines.specs.Lines.{Ahead, ahead, lines_of}
 use Rattle.aig_rows.specs.Reading.{fault_at}
-use Rattle.aig_rows.specs.declared.fault.ReadKind.TheVariants as kinds
+use Rattle.aig_fault.specs.declared.kind.Kind.TheVariants as kinds
 use Rattle.aig_rows.proofs.Loops.FirstRows.{have_all, have_few, wrong_alone}
 use Rattle.aig_rows.proofs.rows.read_rows.Goals as goal
 
