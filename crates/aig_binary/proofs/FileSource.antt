@@ -3,8 +3,9 @@ use Rattle.std.proofs.Common.{◌≡◌, ◌∙◌, ◌++◌, ◌≢◌, ◌≤�
 use Rattle.std.proofs.Common.{append_assoc, append-nil, Result, Ok, Err, sym, ap, length, refl, arith, eqb}
 use Rattle.std.proofs.lemmas.Bool.{eqb-false}
 use Rattle.std.proofs.lemmas.List.{drop-append-le}
-use Rattle.aig_io.specs.Devices.{History, gave, took}
+use Rattle.aig_io.specs.Devices.{GaveSome, History, gave, took}
 use Rattle.aig_io.specs.Windows.{Filled}
+use Rattle.aig_io.specs.declared.transfer.ReadError.{ReadError}
 use Rattle.aig_io.proofs.Took.{gave_then, took_none, some_later}
 use Rattle.aig_circuit.specs.declared.circuit.Circuit.{Circuit}
 use Rattle.aig_circuit.specs.Form.{IsInForm}
@@ -14,6 +15,7 @@ use Rattle.aig_core.specs.Fault.{first_structural_fault}
 use Rattle.aig_lines.specs.Lines.{Line, AreEnded, lines_of}
 use Rattle.aig_lines.proofs.Cutting.{pieces, some_lines}
 use Rattle.aig_lines.proofs.Taken.{lines_cut}
+use Rattle.aig_fault.specs.Stopping.{stopped_by}
 use Rattle.aig_fault.specs.declared.stopped.Stopped.{Stopped}
 use Rattle.aig_fault.specs.declared.stopped.Stopped.TheVariants.{OutOfMemory}
 use Rattle.aig_rows.specs.Outcomes.{GivesOrMemory}
@@ -21,9 +23,7 @@ use Rattle.aig_text.specs.Begun.{ReadsOn, rest_of}
 use Rattle.aig_text.specs.declared.pieces.AsciiReader.{AsciiReader}
 use Rattle.aig_text.specs.Reading.{circuit_at, first_word_is, reading, unless_faulty}
 use Rattle.aig_text.proofs.Grammar.Text.{checked_tells, line_fault as ascii_line_fault, circuit_in_form}
-use Rattle.aig_binary.specs.Sources.{ComesOn, HasRead, ReadsFrom, AnswersFile, ReadsAs}
-use Rattle.aig_binary.specs.declared.source_fault.SourceFault.{SourceFault}
-use Rattle.aig_binary.specs.declared.source_fault.SourceFault.TheVariants as faults
+use Rattle.aig_binary.specs.Sources.{ComesOn, HasFailed, HasRead, ReadsFrom, AnswersFile, ReadsAs}
 use Rattle.aig_binary.specs.BinaryGrammar.{binary_word}
 use Rattle.aig_binary.specs.BinaryReading.{binary_reading}
 use Rattle.aig_binary.specs.File.{IsFileOf, file_reading}
@@ -69,6 +69,21 @@ ends_by x y (Err f) p (inl w) = inl w
 ends_by x y (Err f) (inl m) (inr h) =
     let same : ◌≡◌ {A = Result Circuit Stopped} (Err f) (Err OutOfMemory) = sym h ∙ m in inl cc
 ends_by x y (Err f) (inr e) (inr h) = inr (e ∙ h)
+
+-- the source failed as it did later, and by an error of its own
+pub failed_later : (stopped : Stopped) (xs : List ℕ) (a b c : History) → b ≡ took xs a → HasFailed stopped b c
+    → HasFailed stopped a c
+failed_later stopped xs a b c came f =
+    record { error = f.error; is = f.is; gave = some_later f.error xs a b c came f.gave }
+
+pub failed_by : (error : ReadError) (a b : History) → GaveSome error a b → HasFailed (stopped_by error) a b
+failed_by error a b gave = record { error = error; is = refl; gave = gave }
+
+-- all bytes came
+pub all_came : {A : Type 0} (Holds : Result A Stopped → List ℕ → Type 0) (answer : Result A Stopped) (a b : History)
+    → HasRead (λ bytes. Holds answer bytes) a b → ReadsAs Holds answer a b
+all_came Holds (Ok x) a b h = h
+all_came Holds (Err e) a b h = inl h
 
 -- the rest of a file was read
 abbrev pub RestRead : (List ℕ → Result Circuit Stopped) → List ℕ → History → History → Result Circuit Stopped
@@ -177,16 +192,16 @@ module _ {limit : ℕ} {first held : List ℕ} {r : AsciiReader} (begin : IsBegu
     holds = answers c h.bytes answer (begin.told h.bytes ∙ h.holds) is;
   }
 
-  pub refused : (fault : SourceFault) (before a b : History) → a ≡ took first before
+  pub refused : (fault : Stopped) (before a b : History) → a ≡ took first before
       → ReadsAs {A = Circuit} (λ answer bytes. GivesOrMemory (λ c. c) answer (tell (held ++ bytes))) (Err fault) a b
       → ReadsAs (AnswersFile limit) (Err fault) before b
-  refused (faults.Source error) before a b gave some = some_later error first before a b gave some
-  refused (faults.File e) before a b gave h = record {
+  refused e before a b gave (inr failed) = inr (failed_later e first before a b gave failed)
+  refused e before a b gave (inl h) = inl (record {
     bytes = first ++ h.bytes;
     gave = gave_then true first h.bytes before a b gave h.gave;
     holds =
         rw (ascii_reading h.bytes) (ascii_line_fault limit (first ++ h.bytes) e (rw (begin.told h.bytes) h.holds));
-  }
+  })
 
 -- the front was read of the whole lines of what came
 pub front_read : (tell s : List ℕ → Result Circuit Stopped) (u v lines rest held : List ℕ) (used : ℕ) (a b : History)
@@ -221,19 +236,19 @@ module _ (limit : ℕ) (first held : List ℕ) (s : List ℕ → Result Circuit 
         holds = inr (reading_is_accepted limit (first ++ all_read.bytes) c all_read.holds);
       }
 
-    pub is_refused : (fault : SourceFault) (before d : History) → a ≡ took first before
+    pub is_refused : (fault : Stopped) (before d : History) → a ≡ took first before
         → ((more : List ℕ) → first_word_is binary_word (lines_of (first ++ more)) ≡ true)
         → ReadsAs {A = Circuit} (λ answer bytes. GivesOrMemory (λ c. c) answer (s (held ++ bytes))) (Err fault) b d
         → ReadsAs (AnswersFile limit) (Err fault) before d
-    is_refused (faults.Source error) before d came word some =
-        some_later error first before a d came (some_later error reads.given a b d reads.gave some)
-    is_refused (faults.File e) before d came word h =
+    is_refused e before d came word (inr failed) =
+        inr (failed_later e first before a d came (failed_later e reads.given a b d reads.gave failed))
+    is_refused e before d came word (inl h) =
         let w = whole_read (binary_reading limit) s first held a b d (Err e) reads h in
-        record {
+        inl (record {
           bytes = first ++ w.bytes;
           gave = gave_then true first w.bytes before a d came w.gave;
           holds = rw (word w.bytes) (line_fault limit (first ++ w.bytes) e w.holds);
-        }
+        })
 
 -- what is held is what a source gave
 pub all_held : (first held : List ℕ) (more : Bool) (before a b : History) → a ≡ took first before

@@ -8,6 +8,7 @@ use Rattle.std.proofs.lemmas.Bool.{cases_lt, lt-ltb, le-leb, le-ltb}
 use Rattle.std.proofs.Math.Bool.{and-false}
 use Rattle.std.proofs.lemmas.List.Folds.{list_all-append}
 use mathlib.Core.Bool.{◌||◌}
+use Rattle.aig_fault.specs.Stopping.{refusal}
 use Rattle.aig_circuit.specs.declared.circuit.Gate.{Gate}
 use Rattle.aig_circuit.specs.Literal.{literal_of}
 use Rattle.aig_fault.specs.declared.kind.Kind.{Kind}
@@ -191,7 +192,7 @@ unfolding gates_at
 one_more v n count bytes rest g h = rw h refl
 
 one_wrong : (v n count : ℕ) (bytes : List ℕ) (kind : Kind) → gate_at v bytes ≡ Err kind
-    → gates_at v n (suc count) bytes ≡ Err (record { place = places.Gate n; kind = kind })
+    → gates_at v n (suc count) bytes ≡ Err (refusal kind (places.Gate n) 0)
 unfolding gates_at
 one_wrong v n count bytes kind h = rw h refl
 
@@ -217,7 +218,7 @@ gates_more v i count bytes rest found g l h =
 gates_wrong : (v i count : ℕ) (bytes : List ℕ) (found : List Gate) (kind : Kind)
     (whole : Result (List Gate × List ℕ) Stopped) → i < count → gate_at (v + i) bytes ≡ Err kind
     → gates_behind found (gates_at (v + i) (i + 1) (count - i) bytes) ≡ whole
-    → whole ≡ Err (record { place = places.Gate (i + 1); kind = kind })
+    → whole ≡ Err (refusal kind (places.Gate (i + 1)) 0)
 gates_wrong v i count bytes found kind whole l h w =
     let one : count - i ≡ suc (count - (i + 1)) = omega arith in
     sym w ∙ rw one (ap (gates_behind found) (one_wrong (v + i) (i + 1) (count - (i + 1)) bytes kind h))
@@ -261,7 +262,7 @@ module _ (v count : ℕ) (before found : List Gate) (bytes rest : List ℕ) (l :
     pub gate_refused : (more : List ℕ) (kind : Kind) → kind ≢ kinds.Truncated
         → gate_at (v + length found) rest ≡ Err kind
         → gates_from v count before (bytes ++ more)
-        ≡ Err (record { place = places.Gate (length found + 1); kind = kind })
+        ≡ Err (refusal kind (places.Gate (length found + 1)) 0)
     gate_refused more kind other h =
         on more
         ∙ gates_wrong v (length found) count (rest ++ more) found kind (gates_from v count found (rest ++ more)) l
@@ -285,7 +286,7 @@ module _ (v count : ℕ) (before found : List Gate) (bytes rest : List ℕ)
 
     pub alone_cut : NoneIsThere v count found rest → length found < count
         → gates_from v count before bytes
-        ≡ Err (record { place = places.Gate (length found + 1); kind = kinds.Truncated })
+        ≡ Err (refusal kinds.Truncated (places.Gate (length found + 1)) 0)
     alone_cut (inl all) few = absurd (omega (arith, all))
     alone_cut (inr cut) few =
         alone

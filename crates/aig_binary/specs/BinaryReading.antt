@@ -7,6 +7,7 @@ use Rattle.aig_circuit.specs.declared.circuit.Gate.{Gate}
 use Rattle.aig_circuit.specs.declared.circuit.Circuit.{Circuit}
 use Rattle.aig_circuit.specs.Literal.{literal_of}
 use Rattle.aig_core.specs.Names.{nothing_named}
+use Rattle.aig_fault.specs.Stopping.{refusal}
 use Rattle.aig_fault.specs.declared.fault.Place.TheVariants as places
 use Rattle.aig_fault.specs.declared.kind.Kind.{Kind}
 use Rattle.aig_fault.specs.declared.kind.Kind.TheVariants as kinds
@@ -48,7 +49,7 @@ gate_at variable bytes = do
 -- what is read, or what is wrong at this gate
 abbrev pub at_gate : {A : Type 0} → ℕ → Result A Kind → Result A Stopped
 at_gate n (Ok x) = Ok x
-at_gate n (Err kind) = Err (record { place = places.Gate n; kind = kind })
+at_gate n (Err kind) = Err (refusal kind (places.Gate n) 0)
 
 -- so many gates, of this variable and the next ones; of these gates this is the number of the first
 unfoldable pub gates_at : ℕ → ℕ → ℕ → List ℕ → Result (List Gate × List ℕ) Stopped

@@ -1,11 +1,10 @@
 -- A source that is read to its end as a file, for its history as it was and as it is now.
-use Rattle.std.specs.Prelude.{◌≡◌, ◌++◌, ℕ, List, Bool, not, Result, Ok, Err}
+use Rattle.std.specs.Prelude.{◌≡◌, ◌⊎◌, ◌++◌, ℕ, List, Bool, not, Result, Ok, Err}
 use Rattle.aig_circuit.specs.declared.circuit.Circuit.{Circuit}
 use Rattle.aig_io.specs.Devices.{GaveSome, History, gave, gave_all}
 use Rattle.aig_io.specs.declared.transfer.ReadError.{ReadError}
-use Rattle.aig_io.specs.declared.transfer.ReadError.TheVariants as errors
+use Rattle.aig_fault.specs.Stopping.{stopped_by}
 use Rattle.aig_fault.specs.declared.stopped.Stopped.{Stopped}
-use Rattle.aig_fault.specs.declared.stopped.Stopped.TheVariants.{OutOfMemory, ReadFailed, Refused, WriteFailed}
 use Rattle.aig_text.specs.Begun.{ReadsOn}
 use Rattle.aig_text.specs.Reading.{IsFirstFault}
 use Rattle.aig_binary.specs.File.{IsFileOf, first_fault}
@@ -16,16 +15,19 @@ pub record HasRead (Holds : List ℕ → Type 0) (source source_now : History) :
   pub gave : source_now ≡ gave_all bytes source
   pub holds : Holds bytes
 
+-- the source failed, or memory was refused, and some of its bytes came
+pub record HasFailed (stopped : Stopped) (source source_now : History) : Type 0 where
+  pub error : ReadError
+  pub is : stopped ≡ stopped_by error
+  pub gave : GaveSome error source source_now
+
 -- What came of reading: all bytes came, and this holds of the answer and them; or the source failed, or memory was
 -- refused, and some of them came.
 abbrev pub ReadsAs : {A : Type 0} → (Result A Stopped → List ℕ → Type 0) → Result A Stopped
     → (source source_now : History) → Type 0
 ReadsAs Holds (Ok x) source source_now = HasRead (λ bytes. Holds (Ok x) bytes) source source_now
-ReadsAs Holds (Err (Refused fault)) source source_now =
-    HasRead (λ bytes. Holds (Err (Refused fault)) bytes) source source_now
-ReadsAs Holds (Err OutOfMemory) source source_now = GaveSome errors.OutOfMemory source source_now
-ReadsAs Holds (Err ReadFailed) source source_now = GaveSome errors.Source source source_now
-ReadsAs Holds (Err WriteFailed) source source_now = ⊥
+ReadsAs Holds (Err stopped) source source_now =
+    HasRead (λ bytes. Holds (Err stopped) bytes) source source_now ⊎ HasFailed stopped source source_now
 
 -- bytes are the file of this circuit within the limit, or this is their first fault, unless memory was refused
 abbrev pub AnswersFile : ℕ → Result Circuit Stopped → List ℕ → Type 0

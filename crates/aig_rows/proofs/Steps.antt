@@ -1,8 +1,12 @@
 -- Steps of a reading, one after another, and what a line is judged to be.
-use Rattle.std.proofs.Common.{◌≡◌, ◌∙◌, ℕ, Bool, true, false, cond, Result, Ok, Err, refl, rules, Option, Some, None}
-use Rattle.std.proofs.Common.{ap}
+use Rattle.std.proofs.Common.{◌≡◌, ◌∙◌, ◌∷◌, ℕ, zero, suc, List, [], Bool, true, false, cond, Result, Ok, Err, refl}
+use Rattle.std.proofs.Common.{rules, Option, Some, None, ap}
 use Rattle.aig_fault.specs.declared.kind.Kind.{Kind}
-use Rattle.aig_rows.specs.Reading.{◌>>=◌, at_line}
+use Rattle.aig_fault.specs.declared.stopped.Stopped.{Stopped}
+use Rattle.aig_lines.specs.Lines.{Ahead, Line}
+use Rattle.aig_rows.specs.Outcomes.{IsReadOrRefused}
+use Rattle.aig_rows.specs.Reading.{◌>>=◌, at_line, line_found, row_at, rows_at}
+use Rattle.aig_rows.specs.Rows.{Form}
 use Rattle.aig_rows.specs.Laws.{IsJudged}
 
 -- two steps that succeed: both do
@@ -29,6 +33,29 @@ let_through false e r x h = cc
 
 pub ok_same : {A E : Type 0} (x y : A) → ◌≡◌ {A = Result A E} (Ok x) (Ok y) → x ≡ y
 ok_same x y h = cc
+
+-- a step, and the ones after it, read something or refuse the input
+pub then_refuses : {A B : Type 0} (r : Result A Stopped) (f : A → Result B Stopped) → IsReadOrRefused r
+    → ((x : A) → IsReadOrRefused (f x)) → IsReadOrRefused (r >>= f)
+then_refuses (Ok x) f first next = next x
+then_refuses (Err e) f first next = first
+
+pub line_refuses : {A : Type 0} (n : ℕ) (r : Result A Kind) → IsReadOrRefused (at_line n r)
+line_refuses n (Ok x) = tt
+line_refuses n (Err kind) = tt
+
+pub found_refuses : {A : Type 0} (missing : Kind) (tell : Line → Result A Kind) (n : ℕ) (ls : List Line)
+    → IsReadOrRefused (line_found missing tell n ls)
+found_refuses missing tell n [] = tt
+found_refuses missing tell n (l ∷ ls) = then_refuses (at_line n (tell l)) _ (line_refuses n (tell l)) (λ x. tt)
+
+pub rows_refuse : (form : Form) (bound carried count : ℕ) (at : Ahead)
+    → IsReadOrRefused (rows_at form bound carried count at)
+unfolding rows_at
+rows_refuse form bound carried zero at = tt
+rows_refuse form bound carried (suc count) at =
+    then_refuses (row_at form bound carried at) _ (found_refuses _ _ at.number at.lines)
+    (λ first. then_refuses (rows_at form bound _ count first.1) _ (rows_refuse form bound _ count first.1) (λ others. tt))
 
 -- What a line is judged to be, where it holds something and where it holds nothing.
 

@@ -5,7 +5,7 @@ use Rattle.std.specs.Prelude.{Err, get_or, ⊤}
 use Rattle.aig_rows.specs.declared.row.Role.TheVariants as roles
 use Rattle.aig_rows.specs.Rows.{Role, Form}
 use Rattle.aig_fault.specs.declared.stopped.Stopped.{Stopped}
-use Rattle.aig_fault.specs.declared.stopped.Stopped.TheVariants.{OutOfMemory}
+use Rattle.aig_fault.specs.declared.stopped.Stopped.TheVariants.{OutOfMemory, Refused}
 use Rattle.aig_rows.specs.Reading.{Found}
 
 -- What a function returned, seen by view, is what reading gives.
@@ -22,6 +22,15 @@ GivesOrFails view (Err e) read = read ≡ Err e
 abbrev pub GivesOrMemory : {X Y : Type 0} → (X → Y) → Result X Stopped → Result Y Stopped → Type 0
 GivesOrMemory view (Ok x) read = read ≡ Ok (view x)
 GivesOrMemory view (Err e) read = (e ≡ OutOfMemory) ⊎ (read ≡ Err e)
+
+-- something is read, or the input is refused: memory and devices are none of it
+abbrev pub IsRefusal : Stopped → Type 0
+IsRefusal (Refused fault) = ⊤
+IsRefusal stopped = ⊥
+
+abbrev pub IsReadOrRefused : {X : Type 0} → Result X Stopped → Type 0
+IsReadOrRefused (Ok x) = ⊤
+IsReadOrRefused (Err stopped) = IsRefusal stopped
 
 -- what the next row means, and what is ahead after it
 abbrev pub row_meant : {A : Type 0} → (List ℕ → A) → Found (List ℕ) → Found A

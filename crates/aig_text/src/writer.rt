@@ -244,5 +244,6 @@ pub fn write_ascii<W: Sink>(circuit: &Checked, sink: &mut W) -> Result<(), Devic
     let mut output = Output::new(sink);
     put_text(&mut output, circuit.circuit());
     let (sent, _sink) = output.finish();
-    sent
+    sent?;
+    Ok(())
 }

@@ -1,5 +1,6 @@
 use Rattle.std.proofs.Common.{◌≡◌, ◌++◌, ◌+◌, ◌<◌, ◌∙◌, ◌∷◌, Err, List, ℕ, [], length, length-append, inr, ap, sym}
 use Rattle.std.proofs.Common.{arith, drop, refl}
+use Rattle.aig_fault.specs.Stopping.{refusal}
 use Rattle.aig_fault.specs.declared.kind.Kind.{Kind}
 use Rattle.aig_fault.specs.declared.fault.Place.TheVariants as places
 use Rattle.aig_text.proofs.LastBytes.{rest_is}
@@ -28,7 +29,7 @@ returns-in-Err c =
           inr (λ more.
           gate_refused c.args.variable c.args.count c.args.found.now found c.args.bytes.now rest few on more
           c.in-Err.kind (λ e. let no = c.if-is_cut.ensures.1 e in cc) h
-          ∙ ap (λ (k : ℕ). Err (record { place = places.Gate (k + 1); kind = c.in-Err.kind }))
+          ∙ ap (λ (k : ℕ). Err (refusal c.in-Err.kind (places.Gate (k + 1)) 0))
           (n ∙ sym c.from.ensures));
     }
 
