@@ -1,6 +1,6 @@
 -- What comes of a source that was read, by what was made of it; and the first fault of a file.
-use Rattle.std.proofs.Common.{◌≡◌, ℕ, List, Err, inl, inr, refl, subst, sym, true, false}
-use Rattle.aig_binary.specs.File.{file_reading}
+use Rattle.std.proofs.Common.{◌≡◌, ℕ, List, Result, Ok, Err, inl, inr, refl, subst, sym, true, false}
+use Rattle.aig_binary.specs.File.{IsFileOf, file_reading}
 use Rattle.aig_binary.specs.Sources.{AnswersFile, ReadsAs}
 use Rattle.aig_binary.proofs.Refusals.{file_refuses}
 use Rattle.aig_circuit.specs.declared.circuit.Circuit.{Circuit}
@@ -16,7 +16,7 @@ use Rattle.aig_io.proofs.Runs.{read_weaker}
 use Rattle.aig_text.specs.Reading.{IsFirstFault}
 use Rattle.aig_text.proofs.Refusals.{told_refuses}
 use Rattle.aig_commands.specs.File.{first_fault}
-use Rattle.aig_commands.specs.Reading.{AtItsEnd, IsUnreadable, NotRead}
+use Rattle.aig_commands.specs.Reading.{AtItsEnd, IsUnreadable, NotRead, ReadSays}
 
 -- what is refused once all came
 at_its_end : (IsRefused : Fault → List ℕ → Type 0) (stopped : Stopped) (bytes : List ℕ)
@@ -68,15 +68,17 @@ not_come Refuses errors.OutOfMemory before after (bytes, true, gave) =
 not_come Refuses errors.OutOfMemory before after (bytes, false, gave) =
     record { bytes = bytes; ending = Open; says = tt; came = gave }
 
--- a source was read, and gave no circuit
-pub not_read : (limit : ℕ) (e : Stopped) (before after : History)
-    → ReadsAs {A = Circuit} (AnswersFile limit) (Err e) before after
-    → Read (NotRead (AtItsEnd (IsUnreadable limit)) e) before after
-not_read limit e before after (inl read) = record {
+-- a source was read, and gave a circuit or none
+pub source_read : (limit : ℕ) (made : Result Circuit Stopped) (before after : History)
+    → ReadsAs (AnswersFile limit) made before after
+    → Read (ReadSays (λ found bytes. IsFileOf bytes limit found) (AtItsEnd (IsUnreadable limit)) made) before after
+source_read limit (Ok found) before after read =
+    record { bytes = read.bytes; ending = AtEnd; says = (refl, read.holds); came = read.gave }
+source_read limit (Err e) before after (inl read) = record {
   bytes = read.bytes;
   ending = AtEnd;
   says = at_its_end (IsUnreadable limit) e read.bytes (unreadable limit e read.bytes read.holds);
   came = read.gave;
 }
-not_read limit e before after (inr failed) =
+source_read limit (Err e) before after (inr failed) =
     rw failed.is (not_come (AtItsEnd (IsUnreadable limit)) failed.error before after failed.gave)

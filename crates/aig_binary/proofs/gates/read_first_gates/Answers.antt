@@ -2,6 +2,7 @@ use Rattle.std.proofs.Common.{◌≡◌, ◌++◌, ◌+◌, ◌<◌, ◌∙◌, 
 use Rattle.std.proofs.Common.{arith, drop, refl}
 use Rattle.aig_fault.specs.Stopping.{refusal}
 use Rattle.aig_fault.specs.declared.kind.Kind.{Kind}
+use Rattle.aig_fault.specs.declared.stopped.Stopped.{Stopped}
 use Rattle.aig_fault.specs.declared.fault.Place.TheVariants as places
 use Rattle.aig_text.proofs.LastBytes.{rest_is}
 use Rattle.aig_binary.specs.Begun.{gates_from}
@@ -30,7 +31,7 @@ returns-in-Err c =
           gate_refused c.args.variable c.args.count c.args.found.now found c.args.bytes.now rest few on more
           c.in-Err.kind (λ e. let no = c.if-is_cut.ensures.1 e in cc) h
           ∙ ap (λ (k : ℕ). Err (refusal c.in-Err.kind (places.Gate (k + 1)) 0))
-          (n ∙ sym c.from.ensures));
+          (n ∙ sym c.from.ensures) ∙ ap (λ (e : Stopped). Err e) (sym c.refused.ensures));
     }
 
 pub loop-used-preserved : goal.loop-used-preserved
