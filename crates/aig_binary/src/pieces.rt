@@ -12,8 +12,8 @@ use crate::gates::{read_first_gates, read_gates};
 use crate::piecewise::Pieces;
 use crate::reader::{add_definitions, read_front};
 use aig_core::{Circuit, Gate, Listing};
-use aig_lines::Cursor;
 use aig_fault::Stopped;
+use aig_lines::Cursor;
 use aig_text::{Header, Limits, Uncommented, tail};
 use std::alloc::Global;
 

@@ -13,8 +13,8 @@ ghost use Rattle.aig_text.specs.Reading.{HasRoomFor, with_last_comment};
 ghost use Rattle.aig_binary.specs.Sources.{ComesOn, NotAllCame, ReadsAs, ReadsFrom};
 
 use aig_core::{Circuit, ReadError, Source, Window, read_to_end};
-use aig_lines::ended_lines;
 use aig_fault::Stopped;
+use aig_lines::ended_lines;
 use aig_text::{AsciiReader, Uncommented};
 use std::alloc::Global;
 

@@ -24,8 +24,8 @@ use aig_core::{Checked, Circuit, Gate, Latch, Listing, Ordered, Var};
 use aig_fault::{Kind, Stopped, refused_at};
 use aig_lines::Cursor;
 use aig_text::{
-    Header, Limits, NextState, SECTIONS, Section, empty_circuit,
-    header, next_states, read_section, tail,
+    Header, Limits, NextState, SECTIONS, Section, empty_circuit, header, next_states, read_section,
+    tail,
 };
 use std::alloc::Global;
 

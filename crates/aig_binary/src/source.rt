@@ -16,8 +16,8 @@ use crate::pieces::BinaryReader;
 use crate::piecewise::{fetch_all, fetch_piece, read_rest};
 use crate::reader::BINARY_WORD;
 use aig_core::{Checked, Keep, Ordered, ReadError, Source, Window};
-use aig_lines::{Cursor, ended_lines};
 use aig_fault::Stopped;
+use aig_lines::{Cursor, ended_lines};
 use aig_text::{AsciiReader, Limits, check_read, first_word_is, header};
 use std::alloc::Global;
 

@@ -16,8 +16,7 @@ use crate::delta::{LONGEST, write_delta};
 use crate::reader::BINARY_WORD;
 use aig_core::{Circuit, DeviceFault, Gate, Latch, Ordered, Output, Sink};
 use aig_text::{
-    header_numbers, put_header, put_literal_sections, put_numbers, put_tail,
-    reset_number,
+    header_numbers, put_header, put_literal_sections, put_numbers, put_tail, reset_number,
 };
 
 #[inline(always)]

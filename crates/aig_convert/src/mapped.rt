@@ -14,8 +14,8 @@ ghost use Rattle.aig_map.specs.Parts.Kept.{AreVariablesOf, with_block};
 
 use aig_binary::put_binary;
 use aig_core::{
-    Checked, Circuit, DeviceFault, LARGEST, Listing, Ordered, OutOfMemory, Output, Sink, Steps, Var,
-    is_numbered_in_order,
+    Checked, Circuit, DeviceFault, LARGEST, Listing, Ordered, OutOfMemory, Output, Sink, Steps,
+    Var, is_numbered_in_order,
 };
 use aig_image::{Labels, Renumbering, relabel, sort_operands};
 use aig_map::{

@@ -1,11 +1,11 @@
 -- Steps of a reading, one after another, and what a line is judged to be.
-use Rattle.std.proofs.Common.{◌≡◌, ◌∙◌, ◌∷◌, ℕ, zero, suc, List, [], Bool, true, false, cond, Result, Ok, Err, refl}
-use Rattle.std.proofs.Common.{rules, Option, Some, None, ap}
+use Rattle.std.proofs.Common.{◌≡◌, ◌∙◌, ◌∷◌, ℕ, zero, suc, List, [], get_or, Bool, true, false, cond, Result, Ok, Err}
+use Rattle.std.proofs.Common.{refl, rules, Option, Some, None, ap}
 use Rattle.aig_fault.specs.declared.kind.Kind.{Kind}
 use Rattle.aig_fault.specs.declared.stopped.Stopped.{Stopped}
 use Rattle.aig_lines.specs.Lines.{Ahead, Line}
 use Rattle.aig_rows.specs.Outcomes.{IsReadOrRefused}
-use Rattle.aig_rows.specs.Reading.{◌>>=◌, at_line, line_found, row_at, rows_at}
+use Rattle.aig_rows.specs.Reading.{◌>>=◌, at_line, carried_on, line_found, row_at, rows_at}
 use Rattle.aig_rows.specs.Rows.{Form}
 use Rattle.aig_rows.specs.Laws.{IsJudged}
 
@@ -55,7 +55,8 @@ unfolding rows_at
 rows_refuse form bound carried zero at = tt
 rows_refuse form bound carried (suc count) at =
     then_refuses (row_at form bound carried at) _ (found_refuses _ _ at.number at.lines)
-    (λ first. then_refuses (rows_at form bound _ count first.1) _ (rows_refuse form bound _ count first.1) (λ others. tt))
+    (λ first. let next : ℕ = carried_on form.first carried (get_or first.0 0 0) in
+    then_refuses (rows_at form bound next count first.1) _ (rows_refuse form bound next count first.1) (λ others. tt))
 
 -- What a line is judged to be, where it holds something and where it holds nothing.
 

@@ -3,6 +3,7 @@ use Rattle.std.proofs.Common.{◌≡◌, ◌+◌, ◌∷◌, rules, ℕ, List, [
 use Rattle.std.specs.Option.{option_map, option_or}
 use Rattle.aig_circuit.specs.declared.circuit.Circuit.{Circuit}
 use Rattle.aig_core.specs.declared.names.Names.{Names}
+use Rattle.aig_core.specs.Names.{with_name}
 use Rattle.aig_core.specs.Fault.{cyclic, first_structural_fault, redefined, undefined}
 use Rattle.aig_fault.specs.declared.stopped.Stopped.{Stopped}
 use Rattle.aig_lines.specs.Lines.{Line, Ahead, ahead, lines_of}
@@ -12,7 +13,7 @@ use Rattle.aig_rows.proofs.Steps.{found_refuses, line_refuses, rows_refuse, then
 use Rattle.aig_text.specs.Scanning.{is_comment_line, symbol_at}
 use Rattle.aig_text.specs.Sections.{ascii_word, in_ascii, sections, Header, Listed, Section}
 use Rattle.aig_text.specs.Reading.{checked_symbol, circuit_at, empty_circuit, fault_of, header_at, reading}
-use Rattle.aig_text.specs.Reading.{section_at, sections_at, tail_at, unless_faulty}
+use Rattle.aig_text.specs.Reading.{section_at, sections_at, tail_at, unless_faulty, with_symbol}
 
 -- so the fault that it tells is a refusal
 pub told_refuses : {A : Type 0} (r : Result A Stopped) {e : Stopped} → IsReadOrRefused r → fault_of r ≡ Some e
@@ -37,7 +38,7 @@ tail_refuses h before c n (l ∷ ls) =
     elim (is_comment_line l) as (λ b. IsReadOrRefused (cond b _ _)) [
       | true ↦ tt
       | false ↦ then_refuses (at_line n (checked_symbol h before (symbol_at l.text))) _ (line_refuses n _)
-          (λ s. tail_refuses h _ _ (n + 1) ls)
+          (λ s. tail_refuses h (with_name before s.kind s.position) (with_symbol c s) (n + 1) ls)
     ]
 
 circuit_refuses : (limit : ℕ) (ls : List Line) → IsReadOrRefused (circuit_at limit ls)

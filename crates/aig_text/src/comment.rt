@@ -45,10 +45,7 @@ impl Uncommented {
 }
 
 /// The circuit with this comment, unless memory for it was refused.
-fn with_comment(
-    circuit: Circuit,
-    comment: Result<Vec<u8>, AllocError>,
-) -> Result<Circuit, Stopped>
+fn with_comment(circuit: Circuit, comment: Result<Vec<u8>, AllocError>) -> Result<Circuit, Stopped>
     ensures { MatchResult comment
         (λ bytes. result ≡ Ok (with_comment circuit bytes.items))
         (λ _. result ≡ Err OutOfMemory) }

@@ -13,8 +13,8 @@ ghost use Rattle.aig_text.specs.Reading.{section_at};
 
 use crate::header_line::Header;
 use aig_core::Circuit;
-use aig_lines::Cursor;
 use aig_fault::{Kind, Stopped, refused_at};
+use aig_lines::Cursor;
 use aig_rows::{Due, read_first_rows};
 
 /// What a file lists.

@@ -151,14 +151,14 @@ none_unknown vars (x ∷ xs) h =
     ap (λ b. cond b (first_unknown (with_all set.empty vars) xs) (Some x)) (known_told vars x h.0)
     ∙ none_unknown vars xs h.1
 
-nothing_told : (repeat unknown cyclic : Option ℕ)
-    → option_or (option_map redefined repeat) (option_or (option_map undefined unknown) (option_map cyclic cyclic))
+nothing_told : (repeat unknown cycle : Option ℕ)
+    → option_or (option_map redefined repeat) (option_or (option_map undefined unknown) (option_map cyclic cycle))
     ≡ None
-    → (repeat ≡ None) × (unknown ≡ None) × (cyclic ≡ None)
+    → (repeat ≡ None) × (unknown ≡ None) × (cycle ≡ None)
 nothing_told None None None h = (refl, refl, refl)
 nothing_told None None (Some x) h = cc
-nothing_told None (Some x) cyclic h = cc
-nothing_told (Some x) unknown cyclic h = cc
+nothing_told None (Some x) cycle h = cc
+nothing_told (Some x) unknown cycle h = cc
 
 -- where each variable is defined once and no gate depends on a cycle, the gates have a rank
 pub ranked_where_none_cyclic : (c : Circuit) → AreDistinct (defined_variables c) → first_cyclic c.gates ≡ None
@@ -255,7 +255,8 @@ part_once seen xs none told =
     told_once xs ((λ i. first_repeat (sym none i) (sym (each_itself xs) i)) ∙ told)
 
 pub part_twice : (seen : FinSet nat_cmp) (fault : Fault) (xs : List ℕ) → seen ≡ set.empty
-    → IsFault (Refused fault) (first_redefinition seen (flat_map (λ (v : ℕ). v ∷ []) xs)) → IsTrue false ↔ AreDistinct xs
+    → IsFault (Refused fault) (first_redefinition seen (flat_map (λ (v : ℕ). v ∷ []) xs))
+    → IsTrue false ↔ AreDistinct xs
 part_twice seen fault xs none told =
     told_twice fault xs
     (subst (λ o. IsFault (Refused fault) (option_map redefined o))

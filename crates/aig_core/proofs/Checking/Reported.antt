@@ -196,27 +196,27 @@ module _ (gates : List Gate) (list : List ℕ) (full : IsFull (length gates) (ga
 
 -- which of the three is reported
 abbrev reported : Option ℕ → Option ℕ → Option ℕ → Option Stopped
-reported repeat unknown cyclic =
-    option_or (option_map redefined repeat) (option_or (option_map undefined unknown) (option_map cyclic cyclic))
+reported repeat unknown cycle =
+    option_or (option_map redefined repeat) (option_or (option_map undefined unknown) (option_map cyclic cycle))
 
-is_redefined : (repeat unknown cyclic : Option ℕ) (v : ℕ) → reported repeat unknown cyclic ≡ Some (redefined v)
+is_redefined : (repeat unknown cycle : Option ℕ) (v : ℕ) → reported repeat unknown cycle ≡ Some (redefined v)
     → repeat ≡ Some v
-is_redefined (Some x) unknown cyclic v h = cc
-is_redefined None (Some x) cyclic v h = cc
+is_redefined (Some x) unknown cycle v h = cc
+is_redefined None (Some x) cycle v h = cc
 is_redefined None None (Some x) v h = cc
 is_redefined None None None v h = cc
 
-is_undefined : (repeat unknown cyclic : Option ℕ) (l : ℕ) → reported repeat unknown cyclic ≡ Some (undefined l)
+is_undefined : (repeat unknown cycle : Option ℕ) (l : ℕ) → reported repeat unknown cycle ≡ Some (undefined l)
     → (repeat ≡ None) × (unknown ≡ Some l)
-is_undefined (Some x) unknown cyclic l h = cc
-is_undefined None (Some x) cyclic l h = (refl, cc)
+is_undefined (Some x) unknown cycle l h = cc
+is_undefined None (Some x) cycle l h = (refl, cc)
 is_undefined None None (Some x) l h = cc
 is_undefined None None None l h = cc
 
-is_cyclic : (repeat unknown cyclic : Option ℕ) (l : ℕ) → reported repeat unknown cyclic ≡ Some (cyclic l)
-    → (repeat ≡ None) × (unknown ≡ None) × (cyclic ≡ Some l)
-is_cyclic (Some x) unknown cyclic l h = cc
-is_cyclic None (Some x) cyclic l h = cc
+is_cyclic : (repeat unknown cycle : Option ℕ) (l : ℕ) → reported repeat unknown cycle ≡ Some (cyclic l)
+    → (repeat ≡ None) × (unknown ≡ None) × (cycle ≡ Some l)
+is_cyclic (Some x) unknown cycle l h = cc
+is_cyclic None (Some x) cycle l h = cc
 is_cyclic None None (Some x) l h = (refl, refl, cc)
 is_cyclic None None None l h = cc
 

@@ -36,7 +36,7 @@ returns-in-Some c =
     record {
       ok = tt;
       least = tt;
-      err = inr (ap (option_map cyclic) (sym first));
+      err = inr (ap (option_map cyclic) (sym first) ∙ ap Some (sym c.cyclic.ensures));
       few = c.in_ok-order.ensures.few;
     }
 

@@ -1,4 +1,4 @@
-use Rattle.std.proofs.Common.{◌≡◌, ◌∙◌, ap, inr, sym, rules, true}
+use Rattle.std.proofs.Common.{◌≡◌, ◌∙◌, Some, ap, inr, sym, rules, true}
 use Rattle.std.specs.Option.{option_map, option_or}
 use Rattle.aig_core.specs.Fault.{cyclic, undefined}
 use Rattle.aig_topo.specs.Order.{first_cyclic}
@@ -18,7 +18,8 @@ returns-in-Some c =
       resolved = tt;
       ok = tt;
       err = inr (
-          left ∙ ap (λ o. option_or (option_map undefined o) (option_map cyclic (first_cyclic circuit.gates))) unknown);
+          left ∙ ap (λ o. option_or (option_map undefined o) (option_map cyclic (first_cyclic circuit.gates))) unknown
+          ∙ ap Some (sym c.undefined.ensures));
     }
 
 pub returns-clause-ok : goal.returns-clause-ok
