@@ -13,7 +13,10 @@ use Rattle.std.proofs.lemmas.List.Sums.{position_or_len_is}
 use Rattle.std.proofs.lemmas.Option.{slice_get-get_or, slice_get_past, slice_get_within}
 use Rattle.aig_circuit.specs.declared.circuit.Circuit.{Circuit}
 use Rattle.aig_circuit.specs.declared.circuit.Gate.{Gate}
+use Rattle.aig_fault.specs.declared.kind.Kind.{Kind}
+use Rattle.aig_fault.specs.declared.kind.Kind.TheVariants.{Redefined, Undefined, Cyclic}
 use Rattle.aig_fault.specs.declared.stopped.Stopped.{Stopped}
+use Rattle.aig_fault.specs.declared.stopped.Stopped.TheVariants.{Refused}
 use Rattle.aig_core.specs.Fault.{redefined, undefined, cyclic}
 use Rattle.aig_circuit.specs.Wellformed.{IsAmong, AreDistinct, IsKnown, HasRank, defined_variables, used_literals}
 use Rattle.aig_core.specs.Fault.{first_repeat, first_unknown, with_all, is_known, first_structural_fault}
@@ -199,25 +202,34 @@ abbrev reported : Option ℕ → Option ℕ → Option ℕ → Option Stopped
 reported repeat unknown cycle =
     option_or (option_map redefined repeat) (option_or (option_map undefined unknown) (option_map cyclic cycle))
 
+-- what is told, and of what
+abbrev kind_told : Option Stopped → Option Kind
+kind_told (Some (Refused fault)) = Some fault.kind
+kind_told told = None
+
+abbrev subject_told : Option Stopped → Option ℕ
+subject_told (Some (Refused fault)) = Some fault.subject
+subject_told told = None
+
 is_redefined : (repeat unknown cycle : Option ℕ) (v : ℕ) → reported repeat unknown cycle ≡ Some (redefined v)
     → repeat ≡ Some v
-is_redefined (Some x) unknown cycle v h = cc
-is_redefined None (Some x) cycle v h = cc
-is_redefined None None (Some x) v h = cc
+is_redefined (Some x) unknown cycle v h = ap subject_told h
+is_redefined None (Some x) cycle v h = let k : Some Undefined ≡ Some Redefined = ap kind_told h in cc
+is_redefined None None (Some x) v h = let k : Some Cyclic ≡ Some Redefined = ap kind_told h in cc
 is_redefined None None None v h = cc
 
 is_undefined : (repeat unknown cycle : Option ℕ) (l : ℕ) → reported repeat unknown cycle ≡ Some (undefined l)
     → (repeat ≡ None) × (unknown ≡ Some l)
-is_undefined (Some x) unknown cycle l h = cc
-is_undefined None (Some x) cycle l h = (refl, cc)
-is_undefined None None (Some x) l h = cc
+is_undefined (Some x) unknown cycle l h = let k : Some Redefined ≡ Some Undefined = ap kind_told h in cc
+is_undefined None (Some x) cycle l h = (refl, ap subject_told h)
+is_undefined None None (Some x) l h = let k : Some Cyclic ≡ Some Undefined = ap kind_told h in cc
 is_undefined None None None l h = cc
 
 is_cyclic : (repeat unknown cycle : Option ℕ) (l : ℕ) → reported repeat unknown cycle ≡ Some (cyclic l)
     → (repeat ≡ None) × (unknown ≡ None) × (cycle ≡ Some l)
-is_cyclic (Some x) unknown cycle l h = cc
-is_cyclic None (Some x) cycle l h = cc
-is_cyclic None None (Some x) l h = (refl, refl, cc)
+is_cyclic (Some x) unknown cycle l h = let k : Some Redefined ≡ Some Cyclic = ap kind_told h in cc
+is_cyclic None (Some x) cycle l h = let k : Some Undefined ≡ Some Cyclic = ap kind_told h in cc
+is_cyclic None None (Some x) l h = (refl, refl, ap subject_told h)
 is_cyclic None None None l h = cc
 
 module _ (c : Circuit) where

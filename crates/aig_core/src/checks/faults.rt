@@ -63,10 +63,7 @@ fn define<T: Entry>(seen: &mut VarSet, entry: &T) -> Result<(), Stopped>
 }
 
 #[tactic(auto, using(crate::proofs::Checking::Sections::joined_lists))]
-pub(super) fn define_all<T: Entry>(
-    seen: &mut VarSet,
-    entries: &Listing<T>,
-) -> Result<(), Stopped>
+pub(super) fn define_all<T: Entry>(seen: &mut VarSet, entries: &Listing<T>) -> Result<(), Stopped>
     ensures seen { OnOk result (seen.new ≡ with_all seen.old (flat_map T.defined entries.now)) }
     ensures ok { OnOk result (first_repeat seen.old (flat_map T.defined entries.now) ≡ None) }
     ensures err { IfErr result (λ e. IsFault e
@@ -344,10 +341,7 @@ fn is_right_outside_gates(before: &VarSet, index: &GateIndex, circuit: &Circuit)
 /// What the gates of a circuit need, where its variables are spread: each variable of a gate is put
 /// into one table alone, and no set is made of them. None where something is wrong outside of what
 /// gates use.
-fn spread_needs(
-    alloc: Global,
-    circuit: &Circuit,
-) -> Result<Option<(GateNeeds, Resolved)>, Stopped>
+fn spread_needs(alloc: Global, circuit: &Circuit) -> Result<Option<(GateNeeds, Resolved)>, Stopped>
     requires in_form { IsInForm circuit.now }
     ensures needs { IfOk result (λ some. IfSome some (λ found.
         AreNeedsOf circuit.now.gates found.0)) }
