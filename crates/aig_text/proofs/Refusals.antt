@@ -1,19 +1,21 @@
 -- A text is read as a circuit, or the input is refused: no other way to stop is among what a reading tells.
-use Rattle.std.proofs.Common.{◌≡◌, ◌+◌, ◌∷◌, rules, ℕ, List, [], Option, None, Some, Result, Ok, Err, cond, true, false}
+use Rattle.std.proofs.Common.{◌≡◌, ◌+◌, ◌∷◌, rules, ℕ, List, [], Option, None, Some, Result, Ok, Err, Bool, cond}
+use Rattle.std.proofs.Common.{true, false}
 use Rattle.std.specs.Option.{option_map, option_or}
 use Rattle.aig_circuit.specs.declared.circuit.Circuit.{Circuit}
+use Rattle.aig_circuit.specs.declared.circuit.Symbol.{Symbol}
 use Rattle.aig_core.specs.declared.names.Names.{Names}
 use Rattle.aig_core.specs.Names.{with_name}
 use Rattle.aig_core.specs.Fault.{cyclic, first_structural_fault, redefined, undefined}
 use Rattle.aig_fault.specs.declared.stopped.Stopped.{Stopped}
-use Rattle.aig_lines.specs.Lines.{Line, Ahead, ahead, lines_of}
+use Rattle.aig_lines.specs.Lines.{Line, Ahead, ahead, bytes_of, lines_of}
 use Rattle.aig_rows.specs.Outcomes.{IsReadOrRefused, IsRefusal}
-use Rattle.aig_rows.specs.Reading.{at_line}
+use Rattle.aig_rows.specs.Reading.{◌>>=◌, at_line}
 use Rattle.aig_rows.proofs.Steps.{found_refuses, line_refuses, rows_refuse, then_refuses}
 use Rattle.aig_text.specs.Scanning.{is_comment_line, symbol_at}
 use Rattle.aig_text.specs.Sections.{ascii_word, in_ascii, sections, Header, Listed, Section}
 use Rattle.aig_text.specs.Reading.{checked_symbol, circuit_at, empty_circuit, fault_of, header_at, reading}
-use Rattle.aig_text.specs.Reading.{section_at, sections_at, tail_at, unless_faulty, with_symbol}
+use Rattle.aig_text.specs.Reading.{section_at, sections_at, tail_at, unless_faulty, with_comment, with_symbol}
 
 -- so the fault that it tells is a refusal
 pub told_refuses : {A : Type 0} (r : Result A Stopped) {e : Stopped} → IsReadOrRefused r → fault_of r ≡ Some e
@@ -30,16 +32,25 @@ sections_refuse listed h (s ∷ ss) c at =
     (then_refuses _ _ (rows_refuse _ _ _ _ at) (λ found. tt))
     (λ found. sections_refuse listed h ss found.0 found.1)
 
+either_refuses : {A : Type 0} (b : Bool) (x y : Result A Stopped) → IsReadOrRefused x → IsReadOrRefused y
+    → IsReadOrRefused (cond b x y)
+either_refuses true x y first second = first
+either_refuses false x y first second = second
+
+-- the tail after a symbol
+abbrev after_symbol : Header → Names → Circuit → ℕ → List Line → Symbol → Result Circuit Stopped
+after_symbol h before c n ls s = tail_at h (with_name before s.kind s.position) (with_symbol c s) (n + 1) ls
+
 pub tail_refuses : (h : Header) (before : Names) (c : Circuit) (n : ℕ) (ls : List Line)
     → IsReadOrRefused (tail_at h before c n ls)
 unfolding tail_at
 tail_refuses h before c n [] = tt
 tail_refuses h before c n (l ∷ ls) =
-    elim (is_comment_line l) as (λ b. IsReadOrRefused (cond b _ _)) [
-      | true ↦ tt
-      | false ↦ then_refuses (at_line n (checked_symbol h before (symbol_at l.text))) _ (line_refuses n _)
-          (λ s. tail_refuses h (with_name before s.kind s.position) (with_symbol c s) (n + 1) ls)
-    ]
+    either_refuses (is_comment_line l) (Ok (with_comment c (bytes_of ls)))
+    (at_line n (checked_symbol h before (symbol_at l.text)) >>= after_symbol h before c n ls) tt
+    (then_refuses (at_line n (checked_symbol h before (symbol_at l.text))) (after_symbol h before c n ls)
+    (line_refuses n (checked_symbol h before (symbol_at l.text)))
+    (λ s. tail_refuses h (with_name before s.kind s.position) (with_symbol c s) (n + 1) ls))
 
 circuit_refuses : (limit : ℕ) (ls : List Line) → IsReadOrRefused (circuit_at limit ls)
 unfolding circuit_at
