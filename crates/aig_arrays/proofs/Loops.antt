@@ -7,7 +7,7 @@ use Rattle.std.proofs.lemmas.List.{length-drop}
 use Rattle.std.proofs.lemmas.List.Sums.{sum_by-append}
 use Rattle.aig_circuit.specs.declared.circuit.Circuit.{Circuit}
 use Rattle.aig_rows.specs.Reading.{◌>>=◌, carried_on, fault_in_row, unless_wrong}
-use Rattle.aig_rows.specs.declared.fault.ReadKind.{ReadKind}
+use Rattle.aig_fault.specs.declared.kind.Kind.{Kind}
 use Rattle.aig_rows.specs.Rows.{Form, size_form, size_of}
 use Rattle.aig_rows.proofs.Grammar.Entries.{sizes_within}
 use Rattle.aig_rows.proofs.Steps.{ok_same}
@@ -88,7 +88,7 @@ module _ {A : Type 0} (tell : List ℕ → A) where
           (λ row. unless_wrong row (fault_in_row form bound carried row)) at ns rest ns long
           (ap (unless_wrong ns) (sym right)))
 
-      wrong_by : (kind : ReadKind) → Some kind ≡ fault_in_row form bound carried ns
+      wrong_by : (kind : Kind) → Some kind ≡ fault_in_row form bound carried ns
           → entry_meant tell (row_decoded form bound carried (ahead at ws)) ≡ Err (BadEntry at kind)
       wrong_by kind wrong =
           ap (λ (us : List ℕ). entry_meant tell (row_decoded form bound carried (ahead at us))) split
@@ -106,7 +106,7 @@ module _ {A : Type 0} (tell : List ℕ → A) where
         ≡ Ok (tell (get_or ws 0 0 ∷ []), ahead (at + k) (slice_range ws 1 (length ws)))) (sym long)
         (right_by carried at ws (get_or ws 0 0 ∷ []) (slice_range ws 1 (length ws)) (split_one ws some) long right)
 
-    pub one_wrong : (carried at : ℕ) (ws : List ℕ) (kind : ReadKind) → 1 ≤ length ws → 1 ≡ width form
+    pub one_wrong : (carried at : ℕ) (ws : List ℕ) (kind : Kind) → 1 ≤ length ws → 1 ≡ width form
         → Some kind ≡ fault_in_row form bound carried (get_or ws 0 0 ∷ [])
         → entry_meant tell (row_decoded form bound carried (ahead at ws)) ≡ Err (BadEntry at kind)
     one_wrong carried at ws kind some long wrong =
@@ -129,7 +129,7 @@ module _ {A : Type 0} (tell : List ℕ → A) where
         (right_by carried at ws (get_or ws 0 0 ∷ get_or ws 1 0 ∷ get_or ws 2 0 ∷ []) (slice_range ws 3 (length ws))
         (split_three ws some) long right)
 
-    pub three_wrong : (carried at : ℕ) (ws : List ℕ) (kind : ReadKind) → 3 ≤ length ws → 3 ≡ width form
+    pub three_wrong : (carried at : ℕ) (ws : List ℕ) (kind : Kind) → 3 ≤ length ws → 3 ≡ width form
         → Some kind ≡ fault_in_row form bound carried (get_or ws 0 0 ∷ get_or ws 1 0 ∷ get_or ws 2 0 ∷ [])
         → entry_meant tell (row_decoded form bound carried (ahead at ws)) ≡ Err (BadEntry at kind)
     three_wrong carried at ws kind some long wrong =

@@ -6,12 +6,12 @@ use Rattle.aig_circuit.specs.declared.circuit.Circuit.{Circuit}
 use Rattle.aig_circuit.specs.declared.circuit.Symbol.{Symbol}
 use Rattle.aig_core.specs.Fault.{IsFault, first_structural_fault}
 use Rattle.aig_core.specs.Names.{with_name}
-use Rattle.aig_core.specs.declared.fault.CheckFault.{CheckFault}
+use Rattle.aig_fault.specs.declared.stopped.Stopped.{Stopped}
 use Rattle.aig_core.specs.declared.names.Names.{Names}
 use Rattle.aig_rows.specs.Reading.{unless_wrong}
 use Rattle.aig_rows.proofs.Steps.{ok_same}
-use Rattle.aig_rows.specs.declared.fault.ReadKind.{ReadKind}
-use Rattle.aig_rows.specs.declared.fault.ReadKind.TheVariants as kinds
+use Rattle.aig_fault.specs.declared.kind.Kind.{Kind}
+use Rattle.aig_fault.specs.declared.kind.Kind.TheVariants as kinds
 use Rattle.aig_text.specs.Reading.{checked_symbol, empty_circuit, fault_in_symbol, with_symbol}
 use Rattle.aig_text.specs.Sections.{in_ascii}
 use Rattle.aig_text.specs.declared.section.Section.{Section}
@@ -33,7 +33,7 @@ module _ (h : Header) (names : List ℕ) (before : Names) (start at : ℕ) (ws :
   abbrev row : List ℕ
   row = get_or ws 0 0 ∷ get_or ws 1 0 ∷ get_or ws 2 0 ∷ get_or ws 3 0 ∷ []
 
-  abbrev tell : List ℕ → Result Symbol ReadKind
+  abbrev tell : List ℕ → Result Symbol Kind
   tell ns = checked_symbol h before (symbol_decoded names start ns)
 
   pub symbol_none : symbol_decoded names start row ≡ None
@@ -44,7 +44,7 @@ module _ (h : Header) (names : List ℕ) (before : Names) (start at : ℕ) (ws :
       ∙ wrong_first 4 tell at row (slice_range ws 4 (length ws)) kinds.BadSymbol refl
       (ap (checked_symbol h before) none)
 
-  pub symbol_wrong : (s : Symbol) (kind : ReadKind) → symbol_decoded names start row ≡ Some s
+  pub symbol_wrong : (s : Symbol) (kind : Kind) → symbol_decoded names start row ≡ Some s
       → Some kind ≡ fault_in_symbol h before s
       → next_symbol h names before start (ahead at ws) ≡ Err (BadEntry at kind)
   unfolding checked_symbol
@@ -140,10 +140,10 @@ module _ (n : Counts) (words bytes : List ℕ) where
   unfolding decoded
   decoded_right c is none = rw (is, none) refl
 
-  pub decoded_wrong : (c : Circuit) (fault : CheckFault) → entries_decoded n words bytes ≡ Ok c
+  pub decoded_wrong : (c : Circuit) (fault : Stopped) → entries_decoded n words bytes ≡ Ok c
       → IsFault fault (first_structural_fault c) → IsFirstFault (Structure fault) (decoded n words bytes)
   unfolding decoded
-  decoded_wrong c fault is (inl m) = inl (ap (λ (f : CheckFault). Structure f) m)
+  decoded_wrong c fault is (inl m) = inl (ap (λ (f : Stopped). Structure f) m)
   decoded_wrong c fault is (inr f) = inr (rw (is, f) refl)
 
   -- nothing else is decoded, and a fault of what tells a circuit is want of memory

@@ -14,11 +14,11 @@ use Rattle.aig_circuit.specs.declared.circuit.Symbol.{Symbol}
 use Rattle.aig_core.specs.Fault.{first_structural_fault}
 use Rattle.aig_core.specs.Names.{nothing_named, with_name}
 use Rattle.aig_core.specs.declared.names.Names.{Names}
-use Rattle.aig_core.specs.declared.fault.CheckFault.{CheckFault}
-use Rattle.aig_core.specs.declared.fault.CheckFault.TheVariants as checks
+use Rattle.aig_fault.specs.declared.stopped.Stopped.{Stopped}
+use Rattle.aig_fault.specs.declared.stopped.Stopped.TheVariants as stops
 use Rattle.aig_rows.specs.Reading.{◌>>=◌, carried_on, fault_in_row, unless_wrong}
 use Rattle.aig_rows.specs.Rows.{Form, roles_of}
-use Rattle.aig_rows.specs.declared.fault.ReadKind.{ReadKind}
+use Rattle.aig_fault.specs.declared.kind.Kind.{Kind as FaultKind}
 use Rattle.aig_text.specs.Reading.{checked_symbol, empty_circuit, with_symbol}
 use Rattle.aig_text.specs.Sections.{Listed, in_ascii, sections}
 use Rattle.aig_text.specs.declared.header_line.Header.{Header}
@@ -36,7 +36,7 @@ abbrev pub behind : ℕ → Ahead → Ahead
 behind count a = record { at = a.at + count; words = drop count a.words }
 
 -- what the entry tells that begins at this word, or what is wrong with it
-abbrev pub at_word : {A : Type 0} → ℕ → Result A ReadKind → Result A ArrayFault
+abbrev pub at_word : {A : Type 0} → ℕ → Result A FaultKind → Result A ArrayFault
 at_word at (Ok x) = Ok x
 at_word at (Err kind) = Err (BadEntry at kind)
 
@@ -45,7 +45,7 @@ abbrev pub width : Form → ℕ
 width form = length (roles_of form)
 
 -- what so many words tell, and what is ahead after them; they are there where the counts fit
-abbrev pub words_decoded : {A : Type 0} → ℕ → (List ℕ → Result A ReadKind) → Ahead → Result (A × Ahead) ArrayFault
+abbrev pub words_decoded : {A : Type 0} → ℕ → (List ℕ → Result A FaultKind) → Ahead → Result (A × Ahead) ArrayFault
 words_decoded count tell a =
     if nat_lt (length a.words) count then Err BadCounts else (do
       found ← at_word a.at (tell (take count a.words))
@@ -174,7 +174,7 @@ unfoldable pub entries_decoded : Counts → (words bytes : List ℕ) → Result 
 entries_decoded n words bytes =
     if counts_fit n words bytes then with_entries n words bytes (empty_circuit n.max_var) else Err BadCounts
 
-abbrev pub unless_broken : Circuit → Option CheckFault → Result Circuit ArrayFault
+abbrev pub unless_broken : Circuit → Option Stopped → Result Circuit ArrayFault
 unless_broken c None = Ok c
 unless_broken c (Some fault) = Err (Structure fault)
 
@@ -186,4 +186,4 @@ decoded n words bytes = do
 
 -- a fault that is reported is the first one, unless memory was refused
 abbrev pub IsFirstFault : ArrayFault → Result Circuit ArrayFault → Type 0
-IsFirstFault reported first = (reported ≡ Structure checks.OutOfMemory) ⊎ (first ≡ Err reported)
+IsFirstFault reported first = (reported ≡ Structure stops.OutOfMemory) ⊎ (first ≡ Err reported)

@@ -1,7 +1,7 @@
 -- How what a function of this crate returned is compared with what arrays tell: seen by a view, and unless memory was
 -- refused.
 use Rattle.std.specs.Prelude.{◌≡◌, ◌++◌, ◌⊎◌, ℕ, List, map, Result, Ok, Err}
-use Rattle.aig_core.specs.declared.fault.CheckFault.TheVariants.{OutOfMemory}
+use Rattle.aig_fault.specs.declared.stopped.Stopped.TheVariants.{OutOfMemory}
 use Rattle.aig_arrays.specs.Decoded.{Ahead}
 use Rattle.aig_arrays.specs.declared.fault.ArrayFault.{ArrayFault}
 use Rattle.aig_arrays.specs.declared.fault.ArrayFault.TheVariants.{Structure}

@@ -14,7 +14,8 @@ use crate::entries::WordCursor;
 use crate::fault::ArrayFault;
 use crate::sections::read_sections;
 use crate::symbols::read_symbols;
-use aig_core::{CheckFault, Checked, Circuit, Keep, Listing, Steps, check};
+use aig_core::{Checked, Circuit, Keep, Listing, Steps, check};
+use aig_fault::Stopped;
 use aig_text::empty_circuit;
 use std::alloc::{AllocError, AllocFailed, Global};
 
@@ -22,7 +23,7 @@ impl From<AllocError> for ArrayFault {
     ghost from_gives = { λ _ e. e ≡ out_of_memory };
 
     fn from(_refused: AllocError) -> ArrayFault {
-        ArrayFault::Structure(CheckFault::OutOfMemory)
+        ArrayFault::Structure(Stopped::OutOfMemory)
     }
 }
 
@@ -30,7 +31,7 @@ impl<T: Drop> From<AllocFailed<T>> for ArrayFault {
     ghost from_gives = { λ _ e. e ≡ out_of_memory };
 
     fn from(_refused: AllocFailed<T>) -> ArrayFault {
-        ArrayFault::Structure(CheckFault::OutOfMemory)
+        ArrayFault::Structure(Stopped::OutOfMemory)
     }
 }
 

@@ -12,7 +12,7 @@ ghost use Rattle.aig_rows.specs.Rows.{size_of};
 
 use crate::fault::ArrayFault;
 use aig_core::{Gate, Latch, Lit, Reset, Var};
-use aig_text::ReadKind;
+use aig_fault::Kind;
 use std::marker::Model;
 
 /// A place among words.
@@ -78,70 +78,70 @@ fn exceeds(bound: u32, word: u32) -> bool
 }
 
 #[inline(always)]
-fn fault_in_input(bound: u32, own: u32) -> Option<ReadKind>
+fn fault_in_input(bound: u32, own: u32) -> Option<Kind>
     requires { bound ≤ largest_index }
     ensures { (carried : ℕ) → result ≡ fault_in_row input_form bound carried (own ∷ []) }
 {
     if is_no_variable(own) {
-        return Some(ReadKind::NotVariable);
+        return Some(Kind::NotVariable);
     }
     if exceeds(bound, own) {
-        return Some(ReadKind::LiteralRange);
+        return Some(Kind::LiteralRange);
     }
     None
 }
 
 #[inline(always)]
-fn fault_in_latch(bound: u32, own: u32, next: u32, reset: u32) -> Option<ReadKind>
+fn fault_in_latch(bound: u32, own: u32, next: u32, reset: u32) -> Option<Kind>
     requires { bound ≤ largest_index }
     ensures { (carried : ℕ)
         → result ≡ fault_in_row latch_form bound carried (own ∷ next ∷ reset ∷ []) }
 {
     if is_no_variable(own) {
-        return Some(ReadKind::NotVariable);
+        return Some(Kind::NotVariable);
     }
     if exceeds(bound, own) || exceeds(bound, next) {
-        return Some(ReadKind::LiteralRange);
+        return Some(Kind::LiteralRange);
     }
     if reset >= 2 && reset != own {
-        return Some(ReadKind::BadReset);
+        return Some(Kind::BadReset);
     }
     None
 }
 
 #[inline(always)]
-fn fault_in_literal(bound: u32, literal: u32) -> Option<ReadKind>
+fn fault_in_literal(bound: u32, literal: u32) -> Option<Kind>
     requires { bound ≤ largest_index }
     ensures { (carried : ℕ) → result ≡ fault_in_row literal_form bound carried (literal ∷ []) }
 {
     if exceeds(bound, literal) {
-        return Some(ReadKind::LiteralRange);
+        return Some(Kind::LiteralRange);
     }
     None
 }
 
 #[inline(always)]
-fn fault_in_size(bound: u32, carried: u64, size: u32) -> Option<ReadKind>
+fn fault_in_size(bound: u32, carried: u64, size: u32) -> Option<Kind>
     requires { carried + 2 ^ 32 ≤ 2 ^ 64 }
     ensures { result ≡ fault_in_row size_form bound carried (size ∷ []) }
 {
     if carried + u64::from(size) > u64::from(bound) {
-        return Some(ReadKind::TooLarge);
+        return Some(Kind::TooLarge);
     }
     None
 }
 
 #[inline(always)]
-fn fault_in_gate(bound: u32, own: u32, left: u32, right: u32) -> Option<ReadKind>
+fn fault_in_gate(bound: u32, own: u32, left: u32, right: u32) -> Option<Kind>
     requires { bound ≤ largest_index }
     ensures { (carried : ℕ)
         → result ≡ fault_in_row gate_form bound carried (own ∷ left ∷ right ∷ []) }
 {
     if is_no_variable(own) {
-        return Some(ReadKind::NotVariable);
+        return Some(Kind::NotVariable);
     }
     if exceeds(bound, own) || exceeds(bound, left) || exceeds(bound, right) {
-        return Some(ReadKind::LiteralRange);
+        return Some(Kind::LiteralRange);
     }
     None
 }

@@ -1,6 +1,5 @@
 //! Why arrays tell no circuit.
-use aig_core::CheckFault;
-use aig_text::ReadKind;
+use aig_fault::{Kind, Stopped};
 
 /// The first fault of arrays, or that memory ran out.
 #[derive(Clone, Copy, Debug, PartialEq)]
@@ -12,8 +11,8 @@ pub enum ArrayFault {
         /// The place of its first word, counted from 0.
         word: u64,
         /// What is wrong, as in an ASCII file.
-        kind: ReadKind,
+        kind: Kind,
     },
     /// Each entry is right; this is the circuit's first structural fault, or memory was refused.
-    Structure(CheckFault),
+    Structure(Stopped),
 }

@@ -13,7 +13,7 @@ use crate::counts::Counts;
 use crate::entries::WordCursor;
 use crate::fault::ArrayFault;
 use aig_core::{BorrowedSymbol, Circuit, Kind, NamedCounts, Names};
-use aig_text::ReadKind;
+use aig_fault::Kind as FaultKind;
 use std::alloc::{AllocError, Global};
 
 /// A line of a symbol has so many bytes at most beside the name.
@@ -77,19 +77,19 @@ fn check_symbol(
     counts: &Counts,
     named: &mut Names,
     symbol: &BorrowedSymbol,
-) -> Result<Option<ReadKind>, AllocError>
+) -> Result<Option<FaultKind>, AllocError>
     ensures fault { IfOk result (λ fault.
         fault ≡ fault_in_symbol (header_of counts.now) named.old symbol.now) }
     ensures named { IfOk result (λ fault. fault ≡ None
         → named.new ≡ with_name named.old symbol.now.kind symbol.now.position) }
 {
     if count_named(counts, symbol.kind) <= symbol.position {
-        return Ok(Some(ReadKind::SymbolRange));
+        return Ok(Some(FaultKind::SymbolRange));
     }
     if named.insert(symbol.kind, symbol.position)? {
         Ok(None)
     } else {
-        Ok(Some(ReadKind::SymbolTwice))
+        Ok(Some(FaultKind::SymbolTwice))
     }
 }
 
@@ -114,7 +114,7 @@ fn read_symbol<'a>(
     let Some(symbol) = symbol_of(names, start, [*kind, *position, *offset, *length]) else {
         return Err(ArrayFault::BadEntry {
             word,
-            kind: ReadKind::BadSymbol,
+            kind: FaultKind::BadSymbol,
         });
     };
     if let Some(kind) = check_symbol(counts, named, &symbol)? {

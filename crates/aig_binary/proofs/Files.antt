@@ -21,7 +21,7 @@ use Rattle.aig_circuit.proofs.Checking.{joined}
 use Rattle.aig_checked.specs.BinaryOrder.{AreOrderedGates, IsInBinaryOrder}
 use Rattle.aig_lines.specs.Lines.{Line, lines_of, Ahead, ahead}
 use Rattle.aig_rows.specs.Rows.{next_row, Row}
-use Rattle.aig_rows.specs.declared.fault.ReadFault.{ReadFault}
+use Rattle.aig_fault.specs.declared.stopped.Stopped.{Stopped}
 use Rattle.aig_rows.specs.Reading.{at_line}
 use Rattle.aig_rows.proofs.Steps.{both_ok, ok_at_line, ok_same, let_through}
 use Rattle.aig_text.specs.AsciiText.{line_text, row_text, header_text, tail_text}
@@ -189,4 +189,4 @@ read_is_file limit text c = search (rules, binary_is_accepted, reading_is_accept
 -- a text is the file of one circuit at most
 pub one_circuit : (text : List ℕ) (limit : ℕ) (c d : Circuit) → IsFileOf text limit c → IsFileOf text limit d → c ≡ d
 one_circuit text limit c d a b =
-    ok_same {E = ReadFault} c d (sym (file_is_read limit text c a) ∙ file_is_read limit text d b)
+    ok_same {E = Stopped} c d (sym (file_is_read limit text c a) ∙ file_is_read limit text d b)

@@ -7,6 +7,4 @@ pub mod Laws
 pub mod FileLaws
 pub mod File
 pub mod Sources
-pub mod Messages
-pub mod Stops
 pub mod Parts

@@ -1,13 +1,14 @@
 //! Files of either kind.
 ghost use Rattle.std.specs.Prelude.{◌≡◌, IfOk, IfErr, MatchResult};
+ghost use Rattle.aig_fault.specs.declared.stopped.Stopped.TheVariants.{OutOfMemory};
 ghost use Rattle.aig_circuit.specs.declared.circuit.Circuit.{Circuit as CircuitRecord};
 ghost use Rattle.aig_text.specs.Reading.{IsFirstFault};
-ghost use Rattle.aig_rows.specs.Reading.{out_of_memory};
 ghost use Rattle.aig_binary.specs.File.{IsFileOf, first_fault};
 
 use crate::reader::{BINARY_WORD, read_binary};
 use aig_core::{Checked, Keep};
-use aig_text::{Limits, ReadFault, first_word_is, read_ascii};
+use aig_fault::Stopped;
+use aig_text::{Limits, first_word_is, read_ascii};
 use std::alloc::Global;
 
 /// Reads a file of either kind, within these limits: as a binary file if that is what its first
@@ -18,10 +19,10 @@ pub fn read_file(
     bytes: &[u8],
     limits: Limits,
     keep: Keep,
-) -> Result<Checked, ReadFault>
+) -> Result<Checked, Stopped>
     ensures ok { IfOk result (λ c. IsFileOf bytes.now limits.max_var c) }
     ensures only { (c : CircuitRecord) → IsFileOf bytes.now limits.max_var c
-        → MatchResult result (λ d. d ≡ c) (λ e. e ≡ out_of_memory) }
+        → MatchResult result (λ d. d ≡ c) (λ e. e ≡ OutOfMemory) }
     ensures fault { IfErr result (λ e. IsFirstFault e (first_fault limits.max_var bytes.now)) }
 {
     if first_word_is(bytes, BINARY_WORD) {

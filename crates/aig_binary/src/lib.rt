@@ -17,15 +17,12 @@ mod pieces;
 mod piecewise;
 mod reader;
 mod source;
-mod source_fault;
-mod stops;
 mod writer;
 
 pub use crate::delta::{Delta, get_delta, put_delta};
 pub use crate::file::read_file;
 pub use crate::reader::{BINARY_WORD, read_binary};
 pub use crate::source::read_source;
-pub use crate::source_fault::SourceFault;
 pub use crate::writer::{put_binary, put_gates, write_binary};
 pub use aig_core::{Ordered, is_in_binary_order};
-pub use aig_text::{Limits, ReadFault};
+pub use aig_text::Limits;

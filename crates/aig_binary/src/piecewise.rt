@@ -5,17 +5,17 @@ ghost use Rattle.std.specs.Prelude.{OnOk, drop, false, length, vec_len};
 ghost use Rattle.aig_circuit.specs.declared.circuit.Circuit.{Circuit as CircuitRecord};
 ghost use Rattle.aig_io.specs.Devices.{GaveSome};
 ghost use Rattle.aig_io.specs.Windows.{Filled};
-ghost use Rattle.aig_rows.specs.declared.fault.ReadFault.{ReadFault as Fault};
+ghost use Rattle.aig_fault.specs.declared.stopped.Stopped.{Stopped as Fault};
 ghost use Rattle.aig_lines.specs.Lines.{lines_of, HasNoLineFeed};
 ghost use Rattle.aig_rows.specs.Outcomes.{GivesOrMemory};
 ghost use Rattle.aig_text.specs.Begun.{IsDone, IsValid, ReadsOn, rest_of};
 ghost use Rattle.aig_text.specs.Reading.{HasRoomFor, with_last_comment};
 ghost use Rattle.aig_binary.specs.Sources.{ComesOn, NotAllCame, ReadsAs, ReadsFrom};
 
-use crate::source_fault::SourceFault;
 use aig_core::{Circuit, ReadError, Source, Window, read_to_end};
+use aig_fault::Stopped;
 use aig_lines::ended_lines;
-use aig_text::{AsciiReader, ReadFault, Uncommented};
+use aig_text::{AsciiReader, Uncommented};
 use std::alloc::Global;
 
 /// A reader that takes the bytes of a file piece by piece.
@@ -52,7 +52,7 @@ pub(crate) trait Pieces: Drop {
         ensures number { next_line self.new ≤ next_line self.old + result }
         ensures valid { is_valid self.new };
 
-    fn finish(self, alloc: Global, bytes: &[u8]) -> Result<Uncommented, ReadFault>
+    fn finish(self, alloc: Global, bytes: &[u8]) -> Result<Uncommented, Stopped>
         requires counted { next_line self + length bytes.now < 2 ^ 64 }
         requires valid { is_valid self }
         ensures read { GivesOrMemory
@@ -85,7 +85,7 @@ impl Pieces for AsciiReader {
         self.advance(bytes)
     }
 
-    fn finish(self, alloc: Global, bytes: &[u8]) -> Result<Uncommented, ReadFault> {
+    fn finish(self, alloc: Global, bytes: &[u8]) -> Result<Uncommented, Stopped> {
         self.finish(alloc, bytes)
     }
 }
@@ -161,7 +161,7 @@ fn read_pieces<R: Source, P: Pieces>(
 }
 
 /// The circuit that the last bytes tell to a reader. Its comment stays in their memory.
-fn finish_with<P: Pieces>(alloc: Global, reader: P, bytes: Vec<u8>) -> Result<Circuit, ReadFault>
+fn finish_with<P: Pieces>(alloc: Global, reader: P, bytes: Vec<u8>) -> Result<Circuit, Stopped>
     requires counted { P.next_line reader + length bytes.items < 2 ^ 64 }
     requires valid { P.is_valid reader }
     ensures { GivesOrMemory (λ c. c) result (P.rest reader bytes.items) }
@@ -177,7 +177,7 @@ pub(crate) fn read_rest<R: Source, P: Pieces>(
     source: &mut R,
     window: Window,
     reader: P,
-) -> Result<Circuit, SourceFault>
+) -> Result<Circuit, Stopped>
     requires valid { P.is_valid reader }
     requires counted { P.next_line reader + length window + R.bound source.old ≤ 2 ^ 63 }
     ensures { ReadsAs
@@ -188,8 +188,5 @@ pub(crate) fn read_rest<R: Source, P: Pieces>(
     let mut window = window;
     let more = read_pieces(source, &mut window, &mut reader)?;
     let bytes = fetch_all(source, window, more)?;
-    match finish_with(alloc, reader, bytes) {
-        Ok(circuit) => Ok(circuit),
-        Err(fault) => Err(SourceFault::File(fault)),
-    }
+    finish_with(alloc, reader, bytes)
 }

@@ -11,13 +11,14 @@ ghost use Rattle.aig_binary.specs.Begun.{FitsHeader, rest_of};
 ghost use Rattle.aig_binary.specs.Sources.{AnswersFile, ReadsAs, ReadsFrom};
 
 use crate::file::read_file;
+use crate::gates::is_cut;
 use crate::pieces::BinaryReader;
 use crate::piecewise::{fetch_all, fetch_piece, read_rest};
 use crate::reader::BINARY_WORD;
-use crate::source_fault::SourceFault;
 use aig_core::{Checked, Keep, Ordered, ReadError, Source, Window};
+use aig_fault::Stopped;
 use aig_lines::{Cursor, ended_lines};
-use aig_text::{AsciiReader, Limits, ReadKind, check_read, first_word_is, header};
+use aig_text::{AsciiReader, Limits, check_read, first_word_is, header};
 use std::alloc::Global;
 
 /// How many times what is held there may be before the lines in front of the gates are read anew: a
@@ -102,11 +103,9 @@ fn begin_reader<R: Source>(
                 window.pass(used);
                 return Ok((Some(reader), true));
             }
-            Err(fault) => match fault.kind {
-                ReadKind::Truncated => {}
-                ReadKind::OutOfMemory => return Err(ReadError::OutOfMemory),
-                _ => return Ok((None, true)),
-            },
+            Err(Stopped::OutOfMemory) => return Err(ReadError::OutOfMemory),
+            Err(Stopped::Refused(fault)) if is_cut(&fault.kind) => {}
+            Err(_) => return Ok((None, true)),
         }
         let held = window.as_slice();
         let least = front_len(held, limits).max(2 * held.len());
@@ -124,17 +123,16 @@ fn read_whole<R: Source>(
     more: bool,
     limits: Limits,
     keep: Keep,
-) -> Result<Checked, SourceFault>
+) -> Result<Checked, Stopped>
     ensures { (before : History) → R.history source.old ≡ gave window (not more) before
         → ReadsAs (AnswersFile limits.max_var) result before (R.history source.new) }
 {
     let mut bytes = fetch_all(source, window, more)?;
     if !fit(&mut bytes) {
-        return Err(SourceFault::Source(ReadError::OutOfMemory));
+        return Err(Stopped::OutOfMemory);
     }
     // The text ends here: it is not needed from here on, and may be larger than the circuit.
-    let found = read_file(alloc, bytes.as_slice(), limits, keep)?;
-    Ok(found)
+    read_file(alloc, bytes.as_slice(), limits, keep)
 }
 
 fn read_binary_file<R: Source>(
@@ -142,7 +140,7 @@ fn read_binary_file<R: Source>(
     source: &mut R,
     window: Window,
     limits: Limits,
-) -> Result<Checked, SourceFault>
+) -> Result<Checked, Stopped>
     requires counted { length window + R.bound source.old ≤ 2 ^ 62 }
     requires binary { (more : List ℕ)
         → first_word_is binary_word (lines_of (window ++ more)) ≡ true }
@@ -165,7 +163,7 @@ pub fn read_source<R: Source>(
     source: &mut R,
     limits: Limits,
     keep: Keep,
-) -> Result<Checked, SourceFault>
+) -> Result<Checked, Stopped>
     ensures { ReadsAs (AnswersFile limits.max_var) result (R.history source.old)
         (R.history source.new) }
 {
@@ -181,5 +179,5 @@ pub fn read_source<R: Source>(
     let mut window = first;
     window.pass(used);
     let circuit = read_rest(alloc, source, window, reader)?;
-    Ok(check_read(alloc, circuit, keep)?)
+    check_read(alloc, circuit, keep)
 }

@@ -14,10 +14,9 @@ ghost use Rattle.aig_binary.specs.declared.delta.TheConstants.{LONGEST};
 
 use crate::delta::{LONGEST, write_delta};
 use crate::reader::BINARY_WORD;
-use aig_core::{Circuit, Gate, Latch, Ordered, Output, Sink};
+use aig_core::{Circuit, DeviceFault, Gate, Latch, Ordered, Output, Sink};
 use aig_text::{
-    WriteFault, header_numbers, put_header, put_literal_sections, put_numbers, put_tail,
-    reset_number,
+    header_numbers, put_header, put_literal_sections, put_numbers, put_tail, reset_number,
 };
 
 #[inline(always)]
@@ -103,7 +102,7 @@ pub fn put_binary<W: Sink>(output: &mut Output<W>, ordered: &Ordered)
 /// Writes the canonical binary text of a circuit, in slices of at most 8,192 bytes. It takes no
 /// memory and fails only where the sink fails; the sink then took a beginning of the text, and is
 /// not called again.
-pub fn write_binary<W: Sink>(ordered: &Ordered, sink: &mut W) -> Result<(), WriteFault>
+pub fn write_binary<W: Sink>(ordered: &Ordered, sink: &mut W) -> Result<(), DeviceFault>
     ensures ok { OnOk result (W.history sink.new ≡ took (binary_text ordered.now)
         (W.history sink.old)) }
     ensures err { OnErr result (TookBeginning (binary_text ordered.now) (W.history sink.old)

@@ -1,25 +1,22 @@
 -- What comes of a source that was read, by what was made of it; and the first fault of a file.
-use Rattle.std.proofs.Common.{◌≡◌, ℕ, List, Err, ap, refl, subst, sym, true, false}
+use Rattle.std.proofs.Common.{◌≡◌, ℕ, List, Result, Ok, Err, inl, inr, refl, subst, sym, true, false}
+use Rattle.aig_binary.specs.File.{IsFileOf, file_reading}
 use Rattle.aig_binary.specs.Sources.{AnswersFile, ReadsAs}
-use Rattle.aig_binary.specs.declared.source_fault.SourceFault.{SourceFault}
-use Rattle.aig_binary.specs.declared.source_fault.SourceFault.TheVariants as faults
+use Rattle.aig_binary.proofs.Refusals.{file_refuses}
 use Rattle.aig_circuit.specs.declared.circuit.Circuit.{Circuit}
-use Rattle.aig_fault.specs.Stopping.{StopsFor}
+use Rattle.aig_fault.specs.Stopping.{StopsFor, stopped_by}
 use Rattle.aig_fault.specs.declared.fault.Fault.{Fault}
 use Rattle.aig_fault.specs.declared.stopped.Stopped.{Stopped}
 use Rattle.aig_fault.specs.declared.stopped.Stopped.TheVariants as stops
-use Rattle.aig_io.specs.Devices.{History}
+use Rattle.aig_io.specs.Devices.{GaveSome, History}
 use Rattle.aig_io.specs.Runs.{AtEnd, Broken, Ending, Open, Read}
+use Rattle.aig_io.specs.declared.transfer.ReadError.{ReadError}
 use Rattle.aig_io.specs.declared.transfer.ReadError.TheVariants as errors
 use Rattle.aig_io.proofs.Runs.{read_weaker}
-use Rattle.aig_rows.specs.declared.fault.ReadFault.{ReadFault}
-use Rattle.aig_rows.specs.declared.fault.ReadKind.{ReadKind}
-use Rattle.aig_rows.specs.declared.fault.ReadKind.TheVariants as kinds
 use Rattle.aig_text.specs.Reading.{IsFirstFault}
+use Rattle.aig_text.proofs.Refusals.{told_refuses}
 use Rattle.aig_commands.specs.File.{first_fault}
-use Rattle.aig_commands.specs.Reading.{AtItsEnd, IsUnreadable, NotRead}
-use Rattle.aig_binary.specs.Stops.{source_stops}
-use Rattle.aig_rows.specs.Stops.{kind_stops, place_of}
+use Rattle.aig_commands.specs.Reading.{AtItsEnd, IsUnreadable, NotRead, ReadSays}
 
 -- what is refused once all came
 at_its_end : (IsRefused : Fault → List ℕ → Type 0) (stopped : Stopped) (bytes : List ℕ)
@@ -49,25 +46,39 @@ module _ (Holds : List ℕ → Type 0) (before after : History) where
       (at_its_end IsRefused stopped bytes (why bytes says.1)))
 
 -- the first fault of bytes, unless memory was refused
-unreadable : (limit : ℕ) (first : ReadFault) (bytes : List ℕ) → IsFirstFault first (first_fault limit bytes)
-    → (kind : ReadKind) → first.kind ≡ kind
-    → StopsFor (λ fault. IsUnreadable limit fault bytes) (kind_stops (place_of first.place) kind)
-unreadable limit first bytes is kinds.OutOfMemory same = tt
-unreadable limit first bytes is kind same = (first, ap (kind_stops (place_of first.place)) same, is)
+unreadable : (limit : ℕ) (e : Stopped) (bytes : List ℕ) → IsFirstFault e (first_fault limit bytes)
+    → StopsFor (λ fault. IsUnreadable limit fault bytes) e
+unreadable limit stops.OutOfMemory bytes is = tt
+unreadable limit stops.ReadFailed bytes (inl is) = cc
+unreadable limit stops.ReadFailed bytes (inr is) =
+    absurd (told_refuses (file_reading limit bytes) (file_refuses limit bytes) is)
+unreadable limit stops.WriteFailed bytes (inl is) = cc
+unreadable limit stops.WriteFailed bytes (inr is) =
+    absurd (told_refuses (file_reading limit bytes) (file_refuses limit bytes) is)
+unreadable limit (stops.Refused fault) bytes (inl is) = cc
+unreadable limit (stops.Refused fault) bytes (inr is) = is
 
--- a source was read, and gave no circuit
-pub not_read : (limit : ℕ) (fault : SourceFault) (before after : History)
-    → ReadsAs {A = Circuit} (AnswersFile limit) (Err fault) before after
-    → Read (NotRead (AtItsEnd (IsUnreadable limit)) (source_stops fault)) before after
-not_read limit (faults.Source errors.Source) before after (bytes, gave) =
+-- the source failed, or memory was refused
+not_come : (Refuses : Fault → List ℕ → Ending → Type 0) (error : ReadError) (before after : History)
+    → GaveSome error before after → Read (NotRead Refuses (stopped_by error)) before after
+not_come Refuses errors.Source before after (bytes, gave) =
     record { bytes = bytes; ending = Broken; says = refl; came = gave }
-not_read limit (faults.Source errors.OutOfMemory) before after (bytes, true, gave) =
+not_come Refuses errors.OutOfMemory before after (bytes, true, gave) =
     record { bytes = bytes; ending = AtEnd; says = tt; came = gave }
-not_read limit (faults.Source errors.OutOfMemory) before after (bytes, false, gave) =
+not_come Refuses errors.OutOfMemory before after (bytes, false, gave) =
     record { bytes = bytes; ending = Open; says = tt; came = gave }
-not_read limit (faults.File first) before after read = record {
+
+-- a source was read, and gave a circuit or none
+pub source_read : (limit : ℕ) (made : Result Circuit Stopped) (before after : History)
+    → ReadsAs (AnswersFile limit) made before after
+    → Read (ReadSays (λ found bytes. IsFileOf bytes limit found) (AtItsEnd (IsUnreadable limit)) made) before after
+source_read limit (Ok found) before after read =
+    record { bytes = read.bytes; ending = AtEnd; says = (refl, read.holds); came = read.gave }
+source_read limit (Err e) before after (inl read) = record {
   bytes = read.bytes;
   ending = AtEnd;
-  says = at_its_end (IsUnreadable limit) _ read.bytes (unreadable limit first read.bytes read.holds first.kind refl);
+  says = at_its_end (IsUnreadable limit) e read.bytes (unreadable limit e read.bytes read.holds);
   came = read.gave;
 }
+source_read limit (Err e) before after (inr failed) =
+    rw failed.is (not_come (AtItsEnd (IsUnreadable limit)) failed.error before after failed.gave)

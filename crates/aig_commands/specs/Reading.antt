@@ -1,13 +1,10 @@
 -- What the answer of reading a source to its end says.
-use Rattle.std.specs.Prelude.{◌≡◌, ◌++◌, ℕ, List, Result, Ok, Err}
+use Rattle.std.specs.Prelude.{◌≡◌, ◌++◌, ℕ, List, Some, Result, Ok, Err}
 use Rattle.aig_fault.specs.declared.fault.Fault.{Fault}
 use Rattle.aig_fault.specs.declared.stopped.Stopped.{Stopped}
 use Rattle.aig_fault.specs.declared.stopped.Stopped.TheVariants.{OutOfMemory, ReadFailed, Refused, WriteFailed}
 use Rattle.aig_io.specs.Runs.{AtEnd, Broken, Ending, IsUnbroken, Open}
-use Rattle.aig_rows.specs.declared.fault.ReadFault.{ReadFault}
-use Rattle.aig_text.specs.Reading.{IsFirstFault}
 use Rattle.aig_commands.specs.File.{first_fault}
-use Rattle.aig_rows.specs.Stops.{read_stops}
 
 -- all came, and is refused with this fault
 abbrev pub AtItsEnd : (Fault → List ℕ → Type 0) → Fault → List ℕ → Ending → Type 0
@@ -34,5 +31,4 @@ ReadSays Holds Refuses (Err stopped) bytes ending = NotRead Refuses stopped byte
 
 -- the bytes are no file of a circuit within this limit: this is their first fault
 abbrev pub IsUnreadable : ℕ → Fault → List ℕ → Type 0
-IsUnreadable limit fault bytes =
-    (first : ReadFault) × (read_stops first ≡ Refused fault) × IsFirstFault first (first_fault limit bytes)
+IsUnreadable limit fault bytes = first_fault limit bytes ≡ Some (Refused fault)

@@ -13,7 +13,7 @@ use aig_convert::{MappedImage, write_mapped};
 use aig_core::{Checked, DeviceFault, Output, Sink};
 use aig_fault::{Message, Stopped};
 use aig_replay::FoundWitness;
-use aig_text::{WriteFault, write_ascii};
+use aig_text::write_ascii;
 use aig_unroll::Unrolling;
 
 /// What is written.
@@ -41,7 +41,7 @@ fn write_unrolled<W: Sink>(
     form: UnrolledForm,
     circuit: Unrolling,
     sink: &mut W,
-) -> Result<(), WriteFault>
+) -> Result<(), DeviceFault>
     ensures ok { OnOk result (W.history sink.new
         ≡ took (unrolled_text form circuit) (W.history sink.old)) }
     ensures err { OnErr result (TookBeginning (unrolled_text form circuit)

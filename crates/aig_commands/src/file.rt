@@ -22,5 +22,5 @@ pub fn read_circuit<R: Source>(
         result)
         (R.history source.old) (R.history source.new) }
 {
-    Ok(read_source(alloc, source, Limits { max_var }, keep)?)
+    read_source(alloc, source, Limits { max_var }, keep)
 }

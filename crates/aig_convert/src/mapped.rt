@@ -14,15 +14,14 @@ ghost use Rattle.aig_map.specs.Parts.Kept.{AreVariablesOf, with_block};
 
 use aig_binary::put_binary;
 use aig_core::{
-    Checked, Circuit, LARGEST, Listing, Ordered, OutOfMemory, Output, Sink, Steps, Var,
-    is_numbered_in_order,
+    Checked, Circuit, DeviceFault, LARGEST, Listing, Ordered, OutOfMemory, Output, Sink, Steps,
+    Var, is_numbered_in_order,
 };
 use aig_image::{Labels, Renumbering, relabel, sort_operands};
 use aig_map::{
     KeptMap, KeptVariables, keep_variables, map_comment, put_map_comment, record_map,
     record_new_map,
 };
-use aig_text::WriteFault;
 use std::alloc::Global;
 use std::marker::Model;
 
@@ -88,7 +87,7 @@ impl MappedImage {
 /// Writes the canonical binary text of a mapped image, in slices of at most 8,192 bytes. It takes
 /// no memory and fails only where the sink fails; the sink then took a beginning of the text, and
 /// is not called again.
-pub fn write_mapped<W: Sink>(image: &MappedImage, sink: &mut W) -> Result<(), WriteFault>
+pub fn write_mapped<W: Sink>(image: &MappedImage, sink: &mut W) -> Result<(), DeviceFault>
     ensures ok { OnOk result (W.history sink.new ≡ took (binary_text image.now)
         (W.history sink.old)) }
     ensures err { OnErr result (TookBeginning (binary_text image.now) (W.history sink.old)

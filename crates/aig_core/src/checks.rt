@@ -1,7 +1,7 @@
 //! The check of circuits.
 ghost use Rattle.std.specs.Prelude.{◌≡◌, ◌≢◌, ◌↔◌, ◌+◌, ◌*◌, ◌≤◌, IsTrue, IfOk, IfErr, OnOk};
 ghost use Rattle.std.specs.Prelude.{None, length};
-ghost use Rattle.aig_core.specs.declared.fault.CheckFault.TheVariants.{OutOfMemory as WantOfMemory};
+ghost use Rattle.aig_fault.specs.declared.stopped.Stopped.TheVariants.{OutOfMemory as WantOfMemory};
 ghost use Rattle.aig_circuit.specs.Wellformed.{AreDistinct, IsWellFormed, defined_variables};
 ghost use Rattle.aig_circuit.specs.Form.{IsInForm};
 ghost use Rattle.aig_core.specs.Fault.{first_structural_fault, IsFault};
@@ -9,9 +9,9 @@ ghost use Rattle.aig_core.specs.Steps.{steps_a_gate};
 
 use crate::checks::distinct::{is_defined_once_by_parts, is_spread};
 use crate::checks::faults::{find_fault, find_redefinition};
-use crate::fault::CheckFault;
 use aig_checked::Checked;
 use aig_circuit::{Circuit, OutOfMemory};
+use aig_fault::Stopped;
 use aig_topo::Steps;
 use std::alloc::Global;
 
@@ -35,7 +35,7 @@ pub fn check(
     circuit: Circuit,
     keep: Keep,
     steps: &mut Steps,
-) -> Result<Checked, (Circuit, CheckFault)>
+) -> Result<Checked, (Circuit, Stopped)>
     requires in_form { IsInForm circuit }
     ensures ok { IfOk result (λ checked. checked ≡ circuit) }
     ensures well_formed { OnOk result (IsWellFormed circuit) }
@@ -60,7 +60,7 @@ pub fn is_defined_once(alloc: Global, circuit: &Circuit) -> Result<bool, OutOfMe
     }
     match find_redefinition(alloc, circuit) {
         Ok(()) => Ok(true),
-        Err(CheckFault::Redefined(_)) => Ok(false),
+        Err(Stopped::Refused(_)) => Ok(false),
         Err(_) => Err(OutOfMemory),
     }
 }

@@ -9,12 +9,10 @@
 #![tactic(auto)]
 
 mod checks;
-mod fault;
 pub mod laws;
 mod names;
 
 pub use crate::checks::{Keep, check, is_defined_once};
-pub use crate::fault::CheckFault;
 pub use crate::names::{NamedCounts, Names};
 pub use aig_checked::{
     Checked, Ordered, copy_comment, copy_justice, copy_symbols, is_in_binary_order,

@@ -6,9 +6,8 @@ ghost use Rattle.aig_claims.specs.RunDump.{HasNoDump, comment_line};
 ghost use Rattle.aig_dump.specs.InMemory.{JudgedRun};
 
 use crate::run_dump::{comment_line, judge_and_dump};
-use aig_core::{Checked, Output, ReadError, Sink, Source, read_all};
+use aig_core::{Checked, DeviceFault, Output, ReadError, Sink, Source, read_all};
 use aig_step::SimFault;
-use aig_text::WriteFault;
 use aig_witness::Verdict;
 use std::alloc::Global;
 
@@ -56,7 +55,7 @@ pub fn read_and_dump<R: Source>(
 
 /// Sends the verdict and the dump of a run. It fails only where the sink fails, which then took a
 /// beginning of them.
-pub fn send_dump<W: Sink>(verdict: Verdict, run: &[u8], sink: &mut W) -> Result<(), WriteFault>
+pub fn send_dump<W: Sink>(verdict: Verdict, run: &[u8], sink: &mut W) -> Result<(), DeviceFault>
     ensures ok { OnOk result (W.history sink.new
         ≡ took (comment_line verdict ++ run.now) (W.history sink.old)) }
     ensures err { OnErr result

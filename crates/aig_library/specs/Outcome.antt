@@ -4,7 +4,6 @@ use Rattle.aig_array_steps.specs.declared.one_step.StepFault.{StepFault}
 use Rattle.aig_array_steps.specs.declared.one_step.StepFault.TheVariants as step_faults
 use Rattle.aig_arrays.specs.declared.fault.ArrayFault.{ArrayFault}
 use Rattle.aig_arrays.specs.declared.fault.ArrayFault.TheVariants as array_faults
-use Rattle.aig_rows.specs.Stops.{kind_stops}
 use Rattle.aig_fault.specs.Stopping.{fault_at, refusal}
 use Rattle.aig_fault.specs.Words.{kind_number}
 use Rattle.aig_fault.specs.declared.fault.Fault.{Fault}
@@ -13,7 +12,6 @@ use Rattle.aig_fault.specs.declared.fault.Place.TheVariants as places
 use Rattle.aig_fault.specs.declared.kind.Kind.TheVariants as kinds
 use Rattle.aig_fault.specs.declared.stopped.Stopped.{Stopped}
 use Rattle.aig_fault.specs.declared.stopped.Stopped.TheVariants as stops
-use Rattle.aig_text.specs.Reading.{kind_of}
 use Rattle.aig_library.specs.Numbers as numbers
 use Rattle.aig_library.specs.declared.outcome.Outcome.{Outcome}
 
@@ -59,8 +57,8 @@ StopsInMemory Holds stopped = ⊤
 -- an entry that is not right is told by the place of its first word, and a structural fault as that of a file
 abbrev pub array_stops : ArrayFault → Stopped
 array_stops array_faults.BadCounts = refusal kinds.BadCounts places.Whole 0
-array_stops (array_faults.BadEntry word kind) = kind_stops (places.Word word) kind
-array_stops (array_faults.Structure fault) = kind_stops places.Whole (kind_of fault)
+array_stops (array_faults.BadEntry word kind) = refusal kind (places.Word word) 0
+array_stops (array_faults.Structure stopped) = stopped
 
 abbrev pub step_outcome : StepFault → Outcome
 step_outcome step_faults.BadCounts = fault_outcome (fault_at kinds.BadCounts places.Whole 0)

@@ -42,7 +42,7 @@ fn circuit_read(alloc: Global, options: u32, max_var: u32, input: &[u8]) -> Resu
     ensures err { IfErr result (StopsInMemory (λ fault. IsUnreadable max_var fault input.now)) }
 {
     let keep = what_to_keep(has(options, ORDERED));
-    Ok(read_file(alloc, input, Limits { max_var }, keep)?)
+    read_file(alloc, input, Limits { max_var }, keep)
 }
 
 /// Room for a number for each variable that a circuit defines.

@@ -1,16 +1,11 @@
 //! What came of a call, in numbers.
 ghost use Rattle.std.specs.Prelude.{◌≡◌, IfErr, IfOk, OnOk};
-ghost use Rattle.aig_fault.specs.declared.fault.Place.TheVariants.{Whole};
-ghost use Rattle.aig_text.specs.Reading.{kind_of};
-ghost use Rattle.aig_rows.specs.Stops.{kind_stops};
 ghost use Rattle.aig_library.specs.Outcome.{array_stops, ending, fault_outcome, IsPlaced};
 ghost use Rattle.aig_library.specs.Outcome.{outcome_of, place_numbers, step_outcome};
 
 use aig_array_steps::StepFault;
 use aig_arrays::ArrayFault;
-use aig_core::CheckFault;
 use aig_fault::{Fault, Kind, Place, Stopped, refused, refused_whole};
-use aig_rows::kind_stops;
 
 /// The text was written, or the witness is confirmed.
 pub const DONE: u32 = 0;
@@ -125,25 +120,14 @@ pub(crate) fn outcome_of(stopped: &Stopped) -> Outcome
     }
 }
 
-fn check_stops(fault: CheckFault) -> Stopped
-    ensures { result ≡ kind_stops Whole (kind_of fault) }
-{
-    match fault {
-        CheckFault::Redefined(variable) => refused(Kind::Redefined, Place::Whole, variable.0),
-        CheckFault::Undefined(literal) => refused(Kind::Undefined, Place::Whole, literal.0),
-        CheckFault::Cyclic(literal) => refused(Kind::Cyclic, Place::Whole, literal.0),
-        CheckFault::OutOfMemory => Stopped::OutOfMemory,
-    }
-}
-
 /// What the first fault of arrays is.
 pub(crate) fn array_stops(fault: &ArrayFault) -> Stopped
     ensures { result ≡ array_stops fault.now }
 {
     match fault {
         ArrayFault::BadCounts => refused_whole(Kind::BadCounts),
-        ArrayFault::BadEntry { word, kind } => kind_stops(Place::Word(*word), *kind),
-        ArrayFault::Structure(fault) => check_stops(*fault),
+        ArrayFault::BadEntry { word, kind } => refused(*kind, Place::Word(*word), 0),
+        ArrayFault::Structure(stopped) => *stopped,
     }
 }
 

@@ -19,9 +19,8 @@ use crate::fault::AnswerFault;
 use crate::search::Hit;
 use crate::start::{FoundRun, find_run};
 use crate::writer::put_witness;
-use aig_core::{Checked, Circuit, Latch, OutOfMemory, Output, Reset, Sink, Source};
+use aig_core::{Checked, Circuit, DeviceFault, Latch, OutOfMemory, Output, Reset, Sink, Source};
 use aig_step::Stepper;
-use aig_text::WriteFault;
 use std::alloc::Global;
 use std::marker::Model;
 
@@ -213,7 +212,7 @@ impl FoundWitness {
 
     /// Writes the witness file. It fails only where the sink fails, which then took a beginning of
     /// the text, and is not called again.
-    pub fn write<W: Sink>(self, sink: &mut W) -> Result<(), WriteFault>
+    pub fn write<W: Sink>(self, sink: &mut W) -> Result<(), DeviceFault>
         ensures ok { OnOk result (W.history sink.new
             ≡ took (witness_text self) (W.history sink.old)) }
         ensures err { OnErr result (TookBeginning (witness_text self) (W.history sink.old)

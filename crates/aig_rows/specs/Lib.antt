@@ -7,6 +7,5 @@ pub mod Begun
 pub mod Outcomes
 pub mod Kept
 pub mod Messages
-pub mod Stops
 pub mod Laws
 pub mod Parts

@@ -6,11 +6,12 @@ ghost use Rattle.aig_rows.specs.Rows.{next_form, next_of};
 ghost use Rattle.aig_rows.specs.Outcomes.{GivesOrMemory, rows_meant};
 ghost use Rattle.aig_lines.specs.Lines.{Line, with_lines};
 ghost use Rattle.aig_rows.specs.Begun.{HaveRead};
-ghost use Rattle.aig_rows.specs.Reading.{out_of_memory, rows_at};
+ghost use Rattle.aig_fault.specs.declared.stopped.Stopped.TheVariants.{OutOfMemory};
+ghost use Rattle.aig_rows.specs.Reading.{rows_at};
 
-use crate::fault::{Place, ReadFault, ReadKind};
 use crate::row::{FromRow, NextState};
 use aig_circuit::Listing;
+use aig_fault::{Kind, Stopped, refused_at};
 use aig_lines::Cursor;
 use std::alloc::Global;
 
@@ -40,14 +41,14 @@ pub fn read_first_rows<T: FromRow>(
     bound: u32,
     due: Due,
     at: &mut Cursor,
-) -> Result<Due, ReadFault>
+) -> Result<Due, Stopped>
     requires bound { bound ≤ largest_index }
     requires small { due.carried + 2 * due.count ≤ 2 ^ 34 }
     ensures rows { IfOk result (λ left.
         HaveRead T.meant_by T.form bound due left found.old found.new at.old at.new) }
     ensures small { IfOk result (λ left. left.carried + 2 * left.count ≤ 2 ^ 34) }
     ensures all { IfOk result (λ left. 0 < left.count → at.new.lines ≡ []) }
-    ensures err { IfErr result (λ e. (e ≡ out_of_memory) ⊎ ((more : List Line)
+    ensures err { IfErr result (λ e. (e ≡ OutOfMemory) ⊎ ((more : List Line)
         → rows_at T.form bound due.carried due.count (with_lines at.old more) ≡ Err e)) }
 {
     // Out of the cursor, so that both stay in registers; where a row is read slowly, one is lent.
@@ -86,7 +87,7 @@ pub fn read_rows<T: FromRow>(
     bound: u32,
     start: u64,
     at: &mut Cursor,
-) -> Result<(), ReadFault>
+) -> Result<(), Stopped>
     requires bound { bound ≤ largest_index }
     requires start { start ≤ 2 ^ 33 }
     ensures rows { GivesOrMemory (λ _. (found.new, at.new)) result
@@ -106,10 +107,7 @@ pub fn read_rows<T: FromRow>(
         Err(fault) => return Err(fault),
     };
     if left.count > 0 {
-        return Err(ReadFault {
-            place: Place::Line(from.number),
-            kind: ReadKind::Truncated,
-        });
+        return Err(refused_at(Kind::Truncated, from.number));
     }
     *at = from;
     Ok(())
@@ -123,7 +121,7 @@ pub fn next_states(
     own: u64,
     at: &mut Cursor,
     max_var: u32,
-) -> Result<Listing<NextState>, ReadFault>
+) -> Result<Listing<NextState>, Stopped>
     requires max_var { max_var ≤ largest_index }
     requires own { own ≤ 2 ^ 33 }
     ensures states { GivesOrMemory (λ found. (found, at.new)) result

@@ -14,7 +14,6 @@ mod parts;
 mod pieces;
 mod reader;
 mod section;
-mod stops;
 mod tail_lines;
 mod writer;
 
@@ -26,10 +25,9 @@ pub use crate::pieces::AsciiReader;
 pub use crate::reader::{check_read, empty_circuit, read_ascii};
 pub use crate::section::{SECTIONS, Section, read_section};
 pub use crate::writer::{
-    NumberedLine, WriteFault, header_numbers, put_header, put_lines, put_literal_sections,
-    put_numbers, put_tail, reset_number, write_ascii,
+    NumberedLine, header_numbers, put_header, put_lines, put_literal_sections, put_numbers,
+    put_tail, reset_number, write_ascii,
 };
 pub use aig_rows::{
-    CANNOT_READ, CANNOT_WRITE, Message, NextState, OUT_OF_MEMORY, Place, ReadFault, ReadKind,
-    canonical_number, next_states,
+    CANNOT_READ, CANNOT_WRITE, Message, NextState, OUT_OF_MEMORY, canonical_number, next_states,
 };

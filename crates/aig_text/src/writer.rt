@@ -8,44 +8,14 @@ ghost use Rattle.aig_text.specs.AsciiText.{line_text, more_numbers_text};
 ghost use Rattle.aig_text.specs.AsciiText.{numbers_text, row_text, shortened};
 ghost use Rattle.aig_text.specs.AsciiText.{spaced_number, symbol_text, tail_text};
 ghost use Rattle.aig_text.specs.Sections.{header_row, rows_of, literal_rows_of};
-ghost use Rattle.aig_rows.specs.Messages.{cannot_write_text};
 ghost use Rattle.aig_rows.specs.Rows.{gate_row, input_row, latch_row};
 ghost use Rattle.aig_rows.specs.Rows.{literal_row, reset_number, size_row};
 ghost use Rattle.aig_text.specs.declared.writer.TheConstants.{FEW};
-ghost use Rattle.aig_text.specs.declared.writer.WriteFault.TheVariants.{Device};
 
 use crate::header_line::{ASCII_WORD, HEADER_LEAST, HEADER_NUMBERS};
 use aig_core::{
     Checked, Circuit, DeviceFault, Gate, Latch, Listing, Lit, Output, Reset, Sink, Symbols, Var,
 };
-use aig_rows::CANNOT_WRITE;
-use std::error::Error;
-use std::fmt;
-
-/// Why a text was not written whole.
-#[derive(Debug, Drop)]
-pub enum WriteFault {
-    /// The sink failed.
-    Device,
-}
-
-impl fmt::Display for WriteFault {
-    ghost output = { λ _. Some cannot_write_text };
-
-    fn fmt<W: fmt::Write>(&self, f: &mut fmt::Formatter<W>) -> fmt::Result {
-        write!(f, "{CANNOT_WRITE}")
-    }
-}
-
-impl Error for WriteFault {}
-
-impl From<DeviceFault> for WriteFault {
-    ghost from_gives = { λ _ e. e ≡ Device };
-
-    fn from(_fault: DeviceFault) -> WriteFault {
-        WriteFault::Device
-    }
-}
 
 /// A line of at most so many numbers after the first is put at once.
 const FEW: usize = 8;
@@ -265,7 +235,7 @@ fn put_text<W: Sink>(output: &mut Output<W>, circuit: &Circuit)
 /// Writes the canonical ASCII text of a circuit, in slices of at most 8,192 bytes. It takes no
 /// memory and fails only where the sink fails; the sink then took a beginning of the text, and is
 /// not called again.
-pub fn write_ascii<W: Sink>(circuit: &Checked, sink: &mut W) -> Result<(), WriteFault>
+pub fn write_ascii<W: Sink>(circuit: &Checked, sink: &mut W) -> Result<(), DeviceFault>
     ensures ok { OnOk result (W.history sink.new ≡ took (ascii_text circuit.now)
         (W.history sink.old)) }
     ensures err { OnErr result (TookBeginning (ascii_text circuit.now) (W.history sink.old)

@@ -19,9 +19,9 @@ use crate::writing::{
 };
 use aig_binary::BINARY_WORD;
 use aig_cnf::{put_clause, put_clause_end, put_clauses_header};
-use aig_core::{Checked, Circuit, Gate, Lit, Ordered, OutOfMemory, Output, Sink, Var};
+use aig_core::{Checked, Circuit, DeviceFault, Gate, Lit, Ordered, OutOfMemory, Output, Sink, Var};
 use aig_image::{Steps, into_binary};
-use aig_text::{ASCII_WORD, WriteFault, put_header};
+use aig_text::{ASCII_WORD, put_header};
 use std::alloc::Global;
 use std::marker::Model;
 
@@ -151,7 +151,7 @@ impl Unrolling {
     /// Writes the canonical ASCII text of the unrolled circuit, in slices of at most 8,192 bytes.
     /// It takes no memory and fails only where the sink fails; the sink then took a beginning of
     /// the text, and is not called again.
-    pub fn write_ascii<W: Sink>(self, sink: &mut W) -> Result<(), WriteFault>
+    pub fn write_ascii<W: Sink>(self, sink: &mut W) -> Result<(), DeviceFault>
         ensures ok { OnOk result (W.history sink.new
             ≡ took (ascii_text self) (W.history sink.old)) }
         ensures err { OnErr result (TookBeginning (ascii_text self) (W.history sink.old)
@@ -167,7 +167,7 @@ impl Unrolling {
     /// Writes the canonical binary text of the unrolled circuit, in slices of at most 8,192 bytes.
     /// It takes no memory and fails only where the sink fails; the sink then took a beginning of
     /// the text, and is not called again.
-    pub fn write_binary<W: Sink>(self, sink: &mut W) -> Result<(), WriteFault>
+    pub fn write_binary<W: Sink>(self, sink: &mut W) -> Result<(), DeviceFault>
         ensures ok { OnOk result (W.history sink.new
             ≡ took (binary_text self) (W.history sink.old)) }
         ensures err { OnErr result (TookBeginning (binary_text self) (W.history sink.old)
@@ -212,7 +212,7 @@ impl Unrolling {
     /// Writes the clauses by which a bad state of the unrolled circuit is 1, as DIMACS text, in
     /// slices of at most 8,192 bytes. It takes no memory and fails only where the sink fails; the
     /// sink then took a beginning of the text, and is not called again.
-    pub fn write_cnf<W: Sink>(self, sink: &mut W) -> Result<(), WriteFault>
+    pub fn write_cnf<W: Sink>(self, sink: &mut W) -> Result<(), DeviceFault>
         ensures ok { OnOk result (W.history sink.new ≡ took (cnf_text self) (W.history sink.old)) }
         ensures err { OnErr result (TookBeginning (cnf_text self) (W.history sink.old)
             (W.history sink.new)) }

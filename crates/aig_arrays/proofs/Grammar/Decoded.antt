@@ -17,7 +17,7 @@ use Rattle.aig_circuit.proofs.Checking.{by_parts}
 use Rattle.aig_circuit.specs.Wellformed.{HasGoodSymbols, IsAmong, IsWithinLimits, NameApart, count_of, largest_index}
 use Rattle.aig_circuit.specs.Wellformed.{line_feed}
 use Rattle.aig_core.specs.Fault.{first_structural_fault}
-use Rattle.aig_core.specs.declared.fault.CheckFault.{CheckFault}
+use Rattle.aig_fault.specs.declared.stopped.Stopped.{Stopped}
 use Rattle.aig_core.specs.Names.{nothing_named}
 use Rattle.aig_core.proofs.Checking.Faultless.{well_formed}
 use Rattle.aig_rows.specs.Reading.{◌>>=◌}
@@ -331,7 +331,7 @@ module _ (n : Counts) (words bytes : List ℕ) (c : Circuit) (t : TellEntries n 
       ) refl
 
 -- what is decoded has the words, and is well formed
-no_fault : (c d : Circuit) (o : Option CheckFault) → unless_broken c o ≡ Ok d → (o ≡ None) × (c ≡ d)
+no_fault : (c d : Circuit) (o : Option Stopped) → unless_broken c o ≡ Ok d → (o ≡ None) × (c ≡ d)
 no_fault c d None h = (refl, ok_same {E = ArrayFault} c d h)
 no_fault c d (Some f) h = cc
 

@@ -6,7 +6,7 @@ use Rattle.std.specs.List.{concat}
 use Rattle.std.proofs.Math.Seq.{take-append_seam, drop-append_seam}
 use Rattle.std.proofs.lemmas.List.{length-append, length-take-le}
 use Rattle.std.proofs.lemmas.Slice.Zip.{AllZip-long}
-use Rattle.aig_rows.specs.declared.fault.ReadKind.{ReadKind}
+use Rattle.aig_fault.specs.declared.kind.Kind.{Kind}
 use Rattle.aig_rows.specs.Rows.{Form, roles_of}
 use Rattle.aig_rows.specs.Reading.{◌>>=◌, fault_in_row, own_literal, unless_wrong}
 use Rattle.aig_rows.proofs.Kept.Checks.{right_parts}
@@ -21,12 +21,12 @@ use Rattle.aig_arrays.specs.declared.fault.ArrayFault.TheVariants.{BadCounts, Ba
 abbrev pub ahead : ℕ → List ℕ → Ahead
 ahead at words = record { at = at; words = words }
 
-ok_at_word : {A : Type 0} (n : ℕ) (r : Result A ReadKind) (x : A) → at_word n r ≡ Ok x → r ≡ Ok x
+ok_at_word : {A : Type 0} (n : ℕ) (r : Result A Kind) (x : A) → at_word n r ≡ Ok x → r ≡ Ok x
 ok_at_word n (Ok y) x h = cc
 ok_at_word n (Err e) x h = cc
 
 -- so many words are there and tell something, and what is ahead is after them
-pub record IsDecodedFirst {A : Type 0} (count : ℕ) (tell : List ℕ → Result A ReadKind) (a : Ahead)
+pub record IsDecodedFirst {A : Type 0} (count : ℕ) (tell : List ℕ → Result A Kind) (a : Ahead)
     (p : A × Ahead) : Type 0 where
   pub first : List ℕ
   pub words : a.words ≡ first ++ p.1.words
@@ -36,7 +36,7 @@ pub record IsDecodedFirst {A : Type 0} (count : ℕ) (tell : List ℕ → Result
 abbrev with_behind : {A : Type 0} → ℕ → Ahead → A → Result (A × Ahead) ArrayFault
 with_behind count a found = Ok (found, behind count a)
 
-pub first_decoded : {A : Type 0} (count : ℕ) (tell : List ℕ → Result A ReadKind) (a : Ahead) (p : A × Ahead)
+pub first_decoded : {A : Type 0} (count : ℕ) (tell : List ℕ → Result A Kind) (a : Ahead) (p : A × Ahead)
     → words_decoded count tell a ≡ Ok p → IsDecodedFirst count tell a p
 first_decoded {A} count tell a p h =
     let first = take count a.words in
@@ -51,7 +51,7 @@ first_decoded {A} count tell a p h =
     })
 
 -- and such words are decoded, or refused
-module _ {A : Type 0} (count : ℕ) (tell : List ℕ → Result A ReadKind) (at : ℕ) (first rest : List ℕ) where
+module _ {A : Type 0} (count : ℕ) (tell : List ℕ → Result A Kind) (at : ℕ) (first rest : List ℕ) where
   there : length first ≡ count
       → words_decoded count tell (ahead at (first ++ rest))
       ≡ ◌>>=◌ {B = A × Ahead} (at_word at (tell first)) (λ found. Ok (found, ahead (at + count) rest))
@@ -67,15 +67,15 @@ module _ {A : Type 0} (count : ℕ) (tell : List ℕ → Result A ReadKind) (at 
       → words_decoded count tell (ahead at (first ++ rest)) ≡ Ok (x, ahead (at + count) rest)
   tells_first x long h =
       there long
-      ∙ ap (λ (r : Result A ReadKind).
+      ∙ ap (λ (r : Result A Kind).
       ◌>>=◌ {B = A × Ahead} (at_word at r) (λ found. Ok (found, ahead (at + count) rest)))
       h
 
-  pub wrong_first : (kind : ReadKind) → length first ≡ count → tell first ≡ Err kind
+  pub wrong_first : (kind : Kind) → length first ≡ count → tell first ≡ Err kind
       → words_decoded count tell (ahead at (first ++ rest)) ≡ Err (BadEntry at kind)
   wrong_first kind long h =
       there long
-      ∙ ap (λ (r : Result A ReadKind).
+      ∙ ap (λ (r : Result A Kind).
       ◌>>=◌ {B = A × Ahead} (at_word at r) (λ found. Ok (found, ahead (at + count) rest)))
       h
 

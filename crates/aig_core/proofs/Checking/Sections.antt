@@ -24,8 +24,8 @@ use Rattle.aig_circuit.proofs.Checking.{defined_inputs, defined_latches, defined
 use Rattle.aig_tables.specs.VarMap.{link_to}
 use Rattle.aig_topo.specs.Order.{first_cyclic, gate_of}
 use Rattle.aig_topo.specs.Needs.{needs_of}
-use Rattle.aig_core.specs.declared.fault.CheckFault.{CheckFault}
-use Rattle.aig_core.specs.declared.fault.CheckFault.TheVariants.{Redefined, Cyclic}
+use Rattle.aig_fault.specs.declared.stopped.Stopped.{Stopped}
+use Rattle.aig_core.specs.Fault.{redefined, cyclic}
 use Rattle.aig_core.specs.Fault.{first_repeat, first_redefinition, first_unknown, first_undefined}
 use Rattle.aig_core.specs.Fault.{first_structural_fault, with_all, is_known, IsFault}
 
@@ -117,12 +117,12 @@ unknown_append s (x ∷ xs) ys =
 -- the facts on joined lists, for loops over a section
 pub ruleset joined_lists = (common_steps, with_all_append, repeat_append, unknown_append)
 
-told_first : (o p : Option ℕ) (e : CheckFault) → IsFault e (option_map Redefined o)
-    → IsFault e (option_map Redefined (option_or o p))
+told_first : (o p : Option ℕ) (e : Stopped) → IsFault e (option_map redefined o)
+    → IsFault e (option_map redefined (option_or o p))
 told_first None p e told = ⊎_elim (λ out. inl out) (λ none. cc) told
 told_first (Some x) p e told = told
 
-told_at_front : (s : FinSet nat_cmp) (xs ys : List ℕ) (e : CheckFault) → IsFault e (first_redefinition s xs)
+told_at_front : (s : FinSet nat_cmp) (xs ys : List ℕ) (e : Stopped) → IsFault e (first_redefinition s xs)
     → IsFault e (first_redefinition s (xs ++ ys))
 told_at_front s xs ys e told = rw repeat_append (told_first (first_repeat s xs) _ e told)
 
@@ -131,7 +131,7 @@ goes_on : (s t : FinSet nat_cmp) (xs ys : List ℕ) → t ≡ with_all s xs → 
 goes_on s t xs ys is none = repeat_append s xs ys ∙ rw (none, is) refl
 
 module _ (c : Circuit) where
-  pub told_of_inputs : (e : CheckFault) → IsFault e (first_redefinition set.empty (defined_inputs c.inputs))
+  pub told_of_inputs : (e : Stopped) → IsFault e (first_redefinition set.empty (defined_inputs c.inputs))
       → IsFault e (first_redefinition set.empty (defined_variables c))
   told_of_inputs e told = rw (← defined_is c)
       (told_at_front _ _ (defined_gates c.gates) e (told_at_front _ _ (defined_latches c.latches) e told))
@@ -142,7 +142,7 @@ module _ (c : Circuit) where
         ≡ first_repeat set.empty (defined_inputs c.inputs ++ defined_latches c.latches)
     latches_repeat = sym (goes_on _ _ _ _ t_is none)
 
-    pub told_of_latches : (e : CheckFault) → IsFault e (first_redefinition t (defined_latches c.latches))
+    pub told_of_latches : (e : Stopped) → IsFault e (first_redefinition t (defined_latches c.latches))
         → IsFault e (first_redefinition set.empty (defined_variables c))
     told_of_latches e told =
         rw (← defined_is c) (told_at_front _ _ (defined_gates c.gates) e (rw latches_repeat at told))
@@ -163,7 +163,7 @@ module _ (c : Circuit) where
     pub gates_repeat : first_repeat set.empty (defined_variables c) ≡ first_repeat u (defined_gates c.gates)
     gates_repeat = rw (flat_map_single (λ (g : Gate). g.var) c.gates) (goes_on _ _ _ _ u_is none)
 
-    pub told_of_gates : (e : CheckFault) → IsFault e (first_redefinition u (defined_gates c.gates))
+    pub told_of_gates : (e : Stopped) → IsFault e (first_redefinition u (defined_gates c.gates))
         → IsFault e (first_redefinition set.empty (defined_variables c))
     told_of_gates e told = rw gates_repeat told
 
@@ -192,7 +192,7 @@ pub fault_of_gates : (c : Circuit) → first_repeat set.empty (defined_variables
     (map (λ (l : Latch). l.next) c.latches ++ concat (literal_lists c)) ≡ None
     → first_structural_fault c
     ≡ option_or (first_undefined (with_all set.empty (defined_variables c)) (flat_map operands c.gates))
-    (option_map Cyclic (first_cyclic c.gates))
+    (option_map cyclic (first_cyclic c.gates))
 fault_of_gates c once ends =
     grind (arith, common_steps, once, ends, unknowns (with_all set.empty (defined_variables c)) c)
 

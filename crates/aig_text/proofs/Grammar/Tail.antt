@@ -14,8 +14,8 @@ use Rattle.aig_core.specs.declared.names.Names.{Names}
 use Rattle.aig_core.specs.Names.{is_named, with_name, nothing_named}
 use Rattle.aig_lines.specs.Lines.{Line, bytes_of}
 use Rattle.aig_lines.specs.Laws.{IsOneLine}
-use Rattle.aig_rows.specs.declared.fault.ReadFault.{ReadFault}
-use Rattle.aig_rows.specs.declared.fault.ReadKind.TheVariants as kinds
+use Rattle.aig_fault.specs.declared.stopped.Stopped.{Stopped}
+use Rattle.aig_fault.specs.declared.kind.Kind.TheVariants as kinds
 use Rattle.aig_rows.specs.Reading.{◌>>=◌, at_line}
 use Rattle.aig_rows.proofs.Steps.{both_ok, ok_at_line, ok_same}
 use Rattle.aig_rows.proofs.Grammar.NumberLines.{branches as branch}
@@ -95,7 +95,7 @@ whole_tail h before c ls comment is = record {
   circuit = ap (λ (ss : List Symbol). record c { symbols = ss; comment = comment }) (append-nil c.symbols);
 }
 
-abbrev then_tail : Header → Names → Circuit → ℕ → List Line → Symbol → Result Circuit ReadFault
+abbrev then_tail : Header → Names → Circuit → ℕ → List Line → Symbol → Result Circuit Stopped
 then_tail h before c n ls s = tail_at h (with_name before s.kind s.position) (with_symbol c s) (n + 1) ls
 
 -- where there is no comment before
@@ -103,7 +103,7 @@ pub tail_tells : (h : Header) (before : Names) (c : Circuit) (n : ℕ) (ls : Lis
     → tail_at h before c n ls ≡ Ok d → TellsTail h before c d ls
 unfolding tail_at
 tail_tells h before c n [] d none is =
-    let same : c ≡ d = ok_same {E = ReadFault} c d is in
+    let same : c ≡ d = ok_same {E = Stopped} c d is in
     let bare : record c { comment = None } ≡ c = ap (λ (o : Option (List ℕ)). record c { comment = o }) (sym none) in
     rw (bare ∙ same) at (whole_tail h before c [] None tt)
 tail_tells h before c n (l ∷ ls) d none is =
