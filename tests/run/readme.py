@@ -74,10 +74,11 @@ def has_tools():
 
 def skipped_words(page, of_module, of_tools):
     """The words whose commands are skipped on a page, since there is no module, or a tool is not installed."""
-    if page == OF_TOOLS and not of_tools:
+    if of_module and of_tools:
+        return ()
+    if page == OF_TOOLS:
         return ("",)
-    words = () if of_module else ("python3",)
-    return words if of_module and of_tools else (*words, "aiger-check")
+    return ("aiger-check",) if of_module else ("aiger-check", "python3")
 
 
 def judged(program, page, skips):
