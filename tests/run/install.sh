@@ -76,10 +76,10 @@ converts() {
 gzip -dc "$tree/release/aiger-linux-x86_64-static.gz" > "$work/aiger" && chmod 755 "$work/aiger"
 "$work/aiger" aigtoaig --keep-map "$top/examples/half_adder.aag" "$work/image"
 
-# judged PROGRAM: what this aiger-check says of a model, with the program aiger that it finds by itself, and how it ends
+# answer_on_model PROGRAM: what this aiger-check says of a model, with the program aiger that it finds by itself, and how it ends
 printf 'aag 3 1 2 0 0 1\n2\n4 2\n6 4\n6\n' > "$work/model.aag"
-judged() { ( cd "$work" && unset AIGER && "$1" --quiet model.aag; echo "status $?" ); }
-judgement='b0 (model.aag): reached at 2
+answer_on_model() { ( cd "$work" && unset AIGER && "$1" --quiet model.aag; echo "status $?" ); }
+answer='b0 (model.aag): reached at 2
 1 assertion: 1 reached
 status 1'
 checks="aiger-check $(sed -n 's/^## \[\([0-9][^]]*\)\].*/\1/p' "$top/CHANGELOG.md" | head -n 1)"
@@ -87,7 +87,7 @@ checks="aiger-check $(sed -n 's/^## \[\([0-9][^]]*\)\].*/\1/p' "$top/CHANGELOG.m
 checks_at() {
     check "aiger-check of $1" same "$checks" "$2" --version
     if command -v cadical > /dev/null; then
-        check "a model, by aiger-check of $1" same "$judgement" judged "$2"
+        check "a model, by aiger-check of $1" same "$answer" answer_on_model "$2"
     else
         skip 1 'no cadical'
     fi
