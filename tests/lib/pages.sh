@@ -1,7 +1,7 @@
 # Sourced by scripts that look whether a program asks for large pages; $work is their folder.
 
-# asked_for WORD..: whether memory of the program that the words run is marked for large pages, at the latest once it has read
-# all that came of a circuit and waits for more
+# asked_for WORD..: whether memory of the program that the words run is marked for large pages, at the latest once it
+# has read all that came of a circuit and waits for more
 asked_for() {
     local from child state marked=0
     rm -f "$work/pipe"

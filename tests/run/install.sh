@@ -76,10 +76,11 @@ converts() {
 gzip -dc "$tree/release/aiger-linux-x86_64-static.gz" > "$work/aiger" && chmod 755 "$work/aiger"
 "$work/aiger" aigtoaig --keep-map "$top/examples/half_adder.aag" "$work/image"
 
-# judged PROGRAM: what this aiger-check says of a model, with the program aiger that it finds by itself, and how it ends
+# answer_on_model PROGRAM: what this aiger-check says of a model, with the program aiger that it finds by itself, and
+# how it ends
 printf 'aag 3 1 2 0 0 1\n2\n4 2\n6 4\n6\n' > "$work/model.aag"
-judged() { ( cd "$work" && unset AIGER && "$1" --quiet model.aag; echo "status $?" ); }
-judgement='b0 (model.aag): reached at 2
+answer_on_model() { ( cd "$work" && unset AIGER && "$1" --quiet model.aag; echo "status $?" ); }
+answer='b0 (model.aag): reached at 2
 1 assertion: 1 reached
 status 1'
 checks="aiger-check $(sed -n 's/^## \[\([0-9][^]]*\)\].*/\1/p' "$top/CHANGELOG.md" | head -n 1)"
@@ -87,7 +88,7 @@ checks="aiger-check $(sed -n 's/^## \[\([0-9][^]]*\)\].*/\1/p' "$top/CHANGELOG.m
 checks_at() {
     check "aiger-check of $1" same "$checks" "$2" --version
     if command -v cadical > /dev/null; then
-        check "a model, by aiger-check of $1" same "$judgement" judged "$2"
+        check "a model, by aiger-check of $1" same "$answer" answer_on_model "$2"
     else
         skip 1 'no cadical'
     fi
@@ -215,8 +216,8 @@ $(cd "$top/examples/verilog" && printf './usr/share/doc/aiger-check/examples/%s\
 ./usr/share/doc/python3-aigtools/CHANGELOG.md.gz
 ./usr/share/doc/python3-aigtools/changelog.gz
 ./usr/share/doc/python3-aigtools/copyright"
-# install_packages ROOT: into a system of its own that has nothing, so what Debian has is not looked for. dpkg wants programs
-# of folders that are on the PATH of root alone.
+# install_packages ROOT: into a system of its own that has nothing, so what Debian has is not looked for. dpkg wants
+# programs of folders that are on the PATH of root alone.
 install_packages() {
     mkdir -p "$1/var/lib/dpkg/info" "$1/var/lib/dpkg/updates"
     : > "$1/var/lib/dpkg/status"
@@ -262,7 +263,8 @@ python3-aigtools_${version}_all.deb" env LC_ALL=C ls "$packages"
     checks_at 'the package' "$root/usr/bin/aiger-check"
     if command -v yosys > /dev/null && command -v berkeley-abc > /dev/null && command -v cadical > /dev/null; then
         # the lines of README, of the copies that the package has
-        check 'the designs of the package' same "$(sed -n 's|^    \(.*\)examples/verilog/\(.*: .*\)|\1\2|p' "$top/README.md")" \
+        wanted=$(sed -n 's|^    \(.*\)examples/verilog/\(.*: .*\)|\1\2|p' "$top/README.md")
+        check 'the designs of the package' same "$wanted" \
             designs_at "$root/usr/share/doc/aiger-check/examples" "$root/usr/bin/aiger-check"
     else
         skip 1 'no yosys, berkeley-abc or cadical'

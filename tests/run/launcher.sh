@@ -110,7 +110,8 @@ make_release() {
     rm -rf "$out" && RT=$work/rt "$tree/prove" 2> "$work/prove.err" && RT=$work/rt "$tree/release/make" > "$work/made" &&
         rm -rf "$out"
 }
-# in_time NAME WORD..: as check; and whether the words take at most two seconds of a processor, whatever else runs beside them
+# in_time NAME WORD..: as check; and whether the words take at most two seconds of a processor, whatever else runs
+# beside them
 in_time() {
     local took TIMEFORMAT='%3U %3S'
     { time check "$@" 2>&3; } 3>&2 2> "$work/took"
@@ -325,8 +326,8 @@ marks_itself() {
 }
 wants '' '' 0
 check 'a launch leaves a mark' marks_itself
-# twice: what a launch gives in the second of such a mark, since which a source has changed. Where that second ends before the
-# launch does, it starts over.
+# twice: what a launch gives in the second of such a mark, since which a source has changed. Where that second ends
+# before the launch does, it starts over.
 twice() {
     local status moment
     for _ in {1..1000}; do

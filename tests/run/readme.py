@@ -1,7 +1,7 @@
 #!/usr/bin/env python3
 """Runs the commands of pages, and sees that each prints what stands there.
 
-    tests/run/readme.py PROGRAM [PAGE ..]      by default README.md, examples/README.md, docs/TOOLS.md and the manual pages
+    tests/run/readme.py PROGRAM [PAGE ..]      by default README.md, examples/README.md, docs/TOOLS.md and the manuals
 
 A command is an indented line that begins with `$`. What it prints is the indented lines behind it. In a manual page
 both stand in literal displays. Those of a page run in one shell, in which the program is found on the PATH too, so that
@@ -74,10 +74,11 @@ def has_tools():
 
 def skipped_words(page, of_module, of_tools):
     """The words whose commands are skipped on a page, since there is no module, or a tool is not installed."""
-    if page == OF_TOOLS and not of_tools:
+    if of_module and of_tools:
+        return ()
+    if page == OF_TOOLS:
         return ("",)
-    words = () if of_module else ("python3",)
-    return words if of_module and of_tools else (*words, "aiger-check")
+    return ("aiger-check",) if of_module else ("aiger-check", "python3")
 
 
 def judged(program, page, skips):
@@ -100,8 +101,13 @@ def judged(program, page, skips):
 # models for README's table: two latches that are never both 1; and an input behind two latches
 SAFE = b"aag 5 1 2 0 2 1\n2\n4 8\n6 4\n10\n8 2 5\n10 6 4\n"
 UNSAFE = b"aag 3 1 2 0 0 1\n2\n4 2\n6 4\n6\n"
-# what a command of the table prints, by a word of it; and those that only a run makes succeed, or only that there is none
-PRINTS = {"--refutation m20.drat": b"none within 20\n", "--refutation m.drat": b"never\n", "--witness": b"confirmed 2\n"}
+# what a command of the table prints, by a word of it; and those that only a run makes succeed, or only that there is
+# none
+PRINTS = {
+    "--refutation m20.drat": b"none within 20\n",
+    "--refutation m.drat": b"never\n",
+    "--witness": b"confirmed 2\n",
+}
 OF_RUN, OF_NONE = ("--answer", "--witness"), ("--refutation",)
 
 
@@ -129,7 +135,8 @@ def table_rows(program):
                 (Path(folder) / name).write_bytes(text)
             # of a model with a run ABC's rows are no invariant
             asked = found if is_safe else [it for it in found if not re.search(r"\bm\.(pla|cnf|drat)", it)]
-            yield from [table_row(it, folder, Path(folder) / "aiger", is_safe) for it in asked] or ["README has no table"]
+            here = Path(folder) / "aiger"
+            yield from [table_row(it, folder, here, is_safe) for it in asked] or ["README has no table"]
 
 
 def main(program, *pages):
