@@ -29,7 +29,7 @@ returns-then-not-end-clause-err g c =
     let end = rw c.if-count-eq0.true at c.in-Ok.ensures.history in
     let bad = first_bad _ c.args.checked.now f c.end.new.taker bytes true true (c.end.ensures.folded _ i.folded)
     (flipped f.refused c.end.result false c.end.ensures.result c.if-not-end.true) in
-    rw c.number.ensures (record { bytes = bytes; ending = AtEnd; says = (tt, bad); came = end ∙ ap at_end i.history })
+    rw c.number.ensures (record { bytes = bytes; ending = AtEnd; says = (_, refl, tt, bad); came = end ∙ ap at_end i.history })
 
 pub returns-then-count-eq0-clause-came : goal.returns-then-count-eq0-clause-came
 returns-then-count-eq0-clause-came g c =
@@ -68,4 +68,4 @@ returns-then-not-feed-clause-err g c =
     (flipped f.refused c.feed.result false c.feed.ensures.result c.if-not-feed.true) in
     let some = took_twice _ _ _ bytes chunk i.history next in
     rw c.number-then-not-feed.ensures
-    (record { bytes = bytes ++ chunk; ending = Open; says = (tt, bad); came = some })
+    (record { bytes = bytes ++ chunk; ending = Open; says = (_, refl, tt, bad); came = some })
