@@ -11,9 +11,8 @@ use Rattle.aig_io.proofs.Puts.{all_sent, beginning_sent, put_twice}
 use Rattle.aig_meaning.specs.Meaning.{MeansTheSame}
 use Rattle.aig_meaning.proofs.Traces.{reset_state_is_first}
 use Rattle.aig_step.specs.declared.trace.Columns.{Columns}
-use Rattle.aig_step.specs.declared.fault.SimFault.{SimFault}
-use Rattle.aig_step.specs.declared.fault.SimFault.TheVariants.{OutOfMemory, BadStimulus, BadWitness, ReadFailed}
-use Rattle.aig_step.specs.declared.fault.SimFault.TheVariants.{WriteFailed}
+use Rattle.aig_fault.specs.declared.stopped.Stopped.{Stopped}
+use Rattle.aig_fault.specs.declared.stopped.Stopped.TheVariants.{WriteFailed}
 use Rattle.aig_step.specs.Outcome.{IsTraceUpTo, first_bad_line}
 use Rattle.aig_step.specs.Stimulus.{Entry, stimulus}
 use Rattle.aig_step.specs.TraceText.{IsTraceText}
@@ -73,15 +72,12 @@ sent_so c columns bytes o a b e (Err fault) (text, is, put) same unheld fine las
     record { text = text; delivery = Beginning part.count; says = (refl, tt, is); sent = part.history }
 
 -- nothing was sent where not all came
-batch_says : (c : Circuit) (columns : Columns) (e : SimFault) (bytes : List ℕ) (ending : Ending)
+batch_says : (c : Circuit) (columns : Columns) (e : Stopped) (bytes : List ℕ) (ending : Ending)
     → NotCollected c e bytes ending → BatchSays c columns (Err e) bytes ending [] NotSent
-batch_says c columns OutOfMemory bytes ending said = (said, refl)
-batch_says c columns (BadStimulus number) bytes ending said = (said, refl)
-batch_says c columns (BadWitness number) bytes ending never = absurd never
-batch_says c columns ReadFailed bytes ending said = (said, refl)
 batch_says c columns WriteFailed bytes ending never = absurd never
+batch_says c columns stopped bytes ending said = (said, refl)
 
-pub not_all_came : (c : Circuit) (columns : Columns) (e : SimFault) (source source_now sink : History)
+pub not_all_came : (c : Circuit) (columns : Columns) (e : Stopped) (source source_now sink : History)
     → Read (NotCollected c e) source source_now → Transferred (BatchSays c columns (Err e)) source source_now sink sink
 not_all_came c columns e source source_now sink =
     read_weaker (NotCollected c e) (λ bytes ending. Sent (BatchSays c columns (Err e) bytes ending) sink sink) source

@@ -8,14 +8,14 @@ use Rattle.aig_lines.specs.Feeders.{Feeder, HasFoldedBytes}
 use Rattle.aig_lines.specs.Feeding.{Feeding, ended_if, fold_bytes}
 use Rattle.aig_lines.proofs.Tells.{fold_twice}
 use Rattle.aig_step.specs.Outcome.{first_bad_line}
-use Rattle.aig_step.specs.declared.fault.SimFault.{SimFault}
-use Rattle.aig_step.specs.declared.fault.SimFault.TheVariants.{OutOfMemory}
+use Rattle.aig_fault.specs.declared.stopped.Stopped.{Stopped}
+use Rattle.aig_fault.specs.declared.stopped.Stopped.TheVariants.{OutOfMemory}
 use Rattle.aig_trace.specs.Parts.Saying.{Saying, before_lines, say_line}
 use Rattle.aig_trace.proofs.RunTexts.{has_said}
 use Rattle.aig_batch.specs.Batched.{NotCollected}
 
 -- memory was refused, when some bytes had come
-pub refused : {T : Type 0} (c : Circuit) (r : Result T SimFault) (source source_now : History)
+pub refused : {T : Type 0} (c : Circuit) (r : Result T Stopped) (source source_now : History)
     → IsErrAnd r (λ e. e ≡ OutOfMemory) → Read (NotCollected c OutOfMemory) source source_now
     → IfErr r (λ e. Read (NotCollected c e) source source_now)
 refused c (Ok x) source source_now is some = tt

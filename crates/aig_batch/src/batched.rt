@@ -16,9 +16,10 @@ use crate::collected::collect;
 use crate::front::read_front_groups;
 use crate::text_group::run_group;
 use aig_checked::Checked;
+use aig_fault::Stopped;
 use aig_io::{DeviceFault, Output, Sink, Source};
 use aig_lanes::{Bench, RunGroup};
-use aig_step::{Columns, Machine, SimFault};
+use aig_step::{Columns, Machine};
 use aig_trace::{MOST_INPUTS, StimulusReader, line_room};
 use std::alloc::Global;
 
@@ -89,7 +90,7 @@ fn trace_collected<W: Sink>(
     reader: StimulusReader,
     sink: &mut W,
     bytes: &[u8],
-) -> Result<(), SimFault>
+) -> Result<(), Stopped>
     requires fresh { IsFresh reader }
     requires same { MeansTheSame checked.now reader.tracing.circuit }
     requires columns { reader.tracing.columns ≡ columns }
@@ -102,12 +103,12 @@ fn trace_collected<W: Sink>(
         // The reader takes all steps side by side, over the ends of runs.
         return match trace_lines(reader, sink, bytes) {
             Ok(()) => Ok(()),
-            Err(_fault) => Err(SimFault::WriteFailed),
+            Err(_fault) => Err(Stopped::WriteFailed),
         };
     }
     let Ok((groups, rest)) = read_front_groups(alloc, circuit.inputs.len(), bytes) else {
         drop(reader); // for the proof
-        return Err(SimFault::OutOfMemory);
+        return Err(Stopped::OutOfMemory);
     };
     let Ok(mut bench) = Bench::new(
         alloc,
@@ -118,14 +119,14 @@ fn trace_collected<W: Sink>(
     ) else {
         drop(reader); // for the proof
         drop(groups); // for the proof
-        return Err(SimFault::OutOfMemory);
+        return Err(Stopped::OutOfMemory);
     };
     let sent = trace_good(reader, sink, &groups, &mut bench, rest);
     drop(groups); // for the proof
     drop(bench); // for the proof
     match sent {
         Ok(()) => Ok(()),
-        Err(_fault) => Err(SimFault::WriteFailed),
+        Err(_fault) => Err(Stopped::WriteFailed),
     }
 }
 
@@ -141,7 +142,7 @@ pub fn simulate_batched<R: Source, W: Sink>(
     columns: Columns,
     source: &mut R,
     sink: &mut W,
-) -> Result<(), SimFault>
+) -> Result<(), Stopped>
     ensures transferred { Transferred (BatchSays checked.now columns result)
         (R.history source.old) (R.history source.new) (W.history sink.old) (W.history sink.new) }
 {

@@ -8,9 +8,9 @@ ghost use Rattle.aig_trace.specs.Parts.Saying.{longest_entry};
 ghost use Rattle.aig_batch.specs.Batched.{NotCollected};
 
 use aig_checked::Checked;
+use aig_fault::{Kind, Stopped, refused_at};
 use aig_io::{ROOM, Source};
 use aig_lines::{LineFeeder, LineTaker};
-use aig_step::SimFault;
 use aig_trace::is_entry;
 use std::alloc::Global;
 
@@ -42,7 +42,7 @@ fn collect_into<R: Source>(
     feeder: &mut LineFeeder,
     source: &mut R,
     bytes: &mut Vec<u8>,
-) -> Result<(), SimFault>
+) -> Result<(), Stopped>
     requires initial { IsInitial feeder.old }
     requires limit { feeder.old.limit ≡ longest_entry (length checked.now.inputs) }
     requires none { bytes.old.items ≡ [] }
@@ -58,18 +58,18 @@ fn collect_into<R: Source>(
     let mut block = [0u8; ROOM];
     loop {
         let Ok(count) = source.fetch(&mut block) else {
-            return Err(SimFault::ReadFailed);
+            return Err(Stopped::ReadFailed);
         };
         if count == 0 {
             if !feeder.end(&mut judge) {
-                return Err(SimFault::BadStimulus(feeder.number()));
+                return Err(refused_at(Kind::BadStimulus, feeder.number()));
             }
             return Ok(());
         }
         let (chunk, _) = block.split_at(count);
         bytes.extend_from_slice(chunk)?;
         if !feeder.feed(&mut judge, chunk) {
-            return Err(SimFault::BadStimulus(feeder.number()));
+            return Err(refused_at(Kind::BadStimulus, feeder.number()));
         }
     }
 }
@@ -80,7 +80,7 @@ pub(crate) fn collect<R: Source>(
     alloc: Global,
     checked: &Checked,
     source: &mut R,
-) -> Result<Vec<u8>, SimFault>
+) -> Result<Vec<u8>, Stopped>
     ensures came { IfOk result (λ all. R.history source.new
         ≡ gave_all all.items (R.history source.old)) }
     ensures good { IfOk result (λ all. first_bad_line checked.now all.items true ≡ None) }

@@ -7,8 +7,6 @@ use Rattle.aig_witness.specs.declared.verdict.Verdict.{Verdict}
 use Rattle.aig_claims.specs.RunDump.{HasNoDump, IsWitnessDump, JudgedWith}
 use Rattle.aig_fault.specs.declared.stopped.Stopped.{Stopped}
 use Rattle.aig_fault.specs.declared.stopped.Stopped.TheVariants.{WriteFailed}
-use Rattle.aig_step.specs.declared.fault.SimFault.{SimFault}
-use Rattle.aig_step.specs.Stops.{sim_stops}
 use Rattle.aig_commands.specs.WitnessOutcome.{IsWitnessAnswer}
 
 -- What is written where a dump is asked for, for these bytes of a model and of a witness file.
@@ -23,5 +21,4 @@ RunDumpSays c (Ok verdict) bytes ending text delivery =
     (ending ≡ AtEnd) × JudgedWith c verdict bytes text × (delivery ≡ All)
 RunDumpSays c (Err WriteFailed) bytes ending text delivery =
     (ending ≡ AtEnd) × ((verdict : Verdict) × JudgedWith c verdict bytes text) × IsCut delivery
-RunDumpSays c (Err stopped) bytes ending text delivery =
-    ((fault : SimFault) × (sim_stops fault ≡ stopped) × HasNoDump c fault bytes ending) × (delivery ≡ NotSent)
+RunDumpSays c (Err stopped) bytes ending text delivery = HasNoDump c stopped bytes ending × (delivery ≡ NotSent)

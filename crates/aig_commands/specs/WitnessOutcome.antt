@@ -10,9 +10,7 @@ use Rattle.aig_witness.specs.Confirming.{ConfirmSays}
 use Rattle.aig_witness.specs.Witness.{Claim, IsVerdict, SaysClaim}
 use Rattle.aig_fault.specs.declared.stopped.Stopped.{Stopped}
 use Rattle.aig_fault.specs.declared.stopped.Stopped.TheVariants.{WriteFailed}
-use Rattle.aig_step.specs.declared.fault.SimFault.{SimFault}
 use Rattle.aig_commands.specs.File.{IsFileOf}
-use Rattle.aig_step.specs.Stops.{sim_stops}
 
 -- The verdict for these bytes of a model and of a witness file: the model is the file of a circuit, this is claimed of
 -- it, and this is the verdict on that.
@@ -35,5 +33,4 @@ AnswerSays c (Ok verdict) bytes ending text delivery =
     ConfirmSays c (Ok verdict) bytes ending × (text ≡ answer_line verdict) × (delivery ≡ All)
 AnswerSays c (Err WriteFailed) bytes ending text delivery =
     (verdict : Verdict) × ConfirmSays c (Ok verdict) bytes ending × (text ≡ answer_line verdict) × IsCut delivery
-AnswerSays c (Err stopped) bytes ending text delivery =
-    ((fault : SimFault) × (sim_stops fault ≡ stopped) × ConfirmSays c (Err fault) bytes ending) × (delivery ≡ NotSent)
+AnswerSays c (Err stopped) bytes ending text delivery = ConfirmSays c (Err stopped) bytes ending × (delivery ≡ NotSent)

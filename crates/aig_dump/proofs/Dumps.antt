@@ -9,8 +9,8 @@ use Rattle.aig_io.proofs.Puts.{beginning_longer}
 use Rattle.aig_io.proofs.Took.{took_none}
 use Rattle.aig_circuit.specs.declared.circuit.Circuit.{Circuit}
 use Rattle.aig_lines.specs.Lines.{lines_of}
-use Rattle.aig_step.specs.declared.fault.SimFault.{SimFault}
-use Rattle.aig_step.specs.declared.fault.SimFault.TheVariants as faults
+use Rattle.aig_fault.specs.declared.stopped.Stopped.{Stopped}
+use Rattle.aig_fault.specs.declared.stopped.Stopped.TheVariants as stops
 use Rattle.aig_step.specs.declared.trace.Columns.TheVariants.{Properties}
 use Rattle.aig_wave.specs.Frames.{frames_of, most_frames}
 use Rattle.aig_wave.specs.Layout.{Layout, layout_of}
@@ -57,11 +57,11 @@ meant_is text All whole = refl
 meant_is text (Beginning count) whole = absurd (whole tt)
 
 module _ (c : Circuit) where
-  abbrev Says : Bool → Result (Unit {0}) SimFault → List ℕ → Ending → List ℕ → Delivery → Type 0
+  abbrev Says : Bool → Result (Unit {0}) Stopped → List ℕ → Ending → List ℕ → Delivery → Type 0
   Says batch ran bytes ending trace delivery = TraceSaysAs batch c Properties ran bytes ending trace delivery
 
   cut_where_told : (batch : Bool) (bytes : List ℕ) (ending : Ending) (trace : List ℕ) (delivery : Delivery)
-      → Says batch (Err faults.WriteFailed) bytes ending trace delivery → IsCut delivery
+      → Says batch (Err stops.WriteFailed) bytes ending trace delivery → IsCut delivery
   cut_where_told true bytes ending trace delivery says = says.1
   cut_where_told false bytes ending trace delivery says = says.1
 
@@ -72,10 +72,10 @@ module _ (c : Circuit) where
   all_at_end false done bytes ending trace delivery says = says.1
 
   -- the sink took all of the dump
-  whole : (batch : Bool) (ran : Result (Unit {0}) SimFault) (bytes : List ℕ) (ending : Ending) (trace text : List ℕ)
+  whole : (batch : Bool) (ran : Result (Unit {0}) Stopped) (bytes : List ℕ) (ending : Ending) (trace text : List ℕ)
       (delivery : Delivery) → ¬ IsCut delivery → Says batch ran bytes ending trace delivery
       → text ≡ wave_text c (meant trace delivery) (is_ok ran) → DumpSays batch c ran bytes ending text All
-  whole batch (Err faults.WriteFailed) bytes ending trace text delivery not_cut says is =
+  whole batch (Err stops.WriteFailed) bytes ending trace text delivery not_cut says is =
       absurd (not_cut (cut_where_told batch bytes ending trace delivery says))
   whole batch (Err fault) bytes ending trace text delivery not_cut says is =
       (refl, record { trace = trace; delivery = delivery; says = says; is_dump = is })
@@ -95,7 +95,7 @@ module _ (c : Circuit) where
       (beginning_longer o o_now [] _ grown.0 begun)
 
   -- a beginning of the dump of all of the trace
-  begun_of : (batch : Bool) (ran : Result (Unit {0}) SimFault) (bytes : List ℕ) (ending : Ending) (trace : List ℕ)
+  begun_of : (batch : Bool) (ran : Result (Unit {0}) Stopped) (bytes : List ℕ) (ending : Ending) (trace : List ℕ)
       (delivery : Delivery) (o o_now : History) → Says batch ran bytes ending trace delivery
       → TookBeginning (wave_text c (taken trace delivery) (is_ok ran)) o o_now
       → TookBeginning (wave_text c (meant trace delivery) (is_ok ran)) o o_now
@@ -105,12 +105,12 @@ module _ (c : Circuit) where
   begun_of batch (Err fault) bytes ending trace delivery o o_now says begun = longer trace delivery o o_now begun
 
 module _ (batch : Bool) (c : Circuit) (s s_now o o_now : History) where
-  abbrev IsTraced : Result (Unit {0}) SimFault → (wave trace : History) → Type 0
+  abbrev IsTraced : Result (Unit {0}) Stopped → (wave trace : History) → Type 0
   IsTraced ran wave trace = Transferred (TraceSaysAs batch c Properties ran) s s_now wave trace
 
-  answered : {T E : Type 0} (r : Result T E) (ran answer : Result (Unit {0}) SimFault) (origin : Origin)
+  answered : {T E : Type 0} (r : Result T E) (ran answer : Result (Unit {0}) Stopped) (origin : Origin)
       (trace : History)
-      → answer ≡ cond (is_err r) (Err faults.WriteFailed) ran → IsTraced ran (unused origin) trace
+      → answer ≡ cond (is_err r) (Err stops.WriteFailed) ran → IsTraced ran (unused origin) trace
       → OnOk r (trace.failures ≡ 0) → WasSent r (wave_text c trace.bytes (is_ok ran)) o o_now
       → Transferred (DumpSays batch c answer) s s_now o o_now
   answered (Ok x) ran answer origin trace e run good put =
@@ -149,13 +149,13 @@ module _ (batch : Bool) (c : Circuit) (s s_now o o_now : History) where
       })
 
   -- The trace went through a wave sink to a sink with this history.
-  pub dumped : {T E : Type 0} (r : Result T E) (ran answer : Result (Unit {0}) SimFault) (wave trace : History)
+  pub dumped : {T E : Type 0} (r : Result T E) (ran answer : Result (Unit {0}) Stopped) (wave trace : History)
       (w : Layout)
       (name : ℕ) (o_end : History) (done failed : Bool) → w ≡ layout_of c → wave ≡ unused (wave_origin w name o)
       → IsTraced ran wave trace → done ≡ is_ok ran
       → ((v : Layout) (other : ℕ) (before : History) → trace.origin ≡ wave_origin v other before
       → WasSent r (dump v (frames_of v trace.bytes) done) before o_end)
-      → OnOk r (trace.failures ≡ 0) → failed ≡ is_err r → answer ≡ cond failed (Err faults.WriteFailed) ran
+      → OnOk r (trace.failures ≡ 0) → failed ≡ is_err r → answer ≡ cond failed (Err stops.WriteFailed) ran
       → o_now ≡ o_end
       → Transferred (DumpSays batch c answer) s s_now o o_now
   dumped r ran answer wave trace w name o_end done failed is new run ended put good fails answers output =
@@ -164,7 +164,7 @@ module _ (batch : Bool) (c : Circuit) (s s_now o o_now : History) where
       let text : dump w (frames_of w trace.bytes) done ≡ wave_text c trace.bytes (is_ok ran) =
       ap₂ (λ (v : Layout) (d : Bool). dump v (frames_of v trace.bytes) d) is ended in
       answered r ran answer (wave_origin w name o) trace
-      (answers ∙ ap (λ (b : Bool). cond b (Err faults.WriteFailed) ran) fails)
+      (answers ∙ ap (λ (b : Bool). cond b (Err stops.WriteFailed) ran) fails)
       (subst (λ (p : History). IsTraced ran p trace) new run) good
       (subst (λ (p : History). WasSent r (wave_text c trace.bytes (is_ok ran)) o p) (sym output)
       (subst (λ (t : List ℕ). WasSent r t o o_end) text (put w name o kept)))
@@ -175,12 +175,12 @@ unfolding lines_of most_frames
 no_frame c = refl
 
 refused_at_once : (batch : Bool) (c : Circuit)
-    → TraceSaysAs batch c Properties (Err faults.OutOfMemory) [] Open [] NotSent
+    → TraceSaysAs batch c Properties (Err stops.OutOfMemory) [] Open [] NotSent
 refused_at_once true c = (tt, refl)
 refused_at_once false c = (refl, refl, refl)
 
 pub nothing_dumped : (batch : Bool) (c : Circuit) (s o : History)
-    → Transferred (DumpSays batch c (Err faults.OutOfMemory)) s s o o
+    → Transferred (DumpSays batch c (Err stops.OutOfMemory)) s s o o
 nothing_dumped batch c s o = record {
   bytes = [];
   ending = Open;

@@ -7,7 +7,7 @@ ghost use Rattle.aig_dump.specs.InMemory.{JudgedRun};
 
 use crate::run_dump::{comment_line, judge_and_dump};
 use aig_core::{Checked, DeviceFault, Output, ReadError, Sink, Source, read_all};
-use aig_step::SimFault;
+use aig_fault::Stopped;
 use aig_witness::Verdict;
 use std::alloc::Global;
 
@@ -16,16 +16,16 @@ fn read_witness<R: Source>(
     alloc: Global,
     found: &Checked,
     witness: &mut R,
-) -> Result<Vec<u8>, SimFault>
+) -> Result<Vec<u8>, Stopped>
     ensures ok { IfOk result (λ bytes. R.history witness.new
         ≡ gave_all bytes.items (R.history witness.old)) }
-    ensures err { IfErr result (λ fault. Read (HasNoDump found.now fault)
+    ensures err { IfErr result (λ stopped. Read (HasNoDump found.now stopped)
         (R.history witness.old) (R.history witness.new)) }
 {
     match read_all(alloc, witness) {
         Ok(bytes) => Ok(bytes),
-        Err(ReadError::Source) => Err(SimFault::ReadFailed),
-        Err(ReadError::OutOfMemory) => Err(SimFault::OutOfMemory),
+        Err(ReadError::Source) => Err(Stopped::ReadFailed),
+        Err(ReadError::OutOfMemory) => Err(Stopped::OutOfMemory),
     }
 }
 
@@ -34,10 +34,10 @@ pub fn read_and_dump<R: Source>(
     alloc: Global,
     found: Checked,
     witness: &mut R,
-) -> Result<(Verdict, Vec<u8>), SimFault>
+) -> Result<(Verdict, Vec<u8>), Stopped>
     ensures read { Read (λ bytes ending. MatchResult result
         (λ made. (ending ≡ AtEnd) × JudgedRun found made.0 bytes made.1.items)
-        (λ fault. HasNoDump found fault bytes ending))
+        (λ stopped. HasNoDump found stopped bytes ending))
         (R.history witness.old) (R.history witness.new) }
 {
     match read_witness(alloc, &found, witness) {
@@ -46,9 +46,9 @@ pub fn read_and_dump<R: Source>(
             drop(bytes); // for the proof
             made
         }
-        Err(fault) => {
+        Err(stopped) => {
             drop(found); // for the proof
-            Err(fault)
+            Err(stopped)
         }
     }
 }

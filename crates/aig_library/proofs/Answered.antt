@@ -3,6 +3,7 @@ use Rattle.std.proofs.Common.{◌≡◌, ◌⊎◌, List, ℕ, Result, Ok, Err, 
 use Rattle.aig_circuit.specs.declared.circuit.Circuit.{Circuit}
 use Rattle.aig_commands.specs.File.{first_fault}
 use Rattle.aig_commands.specs.Reading.{IsUnreadable}
+use Rattle.aig_fault.specs.Stopping.{StopsFor}
 use Rattle.aig_fault.specs.declared.fault.Fault.{Fault}
 use Rattle.aig_fault.specs.declared.stopped.Stopped.{Stopped}
 use Rattle.aig_fault.specs.declared.stopped.Stopped.TheVariants as stops
@@ -38,6 +39,11 @@ file_stops limit bytes (Err stops.ReadFailed) why = tt
 file_stops limit bytes (Err stops.WriteFailed) why = tt
 file_stops limit bytes (Err (stops.Refused fault)) (inl memory) = cc
 file_stops limit bytes (Err (stops.Refused fault)) (inr is) = is
+
+-- what stops a call that calls no device stops it in memory
+pub stops_within : (Holds : Fault → Type 0) (stopped : Stopped) → StopsFor Holds stopped → StopsInMemory Holds stopped
+stops_within Holds (stops.Refused fault) why = why
+stops_within Holds stopped why = tt
 
 -- what holds of a text holds of what has it
 pub text_is : {V : Type 0} (items : V → List ℕ) (IsText : List ℕ → Type 0) (wanted : List ℕ) (made : Result V Stopped)

@@ -1,5 +1,5 @@
 -- What came of the bytes of a caller, once a call is over.
-use Rattle.std.proofs.Common.{◌≡◌, ◌⊎◌, ◌∙◌, ◌++◌, ℕ, List, None, inl, inr, ap, drop, length, refl, subst, true}
+use Rattle.std.proofs.Common.{◌≡◌, ◌∙◌, ◌++◌, ℕ, List, None, ap, drop, length, refl, subst, true}
 use Rattle.std.proofs.Common.{Err, IfErr, IfOk, Ok, OnOk, Result}
 use Rattle.std.proofs.lemmas.List.{take-append-drop}
 use Rattle.aig_io.specs.Devices.{History, Origin, unused}
@@ -9,13 +9,11 @@ use Rattle.aig_circuit.specs.declared.circuit.Circuit.{Circuit}
 use Rattle.aig_command.specs.declared.request.Reach.{Reach}
 use Rattle.aig_command.specs.declared.request.SolverFile.{SolverFile}
 use Rattle.aig_command.specs.declared.request.SolverFile.TheVariants as wrote
-use Rattle.aig_step.specs.declared.fault.SimFault.{SimFault}
-use Rattle.aig_step.specs.declared.fault.SimFault.TheVariants as sim_faults
 use Rattle.aig_step.specs.declared.trace.Columns.{Columns}
 use Rattle.aig_step.specs.Outcome.{first_bad_line}
 use Rattle.aig_step.specs.TraceText.{IsTraceText}
 use Rattle.aig_batch.specs.Batched.{BatchSays}
-use Rattle.aig_dump.specs.InMemory.{IsBadStimulus, WantsMemory}
+use Rattle.aig_dump.specs.InMemory.{IsBadStimulus, StopsInMemory}
 use Rattle.aig_dump.proofs.Lents as lents
 use Rattle.aig_refute.specs.Refuted.{EndsFor}
 use Rattle.aig_refute.specs.declared.fault.RefutationFault.{RefutationFault}
@@ -30,7 +28,6 @@ use Rattle.aig_commands.specs.declared.job.Reading.TheVariants as readings
 use Rattle.aig_fault.specs.declared.fault.Fault.{Fault}
 use Rattle.aig_fault.specs.declared.stopped.Stopped.{Stopped}
 use Rattle.aig_fault.specs.declared.stopped.Stopped.TheVariants as stops
-use Rattle.aig_library.specs.Outcome.{StopsInMemory}
 
 -- what a refutation is refused for, it is refused for at its end
 at_end : (reason : RefutationFault) (fault : Fault) → refutation_stops reason ≡ stops.Refused fault
@@ -122,7 +119,7 @@ module _ (input : List ℕ) (now : History) (given : HasGiven now) where
   refused (readings.Sim request) fault bytes ending is says =
       all_refused (readings.Sim request) fault bytes ending is says.0 says
 
-  pub batched : (c : Circuit) (columns : Columns) (r : Result (Unit {0}) SimFault) (origin : Origin)
+  pub batched : (c : Circuit) (columns : Columns) (r : Result (Unit {0}) Stopped) (origin : Origin)
       (sink_now : History)
       → Transferred (BatchSays c columns r) (unused (lent input)) now (unused origin) sink_now
       → OnOk r ((first_bad_line c input true ≡ None) × IsTraceText c columns input true sink_now.bytes)
@@ -135,19 +132,14 @@ module _ (input : List ℕ) (now : History) (given : HasGiven now) where
       (says.2.first, says.2.is_text))
   batched c columns (Err fault) origin sink_now transferred = tt
 
-  pub not_batched : (c : Circuit) (columns : Columns) (r : Result (Unit {0}) SimFault) (sink sink_now : History)
+  pub not_batched : (c : Circuit) (columns : Columns) (r : Result (Unit {0}) Stopped) (sink sink_now : History)
       → Transferred (BatchSays c columns r) (unused (lent input)) now sink sink_now
-      → IfErr r (λ fault. IsBadStimulus c input fault ⊎ WantsMemory fault)
+      → IfErr r (StopsInMemory (IsBadStimulus c input))
   not_batched c columns (Ok done) sink sink_now transferred = tt
-  not_batched c columns (Err (sim_faults.BadStimulus line)) sink sink_now transferred =
-      let says = transferred.says.says.0 in
-      inl (
+  not_batched c columns (Err (stops.Refused fault)) sink sink_now transferred =
+      let ((line, told, unbroken, first), none) = transferred.says.says in (
         line,
-        refl,
-        lents.bad_line input now given c transferred.bytes transferred.ending line says.0
-            transferred.came says.1,
+        told,
+        lents.bad_line input now given c transferred.bytes transferred.ending line unbroken transferred.came first,
       )
-  not_batched c columns (Err (sim_faults.BadWitness line)) sink sink_now transferred = absurd transferred.says.says.0
-  not_batched c columns (Err sim_faults.OutOfMemory) sink sink_now transferred = inr (inl refl)
-  not_batched c columns (Err sim_faults.ReadFailed) sink sink_now transferred = inr (inr (inl refl))
-  not_batched c columns (Err sim_faults.WriteFailed) sink sink_now transferred = inr (inr (inr refl))
+  not_batched c columns (Err stopped) sink sink_now transferred = tt

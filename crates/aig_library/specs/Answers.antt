@@ -6,12 +6,10 @@ use Rattle.aig_command.specs.declared.request.Invariant.{Invariant}
 use Rattle.aig_command.specs.declared.request.Reach.{Reach}
 use Rattle.aig_command.specs.declared.request.Sim.{Sim}
 use Rattle.aig_command.specs.declared.request.SolverFile.TheVariants.{Answer, Refutation}
-use Rattle.aig_step.specs.declared.fault.SimFault.{SimFault}
 use Rattle.aig_witness.specs.declared.verdict.Verdict.{Verdict}
 use Rattle.aig_witness.specs.declared.verdict.Verdict.TheVariants.{Confirmed, NotConfirmed}
 use Rattle.aig_dump.specs.InMemory.{IsBadStimulus, IsBadWitness}
 use Rattle.aig_fault.specs.declared.fault.Fault.{Fault}
-use Rattle.aig_fault.specs.declared.stopped.Stopped.TheVariants as stops
 use Rattle.aig_invariant.specs.Laws.{IsNever}
 use Rattle.aig_commands.specs.Conversion.{IsConversionRefused, IsConversionText}
 use Rattle.aig_commands.specs.File.{IsFileOf}
@@ -21,7 +19,6 @@ use Rattle.aig_commands.specs.Reaching.{IsModelRefused, IsReachRefused, IsReachT
 use Rattle.aig_commands.specs.Reading.{IsUnreadable}
 use Rattle.aig_commands.specs.Refuting.{IsNoneWithin, NotRefuted}
 use Rattle.aig_commands.specs.Simulation.{IsWrittenText}
-use Rattle.aig_step.specs.Stops.{sim_stops}
 use Rattle.aig_commands.specs.Unrolling.{IsUnrollingRefused, IsUnrollingText}
 use Rattle.aig_commands.specs.WitnessDump.{IsWitnessDumpText}
 use Rattle.aig_commands.specs.WitnessOutcome.{IsWitnessAnswer}
@@ -146,15 +143,11 @@ NeverAnswers bad max_var model invariant =
     ShowAnswers (max_var ≤ largest_index) (IsNeverOfModel request model invariant)
     (IsNeverRefused request model invariant)
 
--- a fault of the steps, of which this holds
-abbrev pub IsStepsFault : (SimFault → Type 0) → Fault → Type 0
-IsStepsFault Holds fault = (sim : SimFault) × (sim_stops sim ≡ stops.Refused fault) × Holds sim
-
 -- The model has no trace of the stimulus for this reason: it is no file of a circuit, or a line of the stimulus is bad.
 abbrev pub IsSimulationRefused : Sim → (model stimulus : List ℕ) → Fault → Type 0
 IsSimulationRefused request model stimulus fault =
     IsUnreadable request.max_var fault model
-    ⊎ ((found : Circuit) × IsFileOf model request.max_var found × IsStepsFault (IsBadStimulus found stimulus) fault)
+    ⊎ ((found : Circuit) × IsFileOf model request.max_var found × IsBadStimulus found stimulus fault)
 
 abbrev pub SimulateAnswers : (options max_var : ℕ) (model stimulus before after : List ℕ) → Outcome → Type 0
 SimulateAnswers options max_var model stimulus =
@@ -166,7 +159,7 @@ SimulateAnswers options max_var model stimulus =
 abbrev pub IsWitnessRefused : Sim → (model witness : List ℕ) → Fault → Type 0
 IsWitnessRefused request model witness fault =
     IsUnreadable request.max_var fault model
-    ⊎ ((found : Circuit) × IsFileOf model request.max_var found × IsStepsFault (IsBadWitness found witness) fault)
+    ⊎ ((found : Circuit) × IsFileOf model request.max_var found × IsBadWitness found witness fault)
 
 -- the outcome of a verdict, with a text of so many bytes
 abbrev pub verdict_outcome : Verdict → (length : ℕ) → Outcome

@@ -4,6 +4,7 @@ use Rattle.aig_array_steps.specs.declared.one_step.StepFault.{StepFault}
 use Rattle.aig_array_steps.specs.declared.one_step.StepFault.TheVariants as step_faults
 use Rattle.aig_arrays.specs.declared.fault.ArrayFault.{ArrayFault}
 use Rattle.aig_arrays.specs.declared.fault.ArrayFault.TheVariants as array_faults
+pub use Rattle.aig_dump.specs.InMemory.{StopsInMemory}
 use Rattle.aig_fault.specs.Stopping.{fault_at, refusal}
 use Rattle.aig_fault.specs.Words.{kind_number}
 use Rattle.aig_fault.specs.declared.fault.Fault.{Fault}
@@ -48,11 +49,6 @@ fault_outcome fault = record {
 abbrev pub outcome_of : Stopped → Outcome
 outcome_of (stops.Refused fault) = fault_outcome fault
 outcome_of stopped = out_of_memory
-
--- the input has a fault of which this holds, or memory was refused
-abbrev pub StopsInMemory : (Fault → Type 0) → Stopped → Type 0
-StopsInMemory Holds (stops.Refused fault) = Holds fault
-StopsInMemory Holds stopped = ⊤
 
 -- an entry that is not right is told by the place of its first word, and a structural fault as that of a file
 abbrev pub array_stops : ArrayFault → Stopped

@@ -103,6 +103,6 @@ pub fn simulate_batch(
     requires { All (IsRunOf checked.now) runs.now }
     ensures { IfOk result (λ traces. AllZip (IsTraceOf checked.now) runs.now traces) }
 {
-    let mut simulator = Simulator::build(alloc, checked)?;
+    let mut simulator = Simulator::new(alloc, checked)?;
     trace_runs(alloc, &mut simulator, line_room(checked), runs)
 }

@@ -4,22 +4,21 @@ use Rattle.std.proofs.Common.{if◌then◌else◌}
 use Rattle.std.proofs.Common.{refl, ◌∙◌, ◌++◌}
 use Rattle.aig_io.specs.Devices.{History, took}
 use Rattle.aig_io.specs.Runs.{All, AtEnd, Delivery, Ending, NotSent, Read, Transferred}
-use Rattle.aig_io.proofs.Runs.{read_weaker, transferred_weaker}
+use Rattle.aig_io.proofs.Runs.{read_weaker}
 use Rattle.aig_circuit.specs.declared.circuit.Circuit.{Circuit}
 use Rattle.aig_command.specs.declared.request.Sim.{Sim}
 use Rattle.aig_step.specs.Outcome.{IsTraceUpTo}
 use Rattle.aig_step.specs.declared.trace.Columns.{Columns}
 use Rattle.aig_witness.specs.declared.verdict.Verdict.{Verdict}
-use Rattle.aig_step.specs.declared.fault.SimFault.{SimFault}
-use Rattle.aig_step.specs.declared.fault.SimFault.TheVariants as faults
+use Rattle.aig_fault.specs.declared.stopped.Stopped.{Stopped}
+use Rattle.aig_fault.specs.declared.stopped.Stopped.TheVariants as stops
 use Rattle.aig_claims.specs.RunDump.{HasNoDump, JudgedWith, comment_line}
 use Rattle.aig_dump.specs.Dumped.{TraceSaysAs, meant}
 use Rattle.aig_dump.specs.InMemory.{JudgedRun}
 use Rattle.aig_wave.specs.Wave.{wave_text}
 use Rattle.aig_commands.specs.File.{IsFileOf}
 use Rattle.aig_commands.specs.Simulation.{IsDumpText, IsSimulationText, columns_of, task_of}
-use Rattle.aig_tools.specs.SimulationOutcome.{OfSteps, SimulationsWriteTheirTexts, TaskSays}
-use Rattle.aig_step.specs.Stops.{sim_stops}
+use Rattle.aig_tools.specs.SimulationOutcome.{SimulationsWriteTheirTexts, TaskSays}
 use Rattle.aig_commands.specs.WitnessDump.{RunDumpSays}
 use Rattle.aig_commands.specs.declared.task.Task.TheVariants as tasks
 
@@ -95,16 +94,9 @@ transferred_whole P Q source source_now sink sink_now text say read all =
     read_weaker Q _ source source_now
     (λ bytes ending says. record { text = text; delivery = All; says = say bytes ending says; sent = all }) read
 
--- steps were not answered to their end, which blames them alone
-pub of_steps : (Says : Result (Unit {0}) SimFault → List ℕ → Ending → List ℕ → Delivery → Type 0) (fault : SimFault)
-    (source source_now sink sink_now : History) → Transferred (Says (Err fault)) source source_now sink sink_now
-    → Transferred (OfSteps Says (Err (sim_stops fault))) source source_now sink sink_now
-of_steps Says fault source source_now sink sink_now =
-    transferred_weaker _ _ source source_now sink sink_now (λ bytes ending text delivery says. (fault, refl, says))
-
 -- there is no dump
-pub no_dump : (c : Circuit) (fault : SimFault) (bytes text : List ℕ) (ending : Ending) (delivery : Delivery)
-    → HasNoDump c fault bytes ending → delivery ≡ NotSent
-    → RunDumpSays c (Err (sim_stops fault)) bytes ending text delivery
-no_dump c faults.WriteFailed bytes text ending delivery says none = absurd says
-no_dump c fault bytes text ending delivery says none = ((fault, refl, says), none)
+pub no_dump : (c : Circuit) (stopped : Stopped) (bytes text : List ℕ) (ending : Ending) (delivery : Delivery)
+    → HasNoDump c stopped bytes ending → delivery ≡ NotSent
+    → RunDumpSays c (Err stopped) bytes ending text delivery
+no_dump c stops.WriteFailed bytes text ending delivery says none = absurd says
+no_dump c stopped bytes text ending delivery says none = (says, none)

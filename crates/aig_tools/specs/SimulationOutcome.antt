@@ -3,25 +3,22 @@ use Rattle.std.specs.Prelude.{◌≡◌, ℕ, List, Option, None, Some, Result, 
 use Rattle.aig_io.specs.Runs.{All, AtEnd, Delivery, Ending}
 use Rattle.aig_circuit.specs.declared.circuit.Circuit.{Circuit}
 use Rattle.aig_command.specs.declared.request.Sim.{Sim}
-use Rattle.aig_step.specs.declared.fault.SimFault.{SimFault}
 use Rattle.aig_witness.specs.declared.verdict.Verdict.{Verdict}
 use Rattle.aig_dump.specs.Dumped.{DumpSays, TraceSaysAs}
 use Rattle.aig_fault.specs.declared.stopped.Stopped.{Stopped}
 use Rattle.aig_commands.specs.File.{IsFileOf}
 use Rattle.aig_commands.specs.Simulation.{IsWrittenText, task_of}
-use Rattle.aig_step.specs.Stops.{sim_stops}
 use Rattle.aig_commands.specs.WitnessDump.{RunDumpSays}
 use Rattle.aig_commands.specs.WitnessOutcome.{AnswerSays}
 use Rattle.aig_commands.specs.declared.task.Task.{Task}
 use Rattle.aig_commands.specs.declared.task.Task.TheVariants as tasks
 
 -- what an answer without a verdict says, which blames the steps alone
-abbrev pub OfSteps : (Result (Unit {0}) SimFault → List ℕ → Ending → List ℕ → Delivery → Type 0)
+abbrev pub OfSteps : (Result (Unit {0}) Stopped → List ℕ → Ending → List ℕ → Delivery → Type 0)
     → Result (Option Verdict) Stopped → List ℕ → Ending → List ℕ → Delivery → Type 0
 OfSteps Says (Ok None) bytes ending text delivery = Says (Ok tt) bytes ending text delivery
 OfSteps Says (Ok (Some verdict)) bytes ending text delivery = ⊥
-OfSteps Says (Err stopped) bytes ending text delivery =
-    (fault : SimFault) × (sim_stops fault ≡ stopped) × Says (Err fault) bytes ending text delivery
+OfSteps Says (Err stopped) bytes ending text delivery = Says (Err stopped) bytes ending text delivery
 
 -- what an answer with a verdict says
 abbrev pub OfVerdict : (Result Verdict Stopped → List ℕ → Ending → List ℕ → Delivery → Type 0)

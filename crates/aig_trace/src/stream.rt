@@ -13,21 +13,22 @@ ghost use Rattle.aig_trace.specs.Parts.Tracing.{HasTraced, Task, point_of};
 use crate::line_tracer::LineTracer;
 use crate::reader::StimulusReader;
 use aig_checked::Checked;
+use aig_fault::{Kind, Stopped, refused_at};
 use aig_io::{Output, ROOM, Sink, Source};
 use aig_lines::LineFeeder;
-use aig_step::{Columns, SimFault};
+use aig_step::Columns;
 use std::alloc::Global;
 
 /// How lines end that were taken: the text for them was not sent, or the line of this number is
 /// bad, or neither.
-fn outcome_of_lines(failed: bool, good: bool, number: u64) -> Result<(), SimFault>
+fn outcome_of_lines(failed: bool, good: bool, number: u64) -> Result<(), Stopped>
     ensures { result ≡ ended_so failed good number }
 {
     if failed {
-        return Err(SimFault::WriteFailed);
+        return Err(Stopped::WriteFailed);
     }
     if !good {
-        return Err(SimFault::BadStimulus(number));
+        return Err(refused_at(Kind::BadStimulus, number));
     }
     Ok(())
 }
@@ -37,7 +38,7 @@ fn trace_chunk<W: Sink>(
     feeder: &mut LineFeeder,
     lines: &mut LineTracer<W>,
     chunk: &[u8],
-) -> Result<(), SimFault>
+) -> Result<(), Stopped>
     requires { feeder.old.number + length chunk.now < 2 ^ 64 }
     ensures folded { (at : Feeding (Saying (Task W)))
         → HasFoldedBytes HasTraced feeder.old lines.old at
@@ -55,7 +56,7 @@ fn trace_chunk<W: Sink>(
 }
 
 /// Takes the end of the bytes, and sends the text for it.
-fn trace_end<W: Sink>(feeder: &mut LineFeeder, lines: &mut LineTracer<W>) -> Result<(), SimFault>
+fn trace_end<W: Sink>(feeder: &mut LineFeeder, lines: &mut LineTracer<W>) -> Result<(), Stopped>
     requires { feeder.old.number < 2 ^ 64 - 1 }
     ensures traced { (task : Task W) (bytes : List ℕ)
         → HasFoldedBytes HasTraced feeder.old lines.old
@@ -80,7 +81,7 @@ fn trace_all<R: Source, W: Sink>(
     lines: &mut LineTracer<W>,
     block: &mut [u8],
     source: &mut R,
-) -> Result<(), SimFault>
+) -> Result<(), Stopped>
     requires initial { IsInitial feeder.old }
     requires limit { feeder.old.limit ≡ longest_entry (length lines.old.tracing.circuit.inputs) }
     requires begun { point_of lines.old.tracing ≡ begin_of lines.old.tracing.circuit }
@@ -93,7 +94,7 @@ fn trace_all<R: Source, W: Sink>(
 {
     loop {
         let Ok(count) = source.fetch(block) else {
-            return Err(SimFault::ReadFailed);
+            return Err(Stopped::ReadFailed);
         };
         if count == 0 {
             return trace_end(feeder, lines);
@@ -127,17 +128,14 @@ pub fn simulate<R: Source, W: Sink>(
     columns: Columns,
     source: &mut R,
     sink: &mut W,
-) -> Result<(), SimFault>
+) -> Result<(), Stopped>
     ensures transferred { Transferred (TraceSays checked.now columns result)
         (R.history source.old) (R.history source.new) (W.history sink.old) (W.history sink.new) }
 {
     let mut block = vec![in alloc; 0; block_room(checked)]?;
-    let reader = match StimulusReader::new(alloc, checked, columns) {
-        Ok(reader) => reader,
-        Err(fault) => {
-            drop(block); // for the proof
-            return Err(fault);
-        }
+    let Ok(reader) = StimulusReader::new(alloc, checked, columns) else {
+        drop(block); // for the proof
+        return Err(Stopped::OutOfMemory);
     };
     let (mut feeder, mut lines) = reader.into_line_tracer(Output::new(sink));
     let traced = trace_all(&mut feeder, &mut lines, &mut block, source);

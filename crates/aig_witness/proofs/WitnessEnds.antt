@@ -11,11 +11,11 @@ use Rattle.aig_io.specs.Devices.{History}
 use Rattle.aig_io.specs.Runs.{AtEnd, Broken, Ending, Open, Read, is_at_end}
 use Rattle.aig_lines.specs.Feeders.{Feeder, FoldedSource}
 use Rattle.aig_lines.specs.Texts.{judged_lines}
-use Rattle.aig_step.specs.declared.fault.SimFault.{SimFault}
-use Rattle.aig_step.specs.declared.fault.SimFault.TheVariants as faults
+use Rattle.aig_fault.specs.declared.stopped.Stopped.{Stopped}
+use Rattle.aig_fault.specs.declared.stopped.Stopped.TheVariants as stops
 use Rattle.aig_witness.specs.declared.checker.Due.TheVariants as due
 use Rattle.aig_witness.specs.declared.verdict.Verdict.{Verdict}
-use Rattle.aig_witness.specs.Confirming.{ConfirmSays, Judged}
+use Rattle.aig_witness.specs.Confirming.{ConfirmSays, Judged, bad_witness}
 use Rattle.aig_witness.specs.Witness.{Claim, IsVerdict, IsVerdictOf, Nothing, Property, Said, SaysClaim, Shape, Steps}
 use Rattle.aig_witness.specs.Witness.{Version, Whole, first_bad_witness_line, missing_line, shape_of, witness_of}
 use Rattle.aig_witness.specs.Witness.{wrong_line}
@@ -49,26 +49,26 @@ module _ (c : Circuit) (few : length c.bad ≤ LARGEST) (source source_now : His
         subst (λ (b : Bool). CameAt longest (Ok b)) is (subst (λ (n : ℕ). CameAt n (Ok good)) long came)
 
     -- what an answer says of what came
-    abbrev Answers : Result Verdict SimFault → Type 0
+    abbrev Answers : Result Verdict Stopped → Type 0
     Answers result = Read (ConfirmSays c result) source source_now
 
     -- a line was refused
-    pub wrong_among : CameAt longest (Ok false) → Answers (Err (faults.BadWitness f.number))
+    pub wrong_among : CameAt longest (Ok false) → Answers (Err (stops.Refused (bad_witness f.number)))
     wrong_among (true, r) = record {
       bytes = r.bytes;
       ending = AtEnd;
-      says = (tt, one_wrong c few r.bytes true f w r.stands r.refused);
+      says = (f.number, refl, tt, one_wrong c few r.bytes true f w r.stands r.refused);
       came = r.history;
     }
     wrong_among (false, r) = record {
       bytes = r.bytes;
       ending = Open;
-      says = (tt, one_wrong c few r.bytes false f w r.stands r.refused);
+      says = (f.number, refl, tt, one_wrong c few r.bytes false f w r.stands r.refused);
       came = r.history;
     }
 
     -- the source failed
-    pub cut_off : (fault : DeviceFault) → CameAt longest (Err fault) → Answers (Err faults.ReadFailed)
+    pub cut_off : (fault : DeviceFault) → CameAt longest (Err fault) → Answers (Err stops.ReadFailed)
     cut_off fault r =
         let right = none_wrong c few r.bytes false f w r.stands r.refused in
         let lines = length (judged_lines r.bytes false) in
@@ -80,13 +80,13 @@ module _ (c : Circuit) (few : length c.bad ≤ LARGEST) (source source_now : His
         }
 
     -- the bytes have ended where a line is due
-    pub wrong_behind : CameAt longest (Ok true) → w.due ≢ due.Nothing → Answers (Err (faults.BadWitness f.number))
+    pub wrong_behind : CameAt longest (Ok true) → w.due ≢ due.Nothing → Answers (Err (stops.Refused (bad_witness f.number)))
     wrong_behind r some =
         let right = none_wrong c few r.bytes true f w r.stands r.refused in
         let lines = length (judged_lines r.bytes true) in
         let first = ap (wrong_line lines true) right.says ∙ one_missing lines w right.said right.has_state.1 some
         ∙ ap (λ (n : ℕ). Some n) (sym right.number) in
-        record { bytes = r.bytes; ending = AtEnd; says = (tt, first); came = r.history }
+        record { bytes = r.bytes; ending = AtEnd; says = (f.number, refl, tt, first); came = r.history }
 
     -- they have ended where none is
     whole : (v : Verdict) (bytes : List ℕ) (said : Said) → StandsWhen w said → w.due ≡ due.Nothing → w.circuit ≡ c
@@ -133,12 +133,11 @@ module _ (c d : Circuit) (means : MeansTheSame c d) (bad : length d.bad ≡ leng
     is_verdict = is.is_verdict;
   }
 
-  pub confirm_says_too : (result : Result Verdict SimFault) (bytes : List ℕ) (ending : Ending)
+  pub confirm_says_too : (result : Result Verdict Stopped) (bytes : List ℕ) (ending : Ending)
       → ConfirmSays d result bytes ending → ConfirmSays c result bytes ending
   confirm_says_too (Ok v) bytes ending says = search (rules, same_wrong, same_shape, same_meaning_same_traces)
-  confirm_says_too (Err faults.OutOfMemory) bytes ending says = says
-  confirm_says_too (Err (faults.BadStimulus n)) bytes ending never = never
-  confirm_says_too (Err (faults.BadWitness n)) bytes ending says =
-      (says.0, same_wrong bytes (is_at_end ending) ∙ says.1)
-  confirm_says_too (Err faults.ReadFailed) bytes ending says = (says.0, same_wrong bytes false ∙ says.1)
-  confirm_says_too (Err faults.WriteFailed) bytes ending never = never
+  confirm_says_too (Err stops.OutOfMemory) bytes ending says = says
+  confirm_says_too (Err (stops.Refused fault)) bytes ending (number, told, unbroken, first) =
+      (number, told, unbroken, same_wrong bytes (is_at_end ending) ∙ first)
+  confirm_says_too (Err stops.ReadFailed) bytes ending says = (says.0, same_wrong bytes false ∙ says.1)
+  confirm_says_too (Err stops.WriteFailed) bytes ending never = never

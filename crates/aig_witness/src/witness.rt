@@ -10,9 +10,9 @@ ghost use Rattle.aig_witness.specs.Parts.Witnessing.{StandsWhen, longest_line};
 use crate::checker::Checker;
 use crate::verdict::Verdict;
 use aig_checked::Checked;
+use aig_fault::{Kind, Stopped, refused_at};
 use aig_io::Source;
 use aig_lines::{LineFeeder, feed_source};
-use aig_step::SimFault;
 use std::alloc::Global;
 
 /// Takes all bytes of the source, and tells what they come to.
@@ -20,7 +20,7 @@ fn judge_all<R: Source>(
     feeder: &mut LineFeeder,
     checker: &mut Checker,
     source: &mut R,
-) -> Result<Verdict, SimFault>
+) -> Result<Verdict, Stopped>
     requires initial { IsInitial feeder.old }
     requires limit { feeder.old.limit ≡ longest_line (shape_of checker.old.circuit) }
     requires begun { StandsWhen checker.old Nothing }
@@ -29,11 +29,11 @@ fn judge_all<R: Source>(
         (R.history source.old) (R.history source.new) }
 {
     let Ok(good) = feed_source(feeder, checker, source) else {
-        return Err(SimFault::ReadFailed);
+        return Err(Stopped::ReadFailed);
     };
     // Where a line is due after the last, it is that which is missing.
     if !good || !checker.is_whole() {
-        return Err(SimFault::BadWitness(feeder.number()));
+        return Err(refused_at(Kind::BadWitness, feeder.number()));
     }
     Ok(checker.verdict())
 }
@@ -45,14 +45,14 @@ pub fn confirm<R: Source>(
     alloc: Global,
     checked: &Checked,
     source: &mut R,
-) -> Result<Verdict, SimFault>
+) -> Result<Verdict, Stopped>
     ensures read { Read (ConfirmSays checked.now result) (R.history source.old)
         (R.history source.new) }
 {
     let mut checker = Checker::new(alloc, checked)?;
     let Ok(mut feeder) = LineFeeder::new(alloc, checker.longest_line()) else {
         drop(checker); // for the proof
-        return Err(SimFault::OutOfMemory);
+        return Err(Stopped::OutOfMemory);
     };
     let judged = judge_all(&mut feeder, &mut checker, source);
     drop(feeder); // for the proof

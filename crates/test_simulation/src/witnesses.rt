@@ -2,7 +2,7 @@
 ghost use Rattle.std.specs.Prelude.{◌≡◌, IfSome};
 
 use aig_core::{Checked, Keep, MemorySource};
-use aig_sim::{SimFault, Verdict, confirm};
+use aig_sim::{Stopped, Verdict, confirm};
 use aig_text::{Limits, read_ascii};
 use std::alloc::{AllocError, Global};
 use std::test::Fail;
@@ -67,7 +67,7 @@ fn witness_bytes(alloc: Global, text: &str) -> Result<Vec<u8>, AllocError> {
     Ok(bytes)
 }
 
-fn outcome_words(alloc: Global, outcome: &Result<Verdict, SimFault>) -> Result<String, AllocError> {
+fn outcome_words(alloc: Global, outcome: &Result<Verdict, Stopped>) -> Result<String, AllocError> {
     match outcome {
         Ok(Verdict::Confirmed(at)) => format!(in alloc; "confirmed {at}"),
         Ok(Verdict::NotConfirmed) => format!(in alloc; "not confirmed"),
@@ -98,7 +98,7 @@ fn comes_to(alloc: Global, circuit: &Checked, witness: &str, wanted: &str) -> bo
     }
 }
 
-fn fault_of(alloc: Global, circuit: &Checked, witness: &str, fails_at: u64) -> Option<SimFault> {
+fn fault_of(alloc: Global, circuit: &Checked, witness: &str, fails_at: u64) -> Option<Stopped> {
     let mut source = source_of(alloc, witness, fails_at)?;
     confirm(alloc, circuit, &mut source).err()
 }
@@ -132,6 +132,6 @@ fn a_source_that_fails(rt: HostRuntime) -> Result<(), Fail> {
     let circuit = read_ascii(rt.alloc(), text, Limits::default(), Keep::Circuit)?;
     let fault = fault_of(rt.alloc(), &circuit, "1/b0/0///./", 3);
     drop(circuit); // for the proof
-    assert!(rt; fault == Some(SimFault::ReadFailed));
+    assert!(rt; fault == Some(Stopped::ReadFailed));
     Ok(())
 }

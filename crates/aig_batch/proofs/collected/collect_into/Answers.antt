@@ -29,7 +29,7 @@ returns-then-not-end-clause-err g c =
     let end = rw c.if-count-eq0.true at c.in-Ok.ensures.history in
     let bad = first_bad _ c.args.checked.now f c.end.new.taker bytes true true (c.end.ensures.folded _ i.folded)
     (flipped f.refused c.end.result false c.end.ensures.result c.if-not-end.true) in
-    rw c.number.ensures (record { bytes = bytes; ending = AtEnd; says = (tt, bad); came = end ∙ ap at_end i.history })
+    rw (c.refused_at.ensures, c.number.ensures) (record { bytes = bytes; ending = AtEnd; says = (_, refl, tt, bad); came = end ∙ ap at_end i.history })
 
 pub returns-then-count-eq0-clause-came : goal.returns-then-count-eq0-clause-came
 returns-then-count-eq0-clause-came g c =
@@ -67,5 +67,5 @@ returns-then-not-feed-clause-err g c =
     let bad = first_bad _ c.args.checked.now f c.feed.new.taker (bytes ++ chunk) false true folded
     (flipped f.refused c.feed.result false c.feed.ensures.result c.if-not-feed.true) in
     let some = took_twice _ _ _ bytes chunk i.history next in
-    rw c.number-then-not-feed.ensures
-    (record { bytes = bytes ++ chunk; ending = Open; says = (tt, bad); came = some })
+    rw (c.refused_at-then-not-feed.ensures, c.number-then-not-feed.ensures)
+    (record { bytes = bytes ++ chunk; ending = Open; says = (_, refl, tt, bad); came = some })

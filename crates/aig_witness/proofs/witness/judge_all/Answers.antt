@@ -17,7 +17,7 @@ returns-then-not-good g c =
     let came = c.in-Ok.ensures (witness_state c.args.checker.now.circuit Nothing) (refl, c.requires.begun) in
     let f = c.feed_source.new.feeder in
     let w = c.feed_source.new.taker in
-    rw c.number.ensures (elim c.then-not-good.branch [
+    rw (c.refused_at.ensures, c.number.ensures) (elim c.then-not-good.branch [
       | then-not-good-via-then-not-good b ↦ wrong_among _ c.requires.few _ _ f w
           (came_so _ c.requires.few _ _ f w _ c.in-Ok.good false c.requires.limit b.if-not-good.true came)
       | then-not-good-via-else-not-good+then-not-is_whole b ↦ wrong_behind _ c.requires.few _ _ f w
