@@ -13,6 +13,10 @@ use Rattle.std.specs.Prelude.{◌+◌, ◌-◌, ◌*◌, ◌^◌, ◌==◌, ◌&
 use Rattle.std.specs.Prelude.{Result, Ok, Err, codes, is_none, length, nat_le, nat_lt, slice_index, slice_set, take}
 use Rattle.std.specs.Prelude.{if◌then◌else◌}
 use Rattle.std.specs.Str.{bytes_eq}
+use Rattle.aig_fault.specs.Stopping.{fault_at}
+use Rattle.aig_fault.specs.declared.fault.Fault.{Fault}
+use Rattle.aig_fault.specs.declared.fault.Place.TheVariants.{Line}
+use Rattle.aig_fault.specs.declared.kind.Kind.TheVariants.{BadAnswer}
 use Rattle.aig_answer.specs.declared.reader.Move.{Move}
 use Rattle.aig_answer.specs.declared.reader.Reader.{Reader}
 use Rattle.aig_answer.specs.declared.reader.Signed.{Signed}
@@ -158,17 +162,21 @@ closed_at r spot = (next r 10).reader
 abbrev pub closed : Reader → Reader
 closed r = closed_at r r.spot
 
--- what is said after the last line, or the number of the line that is wrong or missing
-abbrev pub said_or : ℕ → Bool → Option Status → Result Status ℕ
-said_or line ended None = Err line
-said_or line ended (Some Satisfiable) = if ended then Ok Satisfiable else Err line
+-- the line of this number is none that may stand there, or is missing
+abbrev pub bad_line : ℕ → Fault
+bad_line line = fault_at BadAnswer (Line line) 0
+
+-- what is said after the last line
+abbrev pub said_or : ℕ → Bool → Option Status → Result Status Fault
+said_or line ended None = Err (bad_line line)
+said_or line ended (Some Satisfiable) = if ended then Ok Satisfiable else Err (bad_line line)
 said_or line ended (Some status) = Ok status
 
-abbrev pub answer_at : Reader → Spot → Result Status ℕ
-answer_at r spots.Wrong = Err r.line
+abbrev pub answer_at : Reader → Spot → Result Status Fault
+answer_at r spots.Wrong = Err (bad_line r.line)
 answer_at r spot = said_or r.line r.ended r.status
 
-abbrev pub answer_of : Reader → Result Status ℕ
+abbrev pub answer_of : Reader → Result Status Fault
 answer_of r = answer_at r r.spot
 
 -- how far an answer was read, and the values so far, as the characters `0` and `1`

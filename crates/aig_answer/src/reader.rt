@@ -6,7 +6,7 @@ ghost use Rattle.aig_answer.specs.Answer.{in_minus, in_number, in_return, in_spa
 ghost use Rattle.aig_answer.specs.Answer.{in_word, is_digit, more_digits, next, on_next_line};
 ghost use Rattle.aig_answer.specs.Answer.{signed_by, standing_at, status_text};
 
-use crate::fault::BadAnswerLine;
+use aig_fault::{Fault, Kind, Place};
 
 /// The largest number in an answer: variables of solvers are numbers of 32 bits with a sign.
 pub const LARGEST_NUMBER: u64 = 2_147_483_647;
@@ -349,13 +349,18 @@ impl Reader {
         }
     }
 
-    /// What the answer is, where no more bytes come.
-    pub fn answer(self) -> Result<Status, BadAnswerLine>
+    /// What the answer is, where no more bytes come; or that a line is none that may stand there, or is
+    /// missing.
+    pub fn answer(self) -> Result<Status, Fault>
         ensures ok { IfOk result (λ status. answer_of (closed self) ≡ Ok status) }
-        ensures err { IfErr result (λ fault. answer_of (closed self) ≡ Err fault.line) }
+        ensures err { IfErr result (λ fault. answer_of (closed self) ≡ Err fault) }
     {
         let end = self.close();
-        let fault = BadAnswerLine { line: end.line };
+        let fault = Fault {
+            kind: Kind::BadAnswer,
+            place: Place::Line(end.line),
+            subject: 0,
+        };
         if matches!(end.spot, Spot::Wrong) {
             return Err(fault);
         }

@@ -3,21 +3,22 @@ use Rattle.std.proofs.Common.{◌≡◌, ◌≢◌, ◌⊎◌, ◌-◌, ◌++◌
 use Rattle.std.proofs.Common.{None, Ok, Err, Option, Some, ap, fold, if◌then◌else◌, inl, inr, length, length-set}
 use Rattle.std.proofs.Common.{nat_le, nat_lt, refl, replicate, set, subst, sym}
 use Rattle.std.proofs.lemmas.List.Sums.{fold-append}
-use Rattle.aig_answer.specs.declared.fault.BadAnswerLine.{BadAnswerLine}
 use Rattle.aig_answer.specs.declared.reader.Reader.{Reader}
 use Rattle.aig_answer.specs.declared.reader.Signed.{Signed}
 use Rattle.aig_answer.specs.declared.reader.Spot.{Spot}
 use Rattle.aig_answer.specs.declared.reader.Spot.TheVariants.{LineStart, Wrong}
 use Rattle.aig_answer.specs.declared.reader.Status.TheVariants.{Satisfiable}
-use Rattle.aig_answer.specs.Answer.{SoFar, after, answer_of, begun, closed, next, so_far, with_any}
+use Rattle.aig_answer.specs.Answer.{SoFar, after, answer_of, bad_line, begun, closed, next, so_far, with_any}
 use Rattle.aig_answer.specs.Laws.{read_from}
+use Rattle.aig_circuit.specs.declared.circuit.Circuit.{Circuit}
+use Rattle.aig_fault.specs.declared.stopped.Stopped.{Stopped}
+use Rattle.aig_fault.specs.declared.stopped.Stopped.TheVariants as stops
 use Rattle.aig_io.specs.Devices.{History, failed_once, gave_all, took}
-use Rattle.aig_io.specs.Runs.{AtEnd, Broken, Open, Read}
+use Rattle.aig_io.specs.Runs.{AtEnd, Broken, Ending, Open, Read}
 use Rattle.aig_io.proofs.Took.{took_none, took_twice}
 use Rattle.aig_lines.proofs.Tells.{at_end}
-use Rattle.aig_replay.specs.declared.fault.AnswerFault.{AnswerFault}
-use Rattle.aig_replay.specs.declared.fault.AnswerFault.TheVariants.{BadLine, ReadFailed}
 use Rattle.aig_replay.specs.Parts.{NotTaken}
+use Rattle.aig_replay.specs.Reached.{NotFoundBy, fault_said, read_over}
 use Rattle.aig_replay.specs.Starting.{AreBits}
 
 -- each is `0` or `1`, and there are so many
@@ -71,14 +72,21 @@ values_read count old now bytes zeros is =
     (read_kept count (so_far begun old) bytes (subst (AreValues count) (sym zeros) (zeros_are count)))
 
 -- after a wrong byte that is what is said, whatever comes
-wrong_at : (r : Reader) (spot : Spot) (line : ℕ) → r.spot ≡ spot → spot ≡ Wrong → line ≡ r.line
-    → answer_of (closed r) ≡ Err line
-wrong_at r spot line at is same =
-    let wrong : r.spot ≡ Wrong = at ∙ is in
-    rw wrong (ap (λ (n : ℕ). Err n) (sym same))
+pub wrong_says : (r : Reader) → r.spot ≡ Wrong → answer_of (closed r) ≡ Err (bad_line r.line)
+wrong_says r wrong = rw wrong refl
 
-wrong_says : (r : Reader) (line : ℕ) → r.spot ≡ Wrong → line ≡ r.line → answer_of (closed r) ≡ Err line
-wrong_says r line wrong same = wrong_at r r.spot line refl wrong same
+-- and so it is not taken
+wrong_is_not_taken : (r : Reader) → r.spot ≡ Wrong → NotTaken r (stops.Refused (bad_line r.line)) Open
+wrong_is_not_taken r wrong =
+    let said = wrong_says r wrong in
+    (tt, λ _. wrong, ap fault_said (sym said), λ (taken : answer_of (closed r) ≡ Ok Satisfiable). cc)
+
+-- nor is a bad state reached by it
+pub not_found_by : (d : Circuit) (frames : ℕ) (bytes : List ℕ) (ending : Ending) (stopped : Stopped)
+    → NotTaken (read_over d frames bytes).reader stopped ending → NotFoundBy d frames stopped bytes ending
+not_found_by d frames bytes ending stops.ReadFailed why = why
+not_found_by d frames bytes ending (stops.Refused fault) why = (why.0, why.1, why.2, λ taken. absurd (why.3 taken))
+not_found_by d frames bytes ending stopped why = absurd why
 
 -- so many bytes came, and none of them is wrong
 pub record HasRead (source source_now : History) (bits bits_now : List ℕ) (r : Reader) : Type 0 where
@@ -107,7 +115,7 @@ module _ (a b : History) (bits now : List ℕ) (r : Reader) (so : HasRead a b bi
 
   -- the source failed
   pub read_failed : (c : History) → c ≡ failed_once b
-      → Read (λ bytes ending. NotTaken (read_from bits bytes).reader ReadFailed ending) a c
+      → Read (λ bytes ending. NotTaken (read_from bits bytes).reader stops.ReadFailed ending) a c
   read_failed c is = record {
     bytes = so.bytes;
     ending = Broken;
@@ -119,12 +127,12 @@ module _ (a b : History) (bits now : List ℕ) (r : Reader) (so : HasRead a b bi
   pub all_read : (c : History) → c ≡ at_end b → c ≡ gave_all so.bytes a
   all_read c is = is ∙ ap at_end so.history
 
-  pub not_taken : (c : History) (fault : AnswerFault) → c ≡ at_end b → NotTaken r fault AtEnd
-      → Read (λ bytes ending. NotTaken (read_from bits bytes).reader fault ending) a c
-  not_taken c fault is says = record {
+  pub not_taken : (c : History) (stopped : Stopped) → c ≡ at_end b → NotTaken r stopped AtEnd
+      → Read (λ bytes ending. NotTaken (read_from bits bytes).reader stopped ending) a c
+  not_taken c stopped is says = record {
     bytes = so.bytes;
     ending = AtEnd;
-    says = subst (λ (q : Reader). NotTaken q fault AtEnd) same_reader says;
+    says = subst (λ (q : Reader). NotTaken q stopped AtEnd) same_reader says;
     came = all_read c is;
   }
 
@@ -154,12 +162,12 @@ module _ (a b : History) (bits now : List ℕ) (r : Reader) (so : HasRead a b bi
       fine = fine;
     }
 
-    pub read_wrong : (fault : BadAnswerLine) → q.spot ≡ Wrong → fault.line ≡ q.line
-        → Read (λ bytes ending. NotTaken (read_from bits bytes).reader (BadLine fault) ending) a c
-    read_wrong fault wrong line = record {
+    pub read_wrong : q.spot ≡ Wrong
+        → Read (λ bytes ending. NotTaken (read_from bits bytes).reader (stops.Refused (bad_line q.line)) ending) a c
+    read_wrong wrong = record {
       bytes = so.bytes ++ chunk;
       ending = Open;
-      says = subst (λ (p : Reader). NotTaken p (BadLine fault) Open) (ap (λ (s : SoFar). s.reader) read_on)
-          (tt, wrong_says q fault.line wrong line, λ _. wrong);
+      says = subst (λ (p : Reader). NotTaken p (stops.Refused (bad_line q.line)) Open)
+          (ap (λ (s : SoFar). s.reader) read_on) (wrong_is_not_taken q wrong);
       came = took_twice a b c so.bytes chunk so.history came;
     }

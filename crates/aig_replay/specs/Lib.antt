@@ -6,5 +6,3 @@ pub mod WitnessLines
 pub mod Alone
 pub mod Reached
 pub mod Held
-pub mod Messages
-pub mod Stops

@@ -6,19 +6,19 @@ use Rattle.aig_circuit.specs.declared.value.Val.{Val}
 use Rattle.aig_answer.specs.Answer.{answer_of, closed}
 use Rattle.aig_answer.specs.declared.reader.Reader.{Reader}
 use Rattle.aig_answer.specs.declared.reader.Spot.TheVariants.{Wrong}
-use Rattle.aig_answer.specs.declared.reader.Status.TheVariants.{Satisfiable, Unknown, Unsatisfiable}
+use Rattle.aig_answer.specs.declared.reader.Status.TheVariants.{Satisfiable}
+use Rattle.aig_fault.specs.declared.stopped.Stopped.{Stopped}
+use Rattle.aig_fault.specs.declared.stopped.Stopped.TheVariants.{ReadFailed, Refused}
 use Rattle.aig_io.specs.Runs.{AtEnd, Broken, Ending, IsUnbroken, Open}
 use Rattle.aig_meaning.specs.Meaning.{IsRow, MeansTheSame, Row}
 use Rattle.aig_meaning.specs.Trace.{Follow}
 use Rattle.aig_step.specs.TraceText.{values_text}
 use Rattle.aig_step.specs.Parts.Stepping.{Stepping}
 use Rattle.aig_unroll.specs.Unrolled.{all_inputs, resets_of, uninitialised}
-use Rattle.aig_replay.specs.declared.fault.AnswerFault.{AnswerFault}
-use Rattle.aig_replay.specs.declared.fault.AnswerFault.TheVariants as faults
 use Rattle.aig_replay.specs.declared.search.Sight.{Sight}
 use Rattle.aig_replay.specs.declared.start.FoundRun.{FoundRun}
 use Rattle.aig_replay.specs.Finding.{hit_from, shown_by}
-use Rattle.aig_replay.specs.Reached.{HasFound, NotFoundBy, read_over, run_of, said_in}
+use Rattle.aig_replay.specs.Reached.{HasFound, NotFoundBy, fault_said, read_over, run_of, said_in}
 
 -- a step was taken with these inputs: this is its row, which shows this and leads to the state after it
 pub record Took (before after : Stepping) (given : List Val) (shown : Sight) : Type 0 where
@@ -48,14 +48,12 @@ pub record AreAppended (inputs count step : ℕ) (rest : List ℕ) (all done : L
   pub many : step + length left ≡ count
 
 -- Why the values of an answer were not taken that was read so far.
-abbrev pub NotTaken : Reader → AnswerFault → Ending → Type 0
-NotTaken r faults.OutOfMemory ending = ⊥
-NotTaken r (faults.BadLine fault) ending =
-    IsUnbroken ending × (answer_of (closed r) ≡ Err fault.line) × (ending ≡ Open → r.spot ≡ Wrong)
-NotTaken r faults.Unsatisfiable ending = (ending ≡ AtEnd) × (answer_of (closed r) ≡ Ok Unsatisfiable)
-NotTaken r faults.Unknown ending = (ending ≡ AtEnd) × (answer_of (closed r) ≡ Ok Unknown)
-NotTaken r faults.NotReached ending = ⊥
-NotTaken r faults.ReadFailed ending = (ending ≡ Broken) × (r.spot ≢ Wrong)
+abbrev pub NotTaken : Reader → Stopped → Ending → Type 0
+NotTaken r ReadFailed ending = (ending ≡ Broken) × (r.spot ≢ Wrong)
+NotTaken r (Refused fault) ending =
+    IsUnbroken ending × (ending ≡ Open → r.spot ≡ Wrong) × (fault ≡ fault_said (answer_of (closed r)))
+    × (answer_of (closed r) ≢ Ok Satisfiable)
+NotTaken r stopped ending = ⊥
 
 -- There is room for the values of an answer, each 0, and for a first state; and what runs means the same.
 pub record HasPlaces (c : Circuit) (frames : ℕ) (run : Circuit) (bits first : List ℕ) : Type 0 where
@@ -72,9 +70,9 @@ pub record IsRunBy (d : Circuit) (frames : ℕ) (bytes : List ℕ) (run : FoundR
   pub first_is : first ≡ values_text (run_of d frames bits).first
 
 -- All came, and by it a run was found; or there is no witness.
-abbrev pub RunSays : Circuit → ℕ → Result FoundRun AnswerFault → List ℕ → List ℕ → List ℕ → Ending → Type 0
+abbrev pub RunSays : Circuit → ℕ → Result FoundRun Stopped → List ℕ → List ℕ → List ℕ → Ending → Type 0
 RunSays d frames (Ok run) bits first bytes ending = (ending ≡ AtEnd) × IsRunBy d frames bytes run bits first
-RunSays d frames (Err fault) bits first bytes ending = NotFoundBy d frames fault bytes ending
+RunSays d frames (Err stopped) bits first bytes ending = NotFoundBy d frames stopped bytes ending
 
 -- this number, or else that one
 abbrev pub number_or : Option ℕ → ℕ → ℕ

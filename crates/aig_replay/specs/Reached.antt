@@ -9,6 +9,12 @@ use Rattle.aig_answer.specs.declared.reader.Status.{Status}
 use Rattle.aig_answer.specs.declared.reader.Status.TheVariants.{Satisfiable, Unknown, Unsatisfiable}
 use Rattle.aig_circuit.specs.declared.circuit.Circuit.{Circuit}
 use Rattle.aig_circuit.specs.Wellformed.{IsWellFormed}
+use Rattle.aig_fault.specs.Stopping.{fault_at}
+use Rattle.aig_fault.specs.declared.fault.Fault.{Fault}
+use Rattle.aig_fault.specs.declared.fault.Place.TheVariants.{Whole}
+use Rattle.aig_fault.specs.declared.kind.Kind.TheVariants as kinds
+use Rattle.aig_fault.specs.declared.stopped.Stopped.{Stopped}
+use Rattle.aig_fault.specs.declared.stopped.Stopped.TheVariants.{OutOfMemory, ReadFailed, Refused, WriteFailed}
 use Rattle.aig_io.specs.Runs.{AtEnd, Broken, Ending, IsUnbroken, Open}
 use Rattle.aig_meaning.specs.Meaning.{Row}
 use Rattle.aig_meaning.specs.Trace.{IsTrace}
@@ -16,8 +22,6 @@ use Rattle.aig_reach.specs.Cut.{cut_claim}
 use Rattle.aig_unroll.specs.Unrolled.{all_inputs}
 use Rattle.aig_witness.specs.declared.verdict.Verdict.TheVariants.{Confirmed}
 use Rattle.aig_witness.specs.Witness.{Claim, IsVerdict, SaysClaim}
-use Rattle.aig_replay.specs.declared.fault.AnswerFault.{AnswerFault}
-use Rattle.aig_replay.specs.declared.fault.AnswerFault.TheVariants as faults
 use Rattle.aig_replay.specs.declared.search.Hit.{Hit}
 use Rattle.aig_replay.specs.Alone.{HasSelected, selected_of}
 use Rattle.aig_replay.specs.Finding.{hit_from}
@@ -30,7 +34,7 @@ abbrev pub read_over : Circuit → ℕ → List ℕ → SoFar
 read_over d frames bytes = read_from (replicate (all_inputs d frames) 48) bytes
 
 -- what it says, where no more bytes come
-abbrev pub said_in : Circuit → ℕ → List ℕ → Result Status ℕ
+abbrev pub said_in : Circuit → ℕ → List ℕ → Result Status Fault
 said_in d frames bytes = answer_of (closed (read_over d frames bytes).reader)
 
 -- the run that values are
@@ -74,28 +78,29 @@ AnswersHaveOneWitness = (c : Circuit) (selected : Option ℕ) (frames : ℕ) (by
     → ReachedBy c selected frames bytes other
     → claim ≡ other
 
--- Why there is no witness: memory was refused before the source was called; the line of this number is wrong or
--- missing, and nothing more was read after a wrong one; another status is said; the run reaches no bad state; or the
--- source failed, and nothing that came is wrong.
-abbrev pub NotFoundBy : Circuit → ℕ → AnswerFault → List ℕ → Ending → Type 0
-NotFoundBy d frames faults.OutOfMemory bytes ending = (bytes ≡ []) × (ending ≡ Open)
-NotFoundBy d frames (faults.BadLine fault) bytes ending =
-    IsUnbroken ending × (said_in d frames bytes ≡ Err fault.line)
-    × (ending ≡ Open → (read_over d frames bytes).reader.spot ≡ Wrong)
-NotFoundBy d frames faults.Unsatisfiable bytes ending =
-    (ending ≡ AtEnd) × (said_in d frames bytes ≡ Ok Unsatisfiable)
-NotFoundBy d frames faults.Unknown bytes ending = (ending ≡ AtEnd) × (said_in d frames bytes ≡ Ok Unknown)
-NotFoundBy d frames faults.NotReached bytes ending =
-    (ending ≡ AtEnd) × (said_in d frames bytes ≡ Ok Satisfiable)
-    × HasFound d frames (read_over d frames bytes).bits None
-NotFoundBy d frames faults.ReadFailed bytes ending =
-    (ending ≡ Broken) × ((read_over d frames bytes).reader.spot ≢ Wrong)
+-- the fault of an answer that says this, where no bad state is reached by its values
+abbrev pub fault_said : Result Status Fault → Fault
+fault_said (Err fault) = fault
+fault_said (Ok Unsatisfiable) = fault_at kinds.Unsatisfiable Whole 0
+fault_said (Ok Unknown) = fault_at kinds.Unknown Whole 0
+fault_said (Ok Satisfiable) = fault_at kinds.NotReached Whole 0
+
+-- Why there is no witness: memory was refused before the source was called; the source failed, and nothing that came is
+-- wrong; or all came, or a wrong byte after which nothing more was read, and it has this fault.
+abbrev pub NotFoundBy : Circuit → ℕ → Stopped → List ℕ → Ending → Type 0
+NotFoundBy d frames OutOfMemory bytes ending = (bytes ≡ []) × (ending ≡ Open)
+NotFoundBy d frames ReadFailed bytes ending = (ending ≡ Broken) × ((read_over d frames bytes).reader.spot ≢ Wrong)
+NotFoundBy d frames WriteFailed bytes ending = ⊥
+NotFoundBy d frames (Refused fault) bytes ending =
+    IsUnbroken ending × (ending ≡ Open → (read_over d frames bytes).reader.spot ≡ Wrong)
+    × (fault ≡ fault_said (said_in d frames bytes))
+    × (said_in d frames bytes ≡ Ok Satisfiable → HasFound d frames (read_over d frames bytes).bits None)
 
 -- All came, and by it a bad state is reached, for each circuit from which this one was selected; or there is no
 -- witness.
-abbrev pub WitnessSays : Circuit → Option ℕ → ℕ → Result Claim AnswerFault → List ℕ → Ending → Type 0
+abbrev pub WitnessSays : Circuit → Option ℕ → ℕ → Result Claim Stopped → List ℕ → Ending → Type 0
 WitnessSays d selected frames (Ok claim) bytes ending =
     (ending ≡ AtEnd)
     × ((c : Circuit) → IsWellFormed c → HasSelected selected c → d ≡ selected_of selected c
     → ReachedBy c selected frames bytes claim)
-WitnessSays d selected frames (Err fault) bytes ending = NotFoundBy d frames fault bytes ending
+WitnessSays d selected frames (Err stopped) bytes ending = NotFoundBy d frames stopped bytes ending

@@ -3,12 +3,12 @@ ghost use Rattle.std.specs.Prelude.{◌≡◌, ◌<◌, [], ◌∷◌, IfErr, If
 ghost use Rattle.std.specs.Prelude.{slice_index_or};
 ghost use Rattle.aig_replay.specs.Alone.{HasSelected, NotSelected, selected_of, with_bad_alone};
 
-use crate::fault::SelectFault;
 use aig_core::{Checked, Circuit, Listing, Lit, Symbols};
+use aig_fault::{Kind, Place, Stopped, refused};
 use std::alloc::Global;
 
 /// The list of the bad state of this number.
-fn bad_alone(alloc: Global, circuit: &Circuit, number: u32) -> Result<Listing<Lit>, SelectFault>
+fn bad_alone(alloc: Global, circuit: &Circuit, number: u32) -> Result<Listing<Lit>, Stopped>
     ensures ok { IfOk result (λ bad. bad ≡ slice_index_or circuit.now.bad number 0 ∷ []) }
     ensures there { OnOk result (number < length circuit.now.bad) }
     ensures err { IfErr result (NotSelected (Some number) circuit.now) }
@@ -16,7 +16,7 @@ fn bad_alone(alloc: Global, circuit: &Circuit, number: u32) -> Result<Listing<Li
     let bad = circuit.bad.as_slice();
     let place = number as usize;
     if bad.len() <= place {
-        return Err(SelectFault::NoBad(number));
+        return Err(refused(Kind::NoSuchBadState, Place::Whole, number));
     }
     Ok(Listing::from_vec(vec![in alloc; bad[place]; 1]?))
 }
@@ -43,7 +43,7 @@ pub fn with_selected_bad(
     alloc: Global,
     found: Checked,
     bad: Option<u32>,
-) -> Result<Checked, SelectFault>
+) -> Result<Checked, Stopped>
     ensures ok { IfOk result (λ selected. selected ≡ selected_of bad found) }
     ensures there { OnOk result (HasSelected bad found) }
     ensures err { IfErr result (NotSelected bad found) }

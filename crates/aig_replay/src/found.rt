@@ -15,11 +15,11 @@ ghost use Rattle.aig_replay.specs.Reached.{WitnessSays};
 ghost use Rattle.aig_replay.specs.WitnessLines.{witness_text};
 
 use crate::answer::read_answer;
-use crate::fault::AnswerFault;
 use crate::search::Hit;
 use crate::start::{FoundRun, find_run};
 use crate::writer::put_witness;
 use aig_core::{Checked, Circuit, DeviceFault, Latch, OutOfMemory, Output, Reset, Sink, Source};
+use aig_fault::{Kind, Stopped, refused_whole};
 use aig_step::Stepper;
 use std::alloc::Global;
 use std::marker::Model;
@@ -150,7 +150,7 @@ fn find_by_answer<R: Source>(
     answer: &mut R,
     bits: &mut [u8],
     first: &mut [u8],
-) -> Result<FoundRun, AnswerFault>
+) -> Result<FoundRun, Stopped>
     requires latches { length first.old ≡ length stepper.old.circuit.latches }
     ensures { (d : CircuitRecord) → IsWellFormed d → MeansTheSame d stepper.old.circuit
         → bits.old ≡ replicate (all_inputs d frames) 48
@@ -160,7 +160,7 @@ fn find_by_answer<R: Source>(
     read_answer(answer, bits)?;
     match find_run(stepper, bits, frames, first) {
         Some(run) => Ok(run),
-        None => Err(AnswerFault::NotReached),
+        None => Err(refused_whole(Kind::NotReached)),
     }
 }
 
@@ -173,7 +173,7 @@ pub fn find_witness<R: Source>(
     frames: u32,
     selected: Option<u32>,
     answer: &mut R,
-) -> Result<FoundWitness, AnswerFault>
+) -> Result<FoundWitness, Stopped>
     requires fits { ¬ IsTooLarge found.now frames }
     ensures { Read (WitnessSays found.now selected frames result)
         (R.history answer.old) (R.history answer.new) }

@@ -11,16 +11,13 @@
 
 mod alone;
 mod answer;
-mod fault;
 mod found;
 pub mod laws;
 mod search;
 mod start;
-mod stops;
 mod writer;
 
 pub use crate::alone::with_selected_bad;
-pub use crate::fault::{AnswerFault, SelectFault};
 pub use crate::found::{FoundWitness, find_witness};
 pub use crate::search::{Hit, find_hit};
 pub use crate::start::{FoundRun, find_run};

@@ -10,7 +10,6 @@ ghost use Rattle.aig_unroll.specs.Unrolled.{IsTooLarge, IsUnrolled, IsUnsupporte
 ghost use Rattle.aig_unroll.specs.Outcome.{HasClauses, NotInClauses, NotUnrolled};
 ghost use Rattle.aig_unroll.specs.Parts.Writing.{gate_room};
 
-use crate::fault::{ClauseFault, UnrollFault};
 use crate::frames::Frames;
 use crate::unrolling::check_supported;
 use crate::writing::{
@@ -20,6 +19,7 @@ use crate::writing::{
 use aig_binary::BINARY_WORD;
 use aig_cnf::{put_clause, put_clause_end, put_clauses_header};
 use aig_core::{Checked, Circuit, DeviceFault, Gate, Lit, Ordered, OutOfMemory, Output, Sink, Var};
+use aig_fault::Stopped;
 use aig_image::{Steps, into_binary};
 use aig_text::{ASCII_WORD, put_header};
 use std::alloc::Global;
@@ -96,7 +96,7 @@ impl Unrolling {
     ///
     /// A circuit with justice properties or fairness constraints is refused, and so is one whose
     /// unrolled circuit would be too large: both before any memory is taken.
-    pub fn new(alloc: Global, checked: Checked, frames: u32) -> Result<Self, UnrollFault>
+    pub fn new(alloc: Global, checked: Checked, frames: u32) -> Result<Self, Stopped>
         requires { (1 ≤ frames) × (frames ≤ 1000000) }
         ensures ok { IfOk result (λ d. IsUnrolled checked frames d) }
         ensures supported { OnOk result ((¬ IsUnsupported checked)
@@ -183,7 +183,7 @@ impl Unrolling {
     /// Whether clauses can be made of the unrolled circuit. Its variables have numbers one larger
     /// there, for a solver's numbers of 32 bits with a sign; and without a bad state the clauses
     /// could not be satisfied, which is no answer.
-    pub fn check_clauses(&self) -> Result<(), ClauseFault>
+    pub fn check_clauses(&self) -> Result<(), Stopped>
         ensures ok { OnOk result (HasClauses self.now) }
         ensures err { IfErr result (NotInClauses self.now) }
     {

@@ -11,11 +11,11 @@ ghost use Rattle.aig_unroll.specs.Outcome.{HasClauses, NotInClauses};
 ghost use Rattle.aig_unroll.specs.Unrolled.{frame_size, gates_at, unrolled};
 ghost use Rattle.aig_unroll.specs.Parts.Writing.{gate_room, input_lines};
 
-use crate::fault::ClauseFault;
 use crate::frames::{Frames, gates_of_frame};
 use aig_binary::put_gates;
 use aig_cnf::{put_gates_clauses, put_literals};
 use aig_core::{Circuit, Gate, LARGEST, Lit, Output, Sink, Var};
+use aig_fault::{Kind, Stopped, refused_whole};
 use aig_text::{HEADER_NUMBERS, NumberedLine, put_lines};
 
 pub(crate) fn header_numbers(copies: &Frames) -> [u64; HEADER_NUMBERS]
@@ -328,7 +328,7 @@ pub(crate) fn clause_numbers(copies: &Frames) -> (u64, u64)
 }
 
 /// Whether the clauses have a bad state to speak of, and numbers that are not too large.
-pub(crate) fn check_clauses(copies: &Frames) -> Result<(), ClauseFault>
+pub(crate) fn check_clauses(copies: &Frames) -> Result<(), Stopped>
     requires { copies.now.frame ≡ 0 }
     ensures ok { OnOk result
         (HasClauses (unrolled copies.now.circuit copies.now.frames)) }
@@ -336,11 +336,11 @@ pub(crate) fn check_clauses(copies: &Frames) -> Result<(), ClauseFault>
         (NotInClauses (unrolled copies.now.circuit copies.now.frames)) }
 {
     if copies.circuit().bad.is_empty() {
-        return Err(ClauseFault::NoBadStates);
+        return Err(refused_whole(Kind::NoBadStates));
     }
     let (variables, _clauses) = clause_numbers(copies);
     if variables > u64::from(LARGEST) {
-        return Err(ClauseFault::TooLarge);
+        return Err(refused_whole(Kind::TooLargeUnrolled));
     }
     Ok(())
 }
