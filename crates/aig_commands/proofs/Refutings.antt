@@ -2,12 +2,12 @@
 use Rattle.std.proofs.Common.{◌≡◌, ℕ, List, Result, Ok, Err, refl, subst}
 use Rattle.aig_circuit.specs.declared.circuit.Circuit.{Circuit}
 use Rattle.aig_circuit.specs.Wellformed.{IsWellFormed}
+use Rattle.aig_fault.specs.declared.stopped.Stopped.{Stopped}
+use Rattle.aig_fault.specs.declared.stopped.Stopped.TheVariants as stops
 use Rattle.aig_io.specs.Devices.{History}
 use Rattle.aig_io.specs.Runs.{Ending, Read}
 use Rattle.aig_io.proofs.Runs.{read_weaker}
-use Rattle.aig_refute.specs.Refuted.{EndsFor, RefutationSays}
-use Rattle.aig_refute.specs.declared.fault.RefutationFault.TheVariants as refutation_faults
-use Rattle.aig_refute.specs.declared.fault.RefutationFault.{RefutationFault}
+use Rattle.aig_refute.specs.Refuted.{RefutationSays}
 use Rattle.aig_replay.proofs.BadAlone.{refuted_means_none}
 use Rattle.aig_unroll.specs.Unrolled.{IsUnrolled}
 use Rattle.aig_witness.specs.declared.verdict.Verdict.TheVariants.{Confirmed}
@@ -16,32 +16,26 @@ use Rattle.aig_binary.proofs.Files.{one_circuit}
 use Rattle.aig_command.specs.declared.request.Reach.{Reach}
 use Rattle.aig_commands.specs.File.{IsFileOf}
 use Rattle.aig_commands.specs.Laws.{RefutationsMeanNone}
-use Rattle.aig_commands.specs.Reading.{NotRead, ReadSays}
+use Rattle.aig_commands.specs.Reading.{ReadSays}
 use Rattle.aig_commands.specs.Refuting.{IsNoneText, IsRefutationRefused, IsUnsatisfiable, none_text}
-use Rattle.aig_refute.specs.Stops.{refutation_stops}
 use Rattle.aig_commands.proofs.Readings.{CameWhole, made_after}
 use Rattle.aig_commands.proofs.TripsExist.{well_formed_file}
 
--- a refutation was read, and it is not right
-not_refuted : (reason : RefutationFault) (bytes : List ℕ) (ending : Ending) → EndsFor reason ending
-    → NotRead IsRefutationRefused (refutation_stops reason) bytes ending
-not_refuted refutation_faults.OutOfMemory bytes ending ends = ends
-not_refuted refutation_faults.ReadFailed bytes ending ends = ends
-not_refuted reason bytes ending ends = (reason, refl, ends)
+-- a refutation was read: it is right, or is refused
+refutation_says : (selected d : Circuit) (frames : ℕ) (r : Result (Unit {0}) Stopped) (bytes : List ℕ) (ending : Ending)
+    → IsWellFormed d → IsUnrolled selected frames d → RefutationSays d r bytes ending
+    → ReadSays {A = Unit {0}} (λ _ _. IsUnsatisfiable selected frames) IsRefutationRefused r bytes ending
+refutation_says selected d frames (Ok done) bytes ending formed is says = (says.0, (d, formed, is, says.1))
+refutation_says selected d frames (Err stops.OutOfMemory) bytes ending formed is says = says
+refutation_says selected d frames (Err stops.ReadFailed) bytes ending formed is says = says
+refutation_says selected d frames (Err stops.WriteFailed) bytes ending formed is says = says
+refutation_says selected d frames (Err (stops.Refused fault)) bytes ending formed is says = says
 
-pub refutation_refused : (d : Circuit) (r : Result (Unit {0}) RefutationFault) (reason : RefutationFault)
-    (before after : History) → r ≡ Err reason → Read (RefutationSays d r) before after
-    → Read (NotRead IsRefutationRefused (refutation_stops reason)) before after
-refutation_refused d r reason before after is read =
-    read_weaker _ _ before after (not_refuted reason) (subst (λ s. Read (RefutationSays d s) before after) is read)
-
--- a refutation was read, and it is right
-pub unsatisfiable : (selected d : Circuit) (frames : ℕ) (r : Result (Unit {0}) RefutationFault) (before after : History)
-    → r ≡ Ok tt → IsWellFormed d → IsUnrolled selected frames d → Read (RefutationSays d r) before after
-    → Read (ReadSays {A = Unit {0}} (λ _ _. IsUnsatisfiable selected frames) IsRefutationRefused (Ok tt)) before after
-unsatisfiable selected d frames (Err fault) before after right formed is read = cc
-unsatisfiable selected d frames (Ok done) before after right formed is read =
-    read_weaker _ _ before after (λ _ _ says. (says.0, (d, formed, is, says.1))) read
+pub refutation_read : (selected d : Circuit) (frames : ℕ) (r : Result (Unit {0}) Stopped) (before after : History)
+    → IsWellFormed d → IsUnrolled selected frames d → Read (RefutationSays d r) before after
+    → Read (ReadSays {A = Unit {0}} (λ _ _. IsUnsatisfiable selected frames) IsRefutationRefused r) before after
+refutation_read selected d frames r before after formed is =
+    read_weaker _ _ before after (λ bytes ending. refutation_says selected d frames r bytes ending formed is)
 
 -- where no assignment lets a bad state be 1, no claim is confirmed
 is_none : (request : Reach) (selected : Circuit) → IsUnsatisfiable selected request.frames

@@ -6,17 +6,14 @@ use Rattle.aig_circuit.specs.Wellformed.{IsWellFormed}
 use Rattle.aig_cnf.specs.Clauses.{Satisfies, bad_clauses}
 use Rattle.aig_command.specs.Aiger.{most_frames}
 use Rattle.aig_command.specs.declared.request.Reach.{Reach}
-use Rattle.aig_refute.specs.declared.fault.RefutationFault.{RefutationFault}
 use Rattle.aig_replay.specs.Alone.{HasSelected, selected_of}
 use Rattle.aig_replay.specs.Laws.{IsOfSelected}
 use Rattle.aig_unroll.specs.Unrolled.{IsTooLarge, IsUnrolled, IsUnsupported}
 use Rattle.aig_witness.specs.declared.verdict.Verdict.TheVariants.{Confirmed}
 use Rattle.aig_witness.specs.Witness.{Claim, IsVerdict}
 use Rattle.aig_fault.specs.declared.fault.Fault.{Fault}
-use Rattle.aig_fault.specs.declared.stopped.Stopped.TheVariants.{Refused}
-use Rattle.aig_io.specs.Runs.{Ending}
-use Rattle.aig_refute.specs.Refuted.{EndsFor}
-use Rattle.aig_refute.specs.Stops.{refutation_stops}
+use Rattle.aig_io.specs.Runs.{AtEnd, Ending}
+use Rattle.aig_refute.specs.Refuted.{IsRefusedWhere}
 
 -- the circuit can be unrolled over so many frames
 pub record CanUnroll (c : Circuit) (frames : ℕ) : Type 0 where
@@ -48,9 +45,8 @@ pub record IsNoneText (request : Reach) (selected : Circuit) (text : List ℕ) :
 
 -- It is not known that the clauses are refuted, for this reason.
 abbrev pub NotRefuted : Fault → Type 0
-NotRefuted fault = (reason : RefutationFault) × (refutation_stops reason ≡ Refused fault)
+NotRefuted fault = IsRefusedWhere fault AtEnd
 
 -- The refutation is refused for this reason, where its bytes ended so.
 abbrev pub IsRefutationRefused : Fault → List ℕ → Ending → Type 0
-IsRefutationRefused fault bytes ending =
-    (reason : RefutationFault) × (refutation_stops reason ≡ Refused fault) × EndsFor reason ending
+IsRefutationRefused fault bytes ending = IsRefusedWhere fault ending

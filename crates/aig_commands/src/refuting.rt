@@ -43,7 +43,7 @@ pub(crate) fn read_refutation<R: Source>(
     let unrolled = unrolled_of(alloc, selected, frames)?;
     let checked = check_refutation(alloc, unrolled.as_checked().circuit(), source);
     drop(unrolled); // for the proof
-    Ok(checked?)
+    checked
 }
 
 /// Reads a solver's refutation of the clauses of this circuit, by which no run of so many steps

@@ -15,14 +15,11 @@ use Rattle.aig_step.specs.TraceText.{IsTraceText}
 use Rattle.aig_batch.specs.Batched.{BatchSays}
 use Rattle.aig_dump.specs.InMemory.{IsBadStimulus, StopsInMemory}
 use Rattle.aig_dump.proofs.Lents as lents
-use Rattle.aig_refute.specs.Refuted.{EndsFor}
-use Rattle.aig_refute.specs.declared.fault.RefutationFault.{RefutationFault}
-use Rattle.aig_refute.specs.declared.fault.RefutationFault.TheVariants as refutation_faults
+use Rattle.aig_refute.specs.Refuted.{IsRefusedWhere}
 use Rattle.aig_commands.specs.Jobs.{IsSolvedRefused, Refuses}
 use Rattle.aig_commands.specs.Reaching.{IsReachRefused}
 use Rattle.aig_commands.specs.Reading.{AtAnyTime, AtItsEnd, ReadSays}
 use Rattle.aig_commands.specs.Refuting.{IsRefutationRefused}
-use Rattle.aig_refute.specs.Stops.{refutation_stops}
 use Rattle.aig_commands.specs.declared.job.Reading.{Reading}
 use Rattle.aig_commands.specs.declared.job.Reading.TheVariants as readings
 use Rattle.aig_fault.specs.declared.fault.Fault.{Fault}
@@ -30,13 +27,9 @@ use Rattle.aig_fault.specs.declared.stopped.Stopped.{Stopped}
 use Rattle.aig_fault.specs.declared.stopped.Stopped.TheVariants as stops
 
 -- what a refutation is refused for, it is refused for at its end
-at_end : (reason : RefutationFault) (fault : Fault) → refutation_stops reason ≡ stops.Refused fault
-    → EndsFor reason AtEnd
-at_end refutation_faults.NoRefutation fault same = refl
-at_end refutation_faults.OutOfMemory fault same = tt
-at_end (refutation_faults.BadLine line) fault same = tt
-at_end (refutation_faults.DoesNotFollow line) fault same = tt
-at_end refutation_faults.ReadFailed fault same = cc
+at_end : (fault : Fault) (ending : Ending) → IsRefusedWhere fault ending → IsRefusedWhere fault AtEnd
+at_end fault ending (inl of_line) = inl (of_line.0, tt)
+at_end fault ending (inr last) = inr (last.0, refl)
 
 module _ (input : List ℕ) (now : History) (given : HasGiven now) where
   -- what was made was made of all of the input
@@ -81,7 +74,7 @@ module _ (input : List ℕ) (now : History) (given : HasGiven now) where
 
   refutation : (fault : Fault) (bytes : List ℕ) (ending : Ending) → IsRefutationRefused fault bytes ending
       → IsRefutationRefused fault input AtEnd
-  refutation fault bytes ending (reason, same, ends) = (reason, same, at_end reason fault same)
+  refutation fault bytes ending = at_end fault ending
 
   solved : (by : SolverFile) (request : Reach) (selected : Circuit) (fault : Fault) (bytes : List ℕ) (ending : Ending)
       → now ≡ came bytes ending (unused (lent input)) → IsSolvedRefused by request selected fault bytes ending

@@ -12,16 +12,13 @@
 
 mod checker;
 mod clause_table;
-mod fault;
 mod gates;
 mod kernel;
 mod propagation;
 mod reader;
 mod reading;
-mod stops;
 mod words;
 
 pub use crate::checker::Checker;
-pub use crate::fault::RefutationFault;
 pub use crate::reader::RefutationReader;
 pub use crate::reading::{check_refutation, read_refutation};
