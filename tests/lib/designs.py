@@ -1,0 +1,105 @@
+"""The designs of tests/verilog: what is to be said of each assertion, and what Yosys's own `sat` says.
+
+Behind an assertion stands `//: NAME: ANSWER`, with `; ` between several. Where a design has several clocks an answer `reached` has
+no number: what a step is, is Yosys's choice, so that the number is its own.
+"""
+import dataclasses
+import re
+import subprocess
+from pathlib import Path
+
+FOLDER = Path(__file__).resolve().parent.parent / "verilog"
+WANTED = re.compile(r"//: (.*)")
+# steps that `sat` looks at
+STEPS = 12
+
+
+@dataclasses.dataclass(frozen=True)
+class Design:
+    """Files by their names in the folder, and words of the command line beside them."""
+
+    top: str
+    files: tuple
+    words: tuple = ()
+    # how Yosys reads the files for `sat`
+    reading: str = ""
+    has_clocks: bool = False
+    steps: int = STEPS
+
+
+@dataclasses.dataclass(frozen=True)
+class Assertion:
+    """What is to be said of one: answer is never or reached, and step None where it is Yosys's choice."""
+
+    name: str
+    place: str
+    answer: str
+    step: int | None = None
+
+
+def one(top, **more):
+    return Design(top, (f"{top}.sv",), **more)
+
+
+ONE_CLOCK = ["counter", "memory", "filled_memory", "any_constant", "any_sequence", "any_functions", "past", "edges_of_data"]
+ONE_CLOCK += ["assumed", "assumed_clocked", "contradictory", "assumed_later", "restricted", "uninitialised", "reset_to_1"]
+ONE_CLOCK += ["initial_violated", "initial_assumed", "not_inductive", "left_out", "no_ports", "combinational"]
+ONE_CLOCK += ["many_on_one_line", "identical", "generated", "undefined", "kept", "system", "asynchronous"]
+CLOCKS = ["two_clocks", "clock_bits", "global_clock", "gclk", "falling", "both_edges", "latch", "clocked_latch"]
+BOARD = Design("board", ("parts/meter.sv", "parts/board.sv", "parts/chooser.sv"))
+DEFINED = Design(
+    "defined", ("defined.sv",), ("-D", "CHECKED", "-DWIDTH=3", "-I", "parts"), "-DCHECKED -DWIDTH=3 -I{folder}/parts"
+)
+DEEP = one("deep", words=("--frames", "70"), steps=62)
+DESIGNS = [one(it) for it in ONE_CLOCK] + [one(it, has_clocks=True) for it in CLOCKS]
+DESIGNS += [BOARD, DEFINED, DEEP, Design("plain", ("parts/plain.v",))]
+
+
+def wanted(design, named=str):
+    """The assertions of a design in the order of its source, its files being named so."""
+    found = []
+    for file in design.files:
+        for number, line in enumerate((FOLDER / file).read_text(encoding="ascii").splitlines(), 1):
+            said = WANTED.search(line)
+            for words in said[1].split("; ") if said else []:
+                name, answer = words.split(": ")
+                answer, _, step = answer.partition(" at ")
+                found.append(Assertion(name, f"{named(file)}:{number}", answer, int(step) if step else None))
+    return found
+
+
+def selected(design, assertion):
+    """How Yosys selects the cell of an assertion."""
+    inner = assertion.name.split(".", 1)[1]
+    path, _, label = inner.rpartition(".")
+    file, line = assertion.place.rsplit(":", 1)
+    if label != "assert":
+        named = inner.replace("[", "?").replace("]", "?")
+        return f"t:$assert a:src=*{Path(file).name}:{line}.* %i c:{named} %i"
+    # where one without a label begins, Yosys says where the statement before it ends
+    there = f"t:$assert a:src=*{Path(file).name}:*-{line}.* %i"
+    return f"{there} c:*{path}* %i" if path else there
+
+
+def by_sat(design, assertion):
+    """The least step in which Yosys's `sat` has the assertion fail, if it does within some steps; and whether it shows by
+    induction that none does."""
+    reading = "verilog -sv -formal " + design.reading.format(folder=FOLDER)
+    clocks = "clk2fflogic;" if design.has_clocks else "async2sync;"
+    # without opt, which makes one of two equal assertions
+    script = (
+        f"hierarchy -check -top {design.top}; proc; flatten; memory; {clocks} setundef -undriven -anyseq; "
+        f"techmap -map {FOLDER}/constant_map.v; chformal -live -fair -cover -remove; "
+        f"select -set one {selected(design, assertion)}; select -assert-min 1 @one; delete t:$assert @one %d; opt_clean; "
+        f"sat -tempinduct -prove-asserts -set-assumes -maxsteps {design.steps}"
+    )
+    files = [str(FOLDER / it) for it in design.files]
+    said = subprocess.run(
+        ["yosys", "-Q", "-T", "-f", reading, *files, "-p", script], capture_output=True, text=True, check=False, cwd=FOLDER
+    )
+    if said.returncode:
+        raise ValueError(f"Yosys: {said.stderr}")
+    fails = re.findall(r"\[base case (\d+)\] Solving", said.stdout)
+    if "model found for base case: FAIL!" in said.stdout:
+        return int(fails[-1]) - 1, False
+    return None, "Induction step proven: SUCCESS!" in said.stdout
