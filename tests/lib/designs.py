@@ -44,7 +44,7 @@ def one(top, **more):
 ONE_CLOCK = ["counter", "memory", "filled_memory", "any_constant", "any_sequence", "any_functions", "past", "edges_of_data"]
 ONE_CLOCK += ["assumed", "assumed_clocked", "contradictory", "assumed_later", "restricted", "uninitialised", "reset_to_1"]
 ONE_CLOCK += ["initial_violated", "initial_assumed", "not_inductive", "left_out", "no_ports", "combinational"]
-ONE_CLOCK += ["many_on_one_line", "identical", "generated", "undefined", "kept", "system", "asynchronous"]
+ONE_CLOCK += ["rom", "odd_names", "many_on_one_line", "identical", "generated", "undefined", "kept", "system", "asynchronous"]
 CLOCKS = ["two_clocks", "clock_bits", "global_clock", "gclk", "falling", "both_edges", "latch", "clocked_latch"]
 BOARD = Design("board", ("parts/meter.sv", "parts/board.sv", "parts/chooser.sv"))
 DEFINED = Design(
@@ -74,7 +74,7 @@ def selected(design, assertion):
     path, _, label = inner.rpartition(".")
     file, line = assertion.place.rsplit(":", 1)
     if label != "assert":
-        named = inner.replace("[", "?").replace("]", "?")
+        named = re.sub(r"\W", "?", inner)
         return f"t:$assert a:src=*{Path(file).name}:{line}.* %i c:{named} %i"
     # where one without a label begins, Yosys says where the statement before it ends
     there = f"t:$assert a:src=*{Path(file).name}:*-{line}.* %i"
