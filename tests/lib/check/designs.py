@@ -8,7 +8,7 @@ import re
 import subprocess
 from pathlib import Path
 
-FOLDER = Path(__file__).resolve().parent.parent / "verilog"
+FOLDER = Path(__file__).resolve().parent.parent.parent / "verilog"
 WANTED = re.compile(r"//: (.*)")
 # steps that `sat` looks at
 STEPS = 12
@@ -81,25 +81,49 @@ def selected(design, assertion):
     return f"{there} c:*{path}* %i" if path else there
 
 
+def prepared(design, assertion):
+    """The commands of Yosys for a design with this assertion alone, without opt, which makes one of two equal assertions."""
+    clocks = "clk2fflogic" if design.has_clocks else "async2sync"
+    return (
+        f"hierarchy -check -top {design.top}; proc; flatten; memory; {clocks}; setundef -undriven -anyseq; "
+        f"chformal -live -fair -cover -remove; select -set one {selected(design, assertion)}; "
+        "select -assert-min 1 @one; delete t:$assert @one %d; opt_clean"
+    )
+
+
+def yosys(design, script):
+    """What Yosys says."""
+    reading, files = "verilog -sv -formal " + design.reading.format(folder=FOLDER), [str(FOLDER / it) for it in design.files]
+    words = ["yosys", "-Q", "-T", "-f", reading, *files, "-p", script]
+    said = subprocess.run(words, capture_output=True, text=True, check=False, cwd=FOLDER)
+    if said.returncode:
+        raise ValueError(f"Yosys: {said.stderr}")
+    return said.stdout
+
+
 def by_sat(design, assertion):
     """The least step in which Yosys's `sat` has the assertion fail, if it does within some steps; and whether it shows by
     induction that none does."""
-    reading = "verilog -sv -formal " + design.reading.format(folder=FOLDER)
-    clocks = "clk2fflogic;" if design.has_clocks else "async2sync;"
-    # without opt, which makes one of two equal assertions
-    script = (
-        f"hierarchy -check -top {design.top}; proc; flatten; memory; {clocks} setundef -undriven -anyseq; "
-        f"techmap -map {FOLDER}/constant_map.v; chformal -live -fair -cover -remove; "
-        f"select -set one {selected(design, assertion)}; select -assert-min 1 @one; delete t:$assert @one %d; opt_clean; "
-        f"sat -tempinduct -prove-asserts -set-assumes -maxsteps {design.steps}"
-    )
-    files = [str(FOLDER / it) for it in design.files]
-    said = subprocess.run(
-        ["yosys", "-Q", "-T", "-f", reading, *files, "-p", script], capture_output=True, text=True, check=False, cwd=FOLDER
-    )
-    if said.returncode:
-        raise ValueError(f"Yosys: {said.stderr}")
-    fails = re.findall(r"\[base case (\d+)\] Solving", said.stdout)
-    if "model found for base case: FAIL!" in said.stdout:
-        return int(fails[-1]) - 1, False
-    return None, "Induction step proven: SUCCESS!" in said.stdout
+    constants = f"techmap -map {FOLDER}/constant_map.v"
+    asked = f"sat -tempinduct -prove-asserts -set-assumes -maxsteps {design.steps}"
+    said = yosys(design, f"{prepared(design, assertion)}; {constants}; {asked}")
+    if "model found for base case: FAIL!" in said:
+        return int(re.findall(r"\[base case (\d+)\] Solving", said)[-1]) - 1, False
+    return None, "Induction step proven: SUCCESS!" in said
+
+
+def written(design, assertion, file):
+    """Writes the model of a design with this assertion alone."""
+    gates = "techmap; simplemap; dffunmap; aigmap; opt_clean"
+    yosys(design, f"{prepared(design, assertion)}; {gates}; write_aiger {file}")
+
+
+def by_abc(file, steps):
+    """The least step in which ABC has an output of a model be 1, if there is one, or None; what it says is not understood
+    where it knows of none, and has no proof either."""
+    commands = f"&r {file}; &put; bmc3 -F {steps}; pdr -T 60"
+    said = subprocess.run(["berkeley-abc", "-q", commands], capture_output=True, text=True, check=False).stdout
+    asserted = re.search(r"was asserted in frame (\d+)", said)
+    if not asserted and not re.search("Property proved|Explored all reachable states", said):
+        raise ValueError(f"ABC: {said}")
+    return int(asserted[1]) if asserted else None
