@@ -9,6 +9,7 @@ import itertools
 import json
 import os
 import re
+import shutil
 import subprocess
 import sys
 import tempfile
@@ -249,3 +250,7 @@ def judge_kept(room_, kept, found, said):
         lines = [line for line in text.split("\n") if re.search(r"aigunroll|aigsim|aigtoaig", line)]
         need(1 <= len(lines) <= 5, f"{script.name} is {text!r}", said)
         need(succeeds(str(script), room_, room_.folder), f"{script.name} fails: {text!r}", said)
+
+
+def is_there(name):
+    return shutil.which(name) is not None

@@ -1,7 +1,10 @@
 """Programs in the place of aiger, Yosys, ABC and the solver: honest small ones, and those that lie, fail, sleep or are killed."""
 import shlex
 import sys
+import time
 from pathlib import Path
+
+from lib.check import checked
 
 TOOLS = Path(__file__).resolve().parent / "tools"
 
@@ -123,3 +126,22 @@ def failing(folder, name, real, word, with_words="", status=1):
     said = f"echo {shlex.quote(with_words)}; " if with_words else ""
     body = f'case " $* " in *" {word} "*) {said}exit {status} ;; esac\nexec {shlex.quote(real)} "$@"'
     return put(folder, name, body)
+
+
+def is_alive(number):
+    """Whether a process is there, and not ended already."""
+    try:
+        state = Path(f"/proc/{number}/stat").read_text(encoding="ascii").rpartition(")")[2].split()[0]
+    except OSError:
+        return False
+    return state not in "ZX"
+
+
+def need_ended(begun, said=""):
+    """That what wrote its numbers is ended, and so are its children; a signal takes a while."""
+    numbers = begun.read_text(encoding="ascii").split()
+    last = time.monotonic() + 60
+    while any(map(is_alive, numbers)):
+        if time.monotonic() > last:
+            raise checked.Wrong(f"{numbers} are still there: {said}")
+        time.sleep(0.02)
