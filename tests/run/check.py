@@ -1,11 +1,12 @@
 #!/usr/bin/env python3
-"""aiger-check: what it says of designs, beside Yosys's own `sat` and ABC; of models made by chance, beside all their states; and
-that no tool that lies, fails, sleeps or is missing, no full disk and no interrupt gives a wrong line or leaves anything.
+"""aiger-check: what it says of designs, beside Yosys's own `sat` and ABC; of models made by chance, beside all their
+states; and that no tool that lies, fails, sleeps or is missing, no full disk and no interrupt gives a wrong line or
+leaves anything.
 
     tests/run/check.py PROGRAM [NAME]     all rows, or those that have this in their names
 
-The variable CHECK names another aiger_check.py than that of this folder's repository. Rows that need Yosys, ABC or a solver
-count as skipped where it is not installed.
+The variable CHECK names another aiger_check.py than that of this folder's repository. Rows that need Yosys, ABC or a
+solver count as skipped where it is not installed.
 """
 import concurrent.futures
 import os

@@ -1,8 +1,8 @@
 """Runs aiger-check in a folder of its own, and judges what it says, leaves and keeps.
 
-What is so of an assertion is its name, its place and the first step in which it fails, or None. An answer may be wanted in one
-of three ways: exact (`never` where it never fails), bounded (`none within K` will do), and safe, where tools lie or are missing:
-then `unknown` will do too, but nothing that is wrong.
+What is so of an assertion is its name, its place and the first step in which it fails, or None. An answer may be wanted
+in one of three ways: exact (`never` where it never fails), bounded (`none within K` will do), and safe, where tools lie
+or are missing: then `unknown` will do too, but nothing that is wrong.
 """
 import dataclasses
 import itertools
@@ -20,7 +20,8 @@ CHECK = os.environ.get("CHECK", str(TOP / "python" / "aiger_check.py"))
 FRAMES = 50
 # what a machine under load may take
 LONGEST = 600
-LINE = re.compile(r"(?P<name>.*) \((?P<source>[^()]*)\): (?P<answer>never|none within|reached at|unknown)(?P<rest>.*)", re.DOTALL)
+ANSWERS = "never|none within|reached at|unknown"
+LINE = re.compile(rf"(?P<name>.*) \((?P<source>[^()]*)\): (?P<answer>{ANSWERS})(?P<rest>.*)", re.DOTALL)
 KINDS = ["never", "none within", "reached", "unknown"]
 SUM = re.compile(r"(\d+) assertions?(?:: (.*))?")
 KEPT = re.compile(r"model-[0-9a-f]+\.aig|.+\.(aiw|vcd|drat|pla|check\.sh)")
@@ -186,7 +187,8 @@ def is_right(truth, it, way, frames):
     if it.answer == "never":
         return step is None
     if it.answer == "none within":
-        return (step is None or it.steps <= step) and (way == SAFE or it.steps >= frames and (step is not None or way == BOUNDED))
+        is_enough = it.steps >= frames and (step is not None or way == BOUNDED)
+        return (step is None or it.steps <= step) and (way == SAFE or is_enough)
     if it.answer != "reached" or step is None:
         return False
     return it.steps == step or way == SAFE and it.steps > step

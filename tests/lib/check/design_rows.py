@@ -1,5 +1,5 @@
-"""Rows of designs: what is said of each assertion, in lines and as an object, kept and checked again, by each solver; and what
-Yosys's own `sat`, ABC and a search through all states say of the same assertion."""
+"""Rows of designs: what is said of each assertion, in lines and as an object, kept and checked again, by each solver;
+and what Yosys's own `sat`, ABC and a search through all states say of the same assertion."""
 import functools
 import itertools
 import os
@@ -11,7 +11,7 @@ from lib.check import checked, designs, reached
 from lib.check.checked import Truth
 
 # states and inputs of which a search through all of them looks at
-SMALL = 8
+SMALL = 6
 BY_HAND = ["cadical", "kissat", "cryptominisat5", "minisat", "picosat"]
 WITHOUT_REFUTATION = ["minisat", "picosat"]
 TOOLS = ["yosys", "berkeley-abc", "cadical"]
@@ -65,7 +65,7 @@ def as_object(design, room):
 
 
 def least(design, assertion):
-    """What is to be said of an assertion; of several in one place that Yosys cannot tell apart, the first step of all."""
+    """Whether an assertion is reached, and where; of several in one place, which Yosys cannot tell apart, the first."""
     same = [it for it in designs.wanted(design) if (it.name, it.place) == (assertion.name, assertion.place)]
     steps = [it.step for it in same if it.answer == "reached"]
     return bool(steps), min((it for it in steps if it is not None), default=None)
@@ -82,7 +82,7 @@ def by_sat(design, assertion, _):
 def by_abc(design, assertion, room):
     """What ABC says of the assertion's own model, and what all its states do where they are few."""
     need_tools("yosys", "berkeley-abc")
-    model, folded = room.folder / "model.aig", room.folder / "folded.aig"
+    model, folded = room.folder / "model.aig", [room.folder / f"folded.{it}" for it in ("aag", "aig")]
     designs.written(design, assertion, model)
     text = subprocess.run([room.program, "aigtoaig", "--ascii", model], capture_output=True, check=True).stdout
     made = reached.read(text)
@@ -91,11 +91,11 @@ def by_abc(design, assertion, room):
     if len(made.latches) + len(made.inputs) <= SMALL:
         steps = [it for it in reached.steps(made) if it is not None]
         checked.need(min(steps, default=None) == wanted, f"a search through all states finds {steps}, not {wanted}")
-    every = [it for it in range(len(made.bad))]
     steps = []
-    for bad in every:
-        folded.write_bytes(images.image(reached.folded(made, bad)))
-        steps.append(designs.by_abc(folded, design.steps))
+    for bad in range(len(made.bad)):
+        folded[0].write_bytes(images.ascii_text(reached.folded(made, bad)))
+        subprocess.run([room.program, "aigtoaig", *folded], check=True)
+        steps.append(designs.by_abc(folded[1], design.steps))
     came = min((it for it in steps if it is not None), default=None)
     checked.need(came == wanted, f"ABC says {steps}, not {wanted}")
 
@@ -110,9 +110,8 @@ def by_solver(solver, design, room):
     found = checked.judge(said, wanted, way)
     if way == checked.EXACT:
         return
-    for truth, it in zip(sorted(wanted, key=str), sorted(found, key=lambda it: str(Truth(it.name, it.source, it.steps)))):
-        checked.need(it.answer == "unknown" or it.steps == truth.step, f"{truth} has {it}", said)
-    checked.need(sum(it.answer == "reached" for it in found) == sum(it.step is not None for it in wanted), "one is missed", said)
+    came = sorted(it.steps for it in found if it.answer == "reached")
+    checked.need(came == sorted(it.step for it in wanted if it.step is not None), "another step", said)
     for it in found:
         checked.need(it.answer != "unknown" or "cadical" in it.reason, "cadical is not named", said)
 
@@ -162,7 +161,8 @@ def noted_clocks(design, room):
     need_tools(*TOOLS)
     placed(room)
     said = room.run(*words_of(design))
-    checked.need(any("aiger-check: " in it and "clock" in it for it in said.err.splitlines()), "no note of clocks", said)
+    is_noted = any(it.startswith("aiger-check: ") and "clock" in it for it in said.err.splitlines())
+    checked.need(is_noted, "no note of clocks", said)
 
 
 def says_nothing(words, patterns, room):
@@ -255,15 +255,15 @@ def rows():
         for it in designs.wanted(design):
             yield f"{it.name} of {it.place} by sat", each(by_sat, design, it)
             yield f"{it.name} of {it.place} by ABC", each(by_abc, design, it)
-    for solver, top in itertools.product(BY_HAND, ["counter", "not_inductive", "two_clocks", "memory", "initial_violated"]):
-        design = next(it for it in designs.DESIGNS if it.top == top)
-        yield f"the design {top} by {solver}", each(by_solver, solver, design)
+    some = ["counter", "not_inductive", "two_clocks", "memory", "initial_violated"]
+    for solver, top in itertools.product(BY_HAND, some):
+        yield f"the design {top} by {solver}", each(by_solver, solver, designs.named(top))
     for top in ("counter", "assumed", "two_clocks", "memory", "identical"):
-        yield f"the design {top} without ABC", each(without_abc, next(it for it in designs.DESIGNS if it.top == top))
+        yield f"the design {top} without ABC", each(without_abc, designs.named(top))
     for frames, answer in ((1, "none within 1"), (60, "none within 60"), (61, "reached at 60")):
         yield f"a bound of {frames}", each(bound, frames, answer)
     for top in ("two_clocks", "clock_bits", "global_clock", "gclk", "both_edges", "latch", "clocked_latch"):
-        yield f"a note of the clocks of {top}", each(noted_clocks, next(it for it in designs.DESIGNS if it.top == top))
+        yield f"a note of the clocks of {top}", each(noted_clocks, designs.named(top))
     for name, (words, patterns) in REFUSED.items():
         yield name, each(says_nothing, words, patterns)
     yield "deeper than the bound", deep

@@ -1,7 +1,7 @@
 """The designs of tests/verilog: what is to be said of each assertion, and what Yosys's own `sat` says.
 
-Behind an assertion stands `//: NAME: ANSWER`, with `; ` between several. Where a design has several clocks an answer `reached` has
-no number: what a step is, is Yosys's choice, so that the number is its own.
+Behind an assertion stands `//: NAME: ANSWER`, with `; ` between several. Where a design has several clocks an answer
+`reached` has no number: what a step is, is Yosys's choice, so that the number is its own.
 """
 import dataclasses
 import re
@@ -41,10 +41,11 @@ def one(top, **more):
     return Design(top, (f"{top}.sv",), **more)
 
 
-ONE_CLOCK = ["counter", "memory", "filled_memory", "any_constant", "any_sequence", "any_functions", "past", "edges_of_data"]
-ONE_CLOCK += ["assumed", "assumed_clocked", "contradictory", "assumed_later", "restricted", "uninitialised", "reset_to_1"]
-ONE_CLOCK += ["initial_violated", "initial_assumed", "not_inductive", "left_out", "no_ports", "combinational"]
-ONE_CLOCK += ["rom", "odd_names", "many_on_one_line", "identical", "generated", "undefined", "kept", "system", "asynchronous"]
+ONE_CLOCK = ["counter", "memory", "filled_memory", "any_constant", "any_sequence", "any_functions", "past"]
+ONE_CLOCK += ["edges_of_data", "assumed", "assumed_clocked", "contradictory", "assumed_later", "restricted"]
+ONE_CLOCK += ["uninitialised", "reset_to_1", "initial_violated", "initial_assumed", "not_inductive", "left_out"]
+ONE_CLOCK += ["no_ports", "combinational", "rom", "odd_names", "many_on_one_line", "identical", "generated"]
+ONE_CLOCK += ["undefined", "kept", "system", "asynchronous"]
 CLOCKS = ["two_clocks", "clock_bits", "global_clock", "gclk", "falling", "both_edges", "latch", "clocked_latch"]
 BOARD = Design("board", ("parts/meter.sv", "parts/board.sv", "parts/chooser.sv"))
 DEFINED = Design(
@@ -55,8 +56,12 @@ DESIGNS = [one(it) for it in ONE_CLOCK] + [one(it, has_clocks=True) for it in CL
 DESIGNS += [BOARD, DEFINED, DEEP, Design("plain", ("parts/plain.v",))]
 
 
-def wanted(design, named=str):
-    """The assertions of a design in the order of its source, its files being named so."""
+def named(top):
+    return next(it for it in DESIGNS if it.top == top)
+
+
+def wanted(design):
+    """The assertions of a design in the order of its source."""
     found = []
     for file in design.files:
         for number, line in enumerate((FOLDER / file).read_text(encoding="ascii").splitlines(), 1):
@@ -64,7 +69,7 @@ def wanted(design, named=str):
             for words in said[1].split("; ") if said else []:
                 name, answer = words.split(": ")
                 answer, _, step = answer.partition(" at ")
-                found.append(Assertion(name, f"{named(file)}:{number}", answer, int(step) if step else None))
+                found.append(Assertion(name, f"{file}:{number}", answer, int(step) if step else None))
     return found
 
 
@@ -82,7 +87,7 @@ def selected(design, assertion):
 
 
 def prepared(design, assertion):
-    """The commands of Yosys for a design with this assertion alone, without opt, which makes one of two equal assertions."""
+    """The commands of Yosys for a design with this assertion alone: without opt, which makes one of two equal ones."""
     clocks = "clk2fflogic" if design.has_clocks else "async2sync"
     return (
         f"hierarchy -check -top {design.top}; proc; flatten; memory; {clocks}; setundef -undriven -anyseq; "
@@ -93,7 +98,8 @@ def prepared(design, assertion):
 
 def yosys(design, script):
     """What Yosys says."""
-    reading, files = "verilog -sv -formal " + design.reading.format(folder=FOLDER), [str(FOLDER / it) for it in design.files]
+    reading = "verilog -sv -formal " + design.reading.format(folder=FOLDER)
+    files = [str(FOLDER / it) for it in design.files]
     words = ["yosys", "-Q", "-T", "-f", reading, *files, "-p", script]
     said = subprocess.run(words, capture_output=True, text=True, check=False, cwd=FOLDER)
     if said.returncode:
@@ -102,8 +108,8 @@ def yosys(design, script):
 
 
 def by_sat(design, assertion):
-    """The least step in which Yosys's `sat` has the assertion fail, if it does within some steps; and whether it shows by
-    induction that none does."""
+    """The least step in which Yosys's `sat` has the assertion fail, if it does within some steps; and whether it shows
+    by induction that none does."""
     constants = f"techmap -map {FOLDER}/constant_map.v"
     asked = f"sat -tempinduct -prove-asserts -set-assumes -maxsteps {design.steps}"
     said = yosys(design, f"{prepared(design, assertion)}; {constants}; {asked}")
@@ -119,8 +125,7 @@ def written(design, assertion, file):
 
 
 def by_abc(file, steps):
-    """The least step in which ABC has an output of a model be 1, if there is one, or None; what it says is not understood
-    where it knows of none, and has no proof either."""
+    """The least step in which ABC has the bad state of a model be 1, or None where it shows that there is none."""
     commands = f"&r {file}; &put; bmc3 -F {steps}; pdr -T 60"
     said = subprocess.run(["berkeley-abc", "-q", commands], capture_output=True, text=True, check=False).stdout
     asserted = re.search(r"was asserted in frame (\d+)", said)

@@ -1,5 +1,5 @@
-"""Rows of files: full disks, folders that cannot be written, runs side by side, files of the user's, and certificates that are
-changed."""
+"""Rows of files: full disks, folders that cannot be written, runs side by side, files of the user's, and certificates
+that are changed."""
 import concurrent.futures
 import functools
 import os
@@ -10,12 +10,14 @@ import subprocess
 import sys
 from pathlib import Path
 
+from lib import traces
 from lib.check import checked, design_rows, designs, model_rows
 from lib.check.model_rows import LATE, NEVER, TEXTS, TOGGLE, TOKENS
 
 # what scripts of old wrote where they were run, and other names that one might take
-USERS = ["answer", "result", "run.aiw", "run.vcd", "clauses.cnf", "clauses.drat", "counterexample", "design.aig", "design.map"]
-USERS += ["proved.pla", "invariant.pla", "model.aig", "abc.log", "solver.log", "b0.aiw", "b0.vcd", "b0.check.sh", "abc.history"]
+USERS = ["answer", "result", "run.aiw", "run.vcd", "clauses.cnf", "clauses.drat", "counterexample", "design.aig"]
+USERS += ["design.map", "proved.pla", "invariant.pla", "model.aig", "abc.log", "solver.log", "b0.aiw", "b0.vcd"]
+USERS += ["b0.check.sh", "abc.history"]
 
 
 def put(room, which, name="model.aag"):
@@ -55,7 +57,8 @@ def small_disk(size, keeps, room):
     disk = room.folder / "disk"
     disk.mkdir()
     words = [sys.executable, checked.CHECK, "--frames", "8", *(["--keep", str(disk)] if keeps else []), "model.aag"]
-    script = f'mount -t tmpfs -o size={size} tmpfs "$0" || exit 99; "$@"; s=$?; [ -z "$(ls -A "$TMPDIR")" ] || exit 98; exit $s'
+    script = f'mount -t tmpfs -o size={size} tmpfs "$0" || exit 99; "$@"; status=$?; '
+    script += '[ -z "$(ls -A "$TMPDIR")" ] || exit 98; exit $status'
     settings = room.settings({**model_rows.honest(room), "TMPDIR": str(room.temporary if keeps else disk)})
     ran = subprocess.run(
         ["unshare", "-rm", "bash", "-c", script, str(disk), *words], cwd=room.here, env=settings, text=True,
@@ -90,9 +93,9 @@ def closed(streams, room):
     """Some of the streams are closed."""
     put(room, TOKENS)
     words = [sys.executable, checked.CHECK, "model.aag"]
-    script = '"$@" ' + streams
+    words = ["bash", "-c", '"$@" ' + streams, "-", *words]
     settings = room.settings(model_rows.honest(room))
-    ran = subprocess.run(["bash", "-c", script, "-", *words], cwd=room.here, env=settings, capture_output=True, check=False)
+    ran = subprocess.run(words, cwd=room.here, env=settings, capture_output=True, check=False)
     checked.need(ran.returncode == (2 if ">&-" in streams.replace("2>&-", "") else 0), "another status", ran)
     checked.need(not any(room.temporary.iterdir()), "something is left", ran)
     checked.need(b"Traceback" not in ran.stderr, "a traceback", ran)
@@ -105,7 +108,8 @@ def unwritable(make, room):
     folder = make(room)
     said = room.run("--keep", folder, "model.aag", changes=model_rows.honest(room))
     checked.need(said.status == 2, "status 2 is due", said)
-    checked.need(any("aiger-check: " in it and Path(folder).name in it for it in said.err.splitlines()), "it is not said", said)
+    is_said = any(it.startswith("aiger-check: ") and Path(folder).name in it for it in said.err.splitlines())
+    checked.need(is_said, "it is not said", said)
 
 
 def forbidden(room):
@@ -271,14 +275,12 @@ def changed(which, frames, changes, how, room):
 
 def another_model(room, kept):
     """In place of the model one in which a bad state is reached at once."""
-    text = checked.model_of(kept).read_bytes()
-    made = subprocess.run([room.program, "aigtoaig", "--ascii"], input=text, capture_output=True, check=True).stdout.decode()
-    head, *lines = made.split("\n")
+    head, *lines = traces.converted(room.program, checked.model_of(kept).read_bytes(), "--ascii").decode().split("\n")
     counts = [int(it) for it in head.split()[1:]]
     at = counts[1] + counts[2] + counts[3]
     lines[at] = "1"
-    other = subprocess.run([room.program, "aigtoaig"], input="\n".join([head, *lines]).encode(), capture_output=True, check=True)
-    checked.model_of(kept).write_bytes(other.stdout)
+    other = traces.converted(room.program, "\n".join([head, *lines]).encode())
+    checked.model_of(kept).write_bytes(other)
 
 
 def no_model(_, kept):

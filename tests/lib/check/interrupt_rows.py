@@ -64,7 +64,7 @@ def at_some_moment(part, room):
     design_rows.need_tools(*design_rows.TOOLS)
     design_rows.placed(room)
     room.may_write.add("kept")
-    design = next(it for it in designs.DESIGNS if it.top == ["board", "memory", "not_inductive", "two_clocks"][part % 4])
+    design = designs.named(["board", "memory", "not_inductive", "two_clocks"][part % 4])
     words, before = ["--keep", "kept", *design_rows.words_of(design)], room.files()
     run = room.start(*words, start_new_session=True)
     wait_for(lambda: any(room.temporary.iterdir()), run)

@@ -1,5 +1,5 @@
-"""Rows of AIGER models: of each kind, with odd names, and 200 made by chance beside a search through all their states. They run with
-small stand-ins of ABC and of the solver, and again with these themselves where they are installed."""
+"""Rows of AIGER models: of each kind, with odd names, and 200 made by chance beside a search through all their states.
+They run with small stand-ins of ABC and of the solver, and again with these themselves where they are installed."""
 import functools
 import os
 import re
@@ -104,8 +104,8 @@ def by_symbol(symbols, room):
     (room.here / "model.aag").write_text(text, encoding="utf-8", errors="surrogateescape")
     room.may_write.add("kept")
     said = room.run("--json", "--keep", "kept", "model.aag", changes=changes)
-    truths = [Truth(it, "model.aag", step) for it, step in zip([*symbols, "b2", "b3"][: max(4, len(symbols))], [1, 2, None, None])]
-    found = checked.judge(said, truths[:4])
+    names = [*symbols, *["b0", "b1", "b2", "b3"][len(symbols) :]]
+    found = checked.judge(said, [Truth(it, "model.aag", step) for it, step in zip(names, [1, 2, None, None])])
     checked.judge_kept(room, room.here / "kept", found, said)
     lines = room.run("model.aag", changes=changes)
     checked.need(len(lines.out.splitlines()) == 5, "a line for each", lines)
@@ -195,7 +195,8 @@ def by_stream(room):
     changes = honest(room)
     os.mkfifo(room.here / "pipe")
     text, steps = TEXTS[LATE]
-    with subprocess.Popen(["bash", "-c", 'timeout 100 cat > "$0"', str(room.here / "pipe")], stdin=subprocess.PIPE) as writer:
+    words = ["bash", "-c", 'exec cat > "$0"', str(room.here / "pipe")]
+    with subprocess.Popen(words, stdin=subprocess.PIPE) as writer:
         writer.stdin.write(text.encode())
         writer.stdin.close()
         said = room.run("pipe", changes=changes)

@@ -1,4 +1,4 @@
-"""Small models made by chance, and in which step each of their bad states is reached first, by trying all states and inputs."""
+"""Small models made by chance, and in which step each of their bad states is reached first, by all states."""
 import dataclasses
 import itertools
 import random
@@ -75,7 +75,7 @@ def steps(made):
 
 
 def folded(made, bad):
-    """The circuit with one bad state, which is 1 only while the constraints hold and held: for a tool that knows none."""
+    """The circuit with one bad state, which is 1 only while the constraints hold and held, for a tool without them."""
     taken = {*made.inputs, *made.latches, *(gate[0] // 2 for gate in made.gates)}
     spare = (it for it in itertools.count(1) if it not in taken)
     gates, failed = list(made.gates), next(spare)

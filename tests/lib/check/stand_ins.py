@@ -1,4 +1,5 @@
-"""Programs in the place of aiger, Yosys, ABC and the solver: honest small ones, and those that lie, fail, sleep or are killed."""
+"""Programs in the place of aiger, Yosys, ABC and the solver: honest small ones, and those that lie, fail, sleep or are
+killed."""
 import shlex
 import sys
 import time
@@ -69,7 +70,7 @@ ABC_LIES = {
     "proved, and a folder": f'rm -rf "$invariant"; mkdir "$invariant"; {PROVED}',
     "rows that are not said to be proved": "printf -- '--1 1\\n' > \"$invariant\"; echo 'Property UNDECIDED.'",
     "that it is not so": "echo 'Property DISPROVED.'",
-    "a counterexample that is none": "echo 'Output 0 of miter \"model\" was asserted in frame 0.'; echo 0 > counterexample",
+    "a counterexample": "echo 'Output 0 of miter \"model\" was asserted in frame 0.'; echo 0 > counterexample",
     "a counterexample in a later frame": "echo 'Output 0 of miter \"model\" was asserted in frame 7.'",
     "nothing": "exit 0",
     "any bytes": "head -c 3000 /dev/urandom",

@@ -107,27 +107,24 @@ def lying_solver(said, which, has_abc, room):
 def turned_solver(which, room):
     """The solver says the opposite of what is so."""
     truths = put(room, which)
-    changes = {"SOLVER": stand_ins.turned_solver(room.folder / "lies"), "ABC": stand_ins.honest_abc(room.folder / "lies")}
+    changes = {**model_rows.honest(room), "SOLVER": stand_ins.turned_solver(room.folder / "lies")}
     checked.judge(room.run("--frames", "8", "model.aag", changes=changes), truths, checked.SAFE, 8)
 
 
 def lying_abc(said, which, room):
     """ABC says what is not so: the solver still finds what is so within the bound."""
     truths = put(room, which)
-    changes = {"ABC": stand_ins.lying_abc(room.folder / "lies", said), "SOLVER": stand_ins.honest_solver(room.folder / "lies")}
+    changes = {**model_rows.honest(room), "ABC": stand_ins.lying_abc(room.folder / "lies", said)}
     checked.judge(room.run("--frames", "8", "model.aag", changes=changes), truths, checked.BOUNDED, 8)
 
 
 def rows_of_another_model(room):
     """ABC gives an invariant that is one, but of another model."""
     truths = put(room, LATE)
-    body = stand_ins.INVARIANT + "printf -- '-11 1\\n--1 1\\n---1 1\\n----1 1\\n-----1 1\\n' > \"$invariant\"; " + stand_ins.PROVED
-    changes = {"ABC": stand_ins.put(room.folder / "lies", "berkeley-abc", body), **honest_solver(room)}
+    rows_ = r"-11 1\n--1 1\n---1 1\n----1 1\n-----1 1\n"
+    body = f"{stand_ins.INVARIANT}printf -- '{rows_}' > \"$invariant\"; {stand_ins.PROVED}"
+    changes = {**model_rows.honest(room), "ABC": stand_ins.put(room.folder / "lies", "berkeley-abc", body)}
     checked.judge(room.run("--frames", "8", "model.aag", changes=changes), truths, checked.BOUNDED, 8)
-
-
-def honest_solver(room):
-    return {"SOLVER": stand_ins.honest_solver(room.folder / "lies")}
 
 
 def unproved_rows(which, room):
@@ -135,7 +132,7 @@ def unproved_rows(which, room):
     truths = put(room, which)
     for end in (" | sed 's/Property proved/Property UNDECIDED/'", "; exit 3", "; kill -KILL $$"):
         honest = f"{stand_ins.runs('abc.py').removeprefix('exec ')} \"$@\"{end}"
-        changes = {"ABC": stand_ins.put(room.folder / "lies", "berkeley-abc", honest), **honest_solver(room)}
+        changes = {**model_rows.honest(room), "ABC": stand_ins.put(room.folder / "lies", "berkeley-abc", honest)}
         checked.judge(room.run("--frames", "8", "model.aag", changes=changes), truths, checked.BOUNDED, 8)
 
 

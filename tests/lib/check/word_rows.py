@@ -53,14 +53,15 @@ def usage(words, patterns, room):
     checked.refused(room.run(*words, changes=model_rows.honest(room)), *patterns)
 
 
-OPTIONS = "--top -D -I --frames --time --limit --jobs --solver -s --keep --json --quiet --help --version AIGER YOSYS ABC SOLVER"
+OPTIONS = "--top -D -I --frames --time --limit --jobs --solver -s --keep --json --quiet --help --version"
+VARIABLES = "AIGER YOSYS ABC SOLVER"
 
 
 def help_(words, room):
     """The help names each option, and what is trusted; it needs no tool."""
     said = room.run(*words, changes={"PATH": "/nowhere", "AIGER": None})
     checked.need((said.status, said.err) == (0, ""), "another end", said)
-    missing = [it for it in OPTIONS.split() if it not in said.out]
+    missing = [it for it in [*OPTIONS.split(), *VARIABLES.split()] if it not in said.out]
     checked.need(not missing, f"{missing} are not named", said)
     checked.need("trust" in said.out or "not proved" in said.out, "what is trusted is not said", said)
     checked.need(all(len(it) <= 100 for it in said.out.splitlines()), "a long line", said)
@@ -76,7 +77,8 @@ def alike(which, room):
     put(room, which)
     changes = model_rows.honest(room)
     lines, as_object = room.run("model.aag", changes=changes), room.run("--json", "model.aag", changes=changes)
-    checked.need(checked.answers_of(lines) == checked.answers_of(as_object), f"{as_object} is another answer than", lines)
+    are_alike = checked.answers_of(lines) == checked.answers_of(as_object)
+    checked.need(are_alike, f"{as_object} is another answer than", lines)
     checked.need(lines.status == as_object.status, f"{as_object} has another status than", lines)
     keys = {"never": set(), "none within": {"steps"}, "reached": {"steps"}, "unknown": {"reason"}}
     for it in json.loads(as_object.out)["assertions"]:
@@ -102,7 +104,8 @@ def spelled(words, room):
 
 
 SPELLED = [["--frames=6", "model.aag"], ["--frames", "6", "model.aag"], ["model.aag", "--frames", "6"]]
-SPELLED += [["--jobs=2", "--frames=6", "--time=5", "--limit=60", "--quiet", "model.aag"], ["--frames", "6", "--", "model.aag"]]
+SPELLED += [["--jobs=2", "--frames=6", "--time=5", "--limit=60", "--quiet", "model.aag"]]
+SPELLED += [["--frames", "6", "--", "model.aag"]]
 
 
 def defined(words, room):
@@ -117,7 +120,8 @@ def defined(words, room):
     checked.judge(said, [checked.Truth("m.low", "m.sv:5", None)])
 
 
-DEFINED = [["-D", "A=3", "-D", "B"], ["-DA=3", "-DB"], ["-DB=1", "-D", "A=3'b011"], ["-D", "A=(1 + 2)", "-D", "B=\"b\""]]
+DEFINED = [["-D", "A=3", "-D", "B"], ["-DA=3", "-DB"], ["-DB=1", "-D", "A=3'b011"]]
+DEFINED += [["-D", "A=(1 + 2)", "-D", "B=\"b\""]]
 
 
 def quiet(room):

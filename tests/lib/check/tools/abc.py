@@ -1,4 +1,4 @@
-"""In the place of ABC: `read_aiger FILE` (or `read`, `&r`), then `pdr .. -I FILE`, of a small model in binary, by all its states.
+"""In the place of ABC: `read_aiger FILE` (or `read`, `&r`), then `pdr .. -I FILE`, of a small binary model.
 
     abc.py -q COMMANDS     COMMANDS have `; ` between them; also -c, and -f with a file that has them
 """

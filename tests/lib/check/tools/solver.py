@@ -1,4 +1,4 @@
-"""In the place of CaDiCaL: solves small clauses by trying values, and writes the clauses that it learns as a refutation.
+"""In the place of CaDiCaL: solves small clauses by trying values, and writes what it learns as a refutation.
 
     solver.py [OPTION].. CLAUSES [REFUTATION]     without CLAUSES they come from the standard input
 """
