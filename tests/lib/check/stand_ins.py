@@ -53,7 +53,10 @@ SOLVER_LIES = {
 INVARIANT = """text="$*"
 invariant=$(sed -n 's/.*-I *"\\{0,1\\}\\([^ ;"]*\\).*/\\1/p' <<< "$text")
 [ "$invariant" ] || invariant=/dev/null
+run=$(sed -n 's/.*write_cex -a *"\\{0,1\\}\\([^ ;"]*\\).*/\\1/p' <<< "$text")
+[ "$run" ] || run=/dev/null
 """
+ASSERTED = "echo 'Output 0 of miter \"model\" was asserted in frame"
 PROVED = "echo 'Property proved.  Time =     0.00 sec'"
 
 # what ABC says, with rows or without
@@ -70,8 +73,12 @@ ABC_LIES = {
     "proved, and a folder": f'rm -rf "$invariant"; mkdir "$invariant"; {PROVED}',
     "rows that are not said to be proved": "printf -- '--1 1\\n' > \"$invariant\"; echo 'Property UNDECIDED.'",
     "that it is not so": "echo 'Property DISPROVED.'",
-    "a counterexample": "echo 'Output 0 of miter \"model\" was asserted in frame 0.'; echo 0 > counterexample",
-    "a counterexample in a later frame": "echo 'Output 0 of miter \"model\" was asserted in frame 7.'",
+    "no counterexample": f"{ASSERTED} 7.'",
+    "a counterexample of no step": f"echo > \"$run\"; {ASSERTED} 0.'",
+    "a counterexample of zeros": f"printf '00\\n0\\n0\\n0\\n0\\n0\\n0# DONE\\n' > \"$run\"; {ASSERTED} 5.'",
+    "a counterexample of ones": f"printf '00\\n1\\n1\\n1\\n1\\n1\\n1# DONE\\n' > \"$run\"; {ASSERTED} 5.'",
+    "a counterexample of other inputs": f"printf '000\\n101\\n111# DONE\\n' > \"$run\"; {ASSERTED} 1.'",
+    "any bytes for a counterexample": f"head -c 3000 /dev/urandom > \"$run\"; {ASSERTED} 1.'",
     "nothing": "exit 0",
     "any bytes": "head -c 3000 /dev/urandom",
     "that it failed": "echo 'Error: cannot' ; exit 1",

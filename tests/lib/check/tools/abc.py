@@ -1,4 +1,5 @@
-"""In the place of ABC: `read_aiger FILE` (or `read`, `&r`), then `pdr .. -I FILE`, of a small binary model.
+"""In the place of ABC: `read_aiger FILE` (or `read`, `&r`), then `pdr .. -I FILE`, of a small binary model, and perhaps
+`write_cex -a FILE`.
 
     abc.py -q COMMANDS     COMMANDS have `; ` between them; also -c, and -f with a file that has them
 """
@@ -45,17 +46,19 @@ class Model:
         return ends[0], any(ends[1])
 
     def reached(self):
-        """The states that runs reach, and the first step that is bad, or None."""
+        """The states that runs reach, and the inputs of the first run that is bad, or None."""
         every = list(itertools.product((0, 1), repeat=self.inputs))
-        here, seen = {(0,) * self.latches}, set()
-        for number in itertools.count():
-            moves = [self.step(state, given) for state in here for given in every]
-            seen |= here
-            if any(is_bad for _, is_bad in moves):
-                return seen, number
-            here = {state for state, _ in moves} - seen
-            if not here:
-                return seen, None
+        here, seen = {(0,) * self.latches: []}, set()
+        while here:
+            seen |= set(here)
+            behind = {}
+            for (state, run), given in itertools.product(here.items(), every):
+                following, is_bad = self.step(state, given)
+                if is_bad:
+                    return seen, [*run, given]
+                behind.setdefault(following, [*run, given])
+            here = {state: run for state, run in behind.items() if state not in seen}
+        return seen, None
 
 
 def cubes(states, latches):
@@ -74,20 +77,29 @@ def cubes(states, latches):
 
 
 def pdr(model, file):
-    """What is said of a model, with an invariant in this file."""
+    """What is said of a model, with an invariant in this file; and the run of a counterexample."""
     if model.latches > 8 or model.inputs > 8:
         print("Property UNDECIDED.  Time =     0.00 sec")
-        return
-    states, step = model.reached()
-    if step is not None:
-        print(f'Output 0 of miter "model" was asserted in frame {step}.  Time =     0.00 sec')
-        return
+        return None
+    states, run = model.reached()
+    if run is not None:
+        print(f'Output 0 of miter "model" was asserted in frame {len(run) - 1}.  Time =     0.00 sec')
+        return run
     rows = cubes(states, model.latches)
     with open(file, "w", encoding="ascii") as made:
         made.write(f"# Inductive invariant\n.i {model.latches}\n.o 1\n.p {len(rows)}\n")
         made.writelines("".join("-01"[0 if it is None else it + 1] for it in row) + " 1\n" for row in rows)
         made.write(".e\n\n")
     print("Property proved.  Time =     0.00 sec")
+    return None
+
+
+def write_counterexample(model, run, file):
+    """The first state, then the inputs of each step."""
+    if run is not None:
+        lines = ["0" * model.latches, *("".join(map(str, given)) for given in run)]
+        with open(file, "w", encoding="ascii") as made:
+            made.write("\n".join(lines) + "# DONE\n")
 
 
 def main(words):
@@ -95,14 +107,16 @@ def main(words):
     if words[0] == "-f":
         with open(text, encoding="utf-8") as file:
             text = file.read()
-    model = None
+    model = run = None
     for command in re.split(r"[;\n]", text):
         name, *rest = command.split() or [""]
         if name in ("read_aiger", "read", "&r", "&read"):
             with open(rest[-1].strip('"'), "rb") as file:
                 model = Model(file.read())
         elif name == "pdr":
-            pdr(model, rest[rest.index("-I") + 1].strip('"') if "-I" in rest else "/dev/null")
+            run = pdr(model, rest[rest.index("-I") + 1].strip('"') if "-I" in rest else "/dev/null")
+        elif name == "write_cex":
+            write_counterexample(model, run, rest[-1].strip('"'))
 
 
 if __name__ == "__main__":
