@@ -36,6 +36,8 @@ def why_wrong(row, program):
 
 def main(program, name=""):
     program = counts.need_program(program)
+    if not os.access(checked.CHECK, os.R_OK):
+        counts.finish([f"wanted a file {checked.CHECK}; came none"], 0)
     rows = [it for module in MODULES for it in module.rows() if name in it[0]]
     counts.need(rows, name)
     wrong, passed, skipped = [], 0, {}

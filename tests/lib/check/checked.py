@@ -213,6 +213,7 @@ def judge(said, truths, way=EXACT, frames=FRAMES):
 def refused(said, *words, status=2):
     """That a run says what is wrong, and no answer that anything holds or fails."""
     need(said.status == status, f"status {status} is due", said)
+    need(re.search("^aiger-check: .", said.err, re.MULTILINE), "it does not say why", said)
     need(not re.search(r"never$|none within|reached at", said.out, re.MULTILINE), "an answer", said)
     for word in words:
         need(re.search(word, said.err, re.IGNORECASE), f"{word} is not said", said)
