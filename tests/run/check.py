@@ -16,9 +16,9 @@ from pathlib import Path
 sys.dont_write_bytecode = True
 sys.path[0] = str(Path(__file__).resolve().parent.parent)
 from lib import counts
-from lib.check import checked, design_rows, file_rows, interrupt_rows, model_rows, tool_rows, word_rows
+from lib.check import chance_rows, checked, design_rows, file_rows, interrupt_rows, model_rows, tool_rows, word_rows
 
-MODULES = design_rows, model_rows, tool_rows, word_rows, file_rows, interrupt_rows
+MODULES = design_rows, chance_rows, model_rows, tool_rows, word_rows, file_rows, interrupt_rows
 
 
 def why_wrong(row, program):

@@ -25,6 +25,10 @@ class Design:
     reading: str = ""
     has_clocks: bool = False
     steps: int = STEPS
+    # files that those include, with assertions too
+    included: tuple = ()
+    # whether `sat` and ABC are to be compared with: they choose a value for some x, which may be any
+    has_others: bool = True
 
 
 @dataclasses.dataclass(frozen=True)
@@ -53,7 +57,9 @@ DEFINED = Design(
 )
 DEEP = one("deep", words=("--frames", "70"), steps=62)
 DESIGNS = [one(it) for it in ONE_CLOCK] + [one(it, has_clocks=True) for it in CLOCKS]
-DESIGNS += [BOARD, DEFINED, DEEP, Design("plain", ("parts/plain.v",))]
+DESIGNS += [one("out_of_range", has_others=False)]
+DESIGNS += [BOARD, DEFINED, DEEP, one("included", included=("parts/properties.svh",))]
+DESIGNS += [Design("plain", ("parts/plain.v",))]
 
 
 def named(top):
@@ -63,7 +69,7 @@ def named(top):
 def wanted(design):
     """The assertions of a design in the order of its source."""
     found = []
-    for file in design.files:
+    for file in [*design.files, *design.included]:
         for number, line in enumerate((FOLDER / file).read_text(encoding="ascii").splitlines(), 1):
             said = WANTED.search(line)
             for words in said[1].split("; ") if said else []:

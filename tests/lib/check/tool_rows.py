@@ -44,8 +44,10 @@ def with_few(kept, which, way, room):
     truths = put(room, which)
     tools = {name: file for name, file in all_tools(room).items() if name in kept}
     said = room.run("model.aag", changes={**NOTHING, "PATH": few(room, **tools)})
-    if way:
+    if said.out or way != checked.SAFE:
         checked.judge(said, truths, way)
+    else:
+        checked.refused(said)
     if way == checked.SAFE:
         checked.need("cadical" in said.out + said.err, "the solver is not named", said)
 

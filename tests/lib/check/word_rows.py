@@ -6,7 +6,7 @@ from lib.check import checked, model_rows, stand_ins
 from lib.check.model_rows import LATE, TOKENS
 
 USAGE = {
-    "no words": ([], ["usage"]),
+    "no words": ([], ["usage|file"]),
     "an unknown option": (["--nothing", "model.aag"], ["--nothing"]),
     "no model": (["--frames", "3"], ["usage|model|file"]),
     "no steps": (["--frames", "0", "model.aag"], ["frames"]),
@@ -32,7 +32,7 @@ USAGE = {
     "a model beside a design": (["--top", "m", "model.aag", "m.sv"], ["aiger-check: "]),
     "a design without a top": (["m.sv"], ["top"]),
     "a top without a name": (["m.sv", "--top"], ["top"]),
-    "an empty top": (["--top", "", "m.sv"], ["top"]),
+    "an empty top": (["--top", "", "m.sv"], ["top|module"]),
     "an empty name of a file": ([""], ["aiger-check: "]),
     "an empty word that is defined": (["-D", "", "--top", "m", "m.sv"], ["-D"]),
     "a folder to keep without a name": (["model.aag", "--keep"], ["keep"]),
