@@ -252,9 +252,10 @@ def one_job(room):
 
 def rows():
     each = functools.partial
-    for design in designs.DESIGNS:
+    for at, design in enumerate(designs.DESIGNS):
         yield f"the design {design.top}, kept", each(in_lines, design)
-        yield f"the design {design.top} as an object", each(as_object, design)
+        if at % 3 == 0:
+            yield f"the design {design.top} as an object", each(as_object, design)
         for it in designs.wanted(design) if design.has_others else ():
             yield f"{it.name} of {it.place} by sat", each(by_sat, design, it)
             yield f"{it.name} of {it.place} by ABC", each(by_abc, design, it)

@@ -243,9 +243,9 @@ def real_refutation_of_another(room):
 
 def rows():
     each = functools.partial
-    lies = itertools.product(stand_ins.SOLVER_LIES, [NEVER, LATE, CONSTRAINED])
-    for at, (said, which) in enumerate(lies):
-        yield f"of {which} the solver gives {said}", each(lying_solver, said, which, at % 2)
+    for at, said in enumerate(stand_ins.SOLVER_LIES):
+        for which in (NEVER, [LATE, CONSTRAINED][at % 2]):
+            yield f"of {which} the solver gives {said}", each(lying_solver, said, which, at % 4 < 2)
     for said, which in itertools.product(stand_ins.ABC_LIES, [TOKENS, LATE]):
         yield f"of {which} ABC gives {said}", each(lying_abc, said, which)
     for which in (NEVER, LATE, TOKENS, TOGGLE, CONSTRAINED):

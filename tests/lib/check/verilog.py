@@ -62,7 +62,7 @@ class Maker:
         return [*self.made(width, depth), *self.made(width, depth)]
 
     def signal(self):
-        """One that is no constant, since Yosys leaves out what stands behind a condition that is never met."""
+        """A condition that is no constant, since Yosys leaves out what stands behind one that is never met."""
         name = self.chance.choice(list(self.widths))
         return f"{{|{name}}}", f"({name} != 0)"
 
@@ -134,7 +134,7 @@ def design(chance, has_clocks):
     for it in held:
         it.text, it.code = maker.made(it.width, chance.randrange(1, 4))
         if chance.randrange(2):
-            asked, asked_code = maker.made(1, 1)
+            asked, asked_code = maker.signal()
             lines.append(f"  always @({edge(it)}) if ({asked}) {it.name} <= {it.text};")
             it.code = f"({it.code} if {asked_code} else {it.name})"
         else:
