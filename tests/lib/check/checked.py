@@ -19,7 +19,7 @@ TOP = Path(__file__).resolve().parent.parent.parent.parent
 CHECK = os.environ.get("CHECK", str(TOP / "python" / "aiger_check.py"))
 FRAMES = 50
 # what a machine under load may take
-LONGEST = 600
+LONGEST = 300
 ANSWERS = "never|none within|reached at|unknown"
 LINE = re.compile(rf"(?P<name>.*) \((?P<source>[^()]*)\): (?P<answer>{ANSWERS})(?P<rest>.*)", re.DOTALL)
 KINDS = ["never", "none within", "reached", "unknown"]
@@ -71,6 +71,15 @@ def need(holds, why, said=""):
         raise Wrong(f"{why}: {said}")
 
 
+def ended(run):
+    """What a run says until it ends, which it must."""
+    try:
+        return run.communicate(timeout=LONGEST)
+    except subprocess.TimeoutExpired as why:
+        run.kill()
+        raise Wrong(f"it does not end in {LONGEST} s: {run.args}") from why
+
+
 class Room:
     """A folder to run in, and one for temporary files, which must be empty behind each run."""
 
@@ -101,7 +110,7 @@ class Room:
 
     def end(self, run, words, before):
         """What a run said. It may leave nothing in the folder for temporary files, nor here but where it is told to."""
-        out, err = run.communicate(timeout=LONGEST)
+        out, err = ended(run)
         text = [(it or b"").decode("utf-8", "surrogateescape") for it in (out, err)]
         said = Said(run.returncode, *text, words)
         need("Traceback" not in said.err, "a traceback", said)

@@ -212,7 +212,7 @@ def side_by_side(words, keeps, room):
 def run_beside(room, words, changes):
     """A run beside others, so that the folder for temporary files need not be empty."""
     run = room.start(*words, changes=changes)
-    out, err = run.communicate(timeout=checked.LONGEST)
+    out, err = checked.ended(run)
     return checked.Said(run.returncode, out.decode(), err.decode(), tuple(words))
 
 

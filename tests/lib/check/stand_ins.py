@@ -126,7 +126,7 @@ def turned_solver(folder):
 
 def sleeping(folder, name, begun):
     """One that sleeps, and so does its own child, until they are killed; it writes both their numbers to a file."""
-    return put(folder, name, f"sleep 1000 & echo $$ $! > {shlex.quote(str(begun))}; wait")
+    return put(folder, name, f"sleep 400 & echo $$ $! > {shlex.quote(str(begun))}; wait")
 
 
 def failing(folder, name, real, word, with_words="", status=1):

@@ -196,7 +196,7 @@ def slow_from_two(room):
     """A solver that sleeps from two steps on: what was shown before stays."""
     truths = put(room, NEVER)
     solves = stand_ins.runs("solver.py").removeprefix("exec ")
-    body = f'n=$(sed -n "s/^p cnf \\([0-9]*\\) .*/\\1/p" "$clauses"); [ "$n" -lt 20 ] || exec sleep 1000\n{solves} "$@"'
+    body = f'n=$(sed -n "s/^p cnf \\([0-9]*\\) .*/\\1/p" "$clauses"); [ "$n" -lt 20 ] || exec sleep 400\n{solves} "$@"'
     tools = {"ABC": "false", "SOLVER": stand_ins.put(room.folder / "slow", "cadical", stand_ins.FILES + body)}
     said = room.run("--frames", "8", "--limit", "1", "model.aag", changes=tools)
     checked.judge(said, truths, checked.SAFE, 8)
