@@ -1,13 +1,9 @@
 -- What a call answers, once it is known what was made.
 use Rattle.std.proofs.Common.{◌≡◌, ◌⊎◌, List, ℕ, Result, Ok, Err, IfErr, IfOk, OnOk, inl, inr, subst, sym}
-use Rattle.aig_circuit.specs.declared.circuit.Circuit.{Circuit}
-use Rattle.aig_commands.specs.File.{first_fault}
-use Rattle.aig_commands.specs.Reading.{IsUnreadable}
 use Rattle.aig_fault.specs.Stopping.{StopsFor}
 use Rattle.aig_fault.specs.declared.fault.Fault.{Fault}
 use Rattle.aig_fault.specs.declared.stopped.Stopped.{Stopped}
 use Rattle.aig_fault.specs.declared.stopped.Stopped.TheVariants as stops
-use Rattle.aig_text.specs.Reading.{IsFirstFault}
 use Rattle.aig_library.specs.Answers.{Refused, ShowAnswers, TextAnswers}
 use Rattle.aig_library.specs.Numbers as numbers
 use Rattle.aig_library.specs.Outcome.{IsPlaced, StopsInMemory, ending, out_of_memory, outcome_of}
@@ -28,17 +24,6 @@ stops_as This Then (stops.Refused fault) then why = then fault why
 stops_as This Then stops.OutOfMemory then why = tt
 stops_as This Then stops.ReadFailed then why = tt
 stops_as This Then stops.WriteFailed then why = tt
-
--- a file in memory is read, or is refused with its first fault
-pub file_stops : (limit : ℕ) (bytes : List ℕ) (read : Result Circuit Stopped)
-    → IfErr read (λ e. IsFirstFault e (first_fault limit bytes))
-    → IfErr read (StopsInMemory (λ fault. IsUnreadable limit fault bytes))
-file_stops limit bytes (Ok found) why = tt
-file_stops limit bytes (Err stops.OutOfMemory) why = tt
-file_stops limit bytes (Err stops.ReadFailed) why = tt
-file_stops limit bytes (Err stops.WriteFailed) why = tt
-file_stops limit bytes (Err (stops.Refused fault)) (inl memory) = cc
-file_stops limit bytes (Err (stops.Refused fault)) (inr is) = is
 
 -- what stops a call that calls no device stops it in memory
 pub stops_within : (Holds : Fault → Type 0) (stopped : Stopped) → StopsFor Holds stopped → StopsInMemory Holds stopped

@@ -1,4 +1,4 @@
-use Rattle.aig_library.proofs.Answered.{file_stops}
+use Rattle.aig_library.proofs.ReadFiles.{file_stops}
 use Rattle.aig_library.proofs.arrays.circuit_read.Goals as goal
 
 pub returns-clause-err : goal.returns-clause-err
