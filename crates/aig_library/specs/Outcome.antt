@@ -1,5 +1,5 @@
 -- What came of a call, in numbers (this project's interface for C).
-use Rattle.std.specs.Prelude.{◌≡◌, ◌<◌, ◌++◌, ◌⊎◌, ℕ, List, drop, length, ⊤}
+use Rattle.std.specs.Prelude.{◌≡◌, ◌<◌, ◌++◌, ◌⊎◌, ℕ, List, drop, length}
 use Rattle.aig_array_steps.specs.declared.one_step.StepFault.{StepFault}
 use Rattle.aig_array_steps.specs.declared.one_step.StepFault.TheVariants as step_faults
 use Rattle.aig_arrays.specs.declared.fault.ArrayFault.{ArrayFault}

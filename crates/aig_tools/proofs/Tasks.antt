@@ -1,5 +1,5 @@
 -- What is written where a simulation is done.
-use Rattle.std.proofs.Common.{◌≡◌, ℕ, List, Bool, true, false, Option, None, Some, Result, Ok, Err, MatchBool, ap}
+use Rattle.std.proofs.Common.{◌≡◌, ℕ, List, Bool, true, false, Option, None, Some, Ok, Err, MatchBool, ap}
 use Rattle.std.proofs.Common.{if◌then◌else◌}
 use Rattle.std.proofs.Common.{refl, ◌∙◌, ◌++◌}
 use Rattle.aig_io.specs.Devices.{History, took}
