@@ -5,13 +5,13 @@ use Rattle.aig_circuit.specs.declared.circuit.Circuit.{Circuit}
 use Rattle.aig_circuit.specs.Wellformed.{IsWellFormed}
 use Rattle.aig_cnf.specs.ClauseText.{cnf_text}
 use Rattle.aig_fault.specs.Stopping.{StopsFor}
+use Rattle.aig_fault.specs.declared.fault.Fault.{Fault}
 use Rattle.aig_fault.specs.declared.stopped.Stopped.{Stopped}
+use Rattle.aig_fault.specs.declared.stopped.Stopped.TheVariants as stops
 use Rattle.aig_fault.proofs.Stoppings.{stops_weaker}
 use Rattle.aig_io.specs.Devices.{History}
 use Rattle.aig_io.specs.Runs.{Ending, Read}
 use Rattle.aig_io.proofs.Runs.{read_weaker}
-use Rattle.aig_invariant.specs.declared.fault.InvariantFault.{InvariantFault}
-use Rattle.aig_invariant.specs.declared.fault.InvariantFault.TheVariants as reasons
 use Rattle.aig_invariant.specs.Invariant.{Cube, with_invariant}
 use Rattle.aig_invariant.specs.Outcome.{HasCubes, InvariantSays, NotInvariant}
 use Rattle.aig_invariant.proofs.Never.{invariants_mean_never}
@@ -29,26 +29,22 @@ use Rattle.aig_commands.specs.Proving.{IsInvariantText, IsNeverText, IsStrengthe
 use Rattle.aig_commands.specs.Proving.{over_one_frame}
 use Rattle.aig_commands.specs.Reading.{AtItsEnd, NotRead, ReadSays}
 use Rattle.aig_commands.specs.Refuting.{IsRefutationRefused, IsUnsatisfiable}
-use Rattle.aig_invariant.specs.Stops.{invariant_stops}
 use Rattle.aig_commands.specs.Unrolling.{IsUnrolledFor, NotUnrolledAs}
 use Rattle.aig_commands.proofs.Reachings.{one_selected}
 use Rattle.aig_commands.proofs.Readings.{CameWhole, made_after, stopped_after}
 use Rattle.aig_commands.proofs.TripsExist.{well_formed_file}
 
 -- an invariant is refused for this reason
-not_taken : (selected : Circuit) (reason : InvariantFault) (bytes : List ℕ) (ending : Ending)
-    → NotInvariant selected reason bytes ending
-    → NotRead (AtItsEnd (NotStrengthened selected)) (invariant_stops reason) bytes ending
-not_taken selected reasons.OutOfMemory bytes ending why = why
-not_taken selected reasons.ReadFailed bytes ending why = why
-not_taken selected reasons.TooLarge bytes ending why =
-    (why.0, inl (reasons.TooLarge, refl, (refl, why.1, why.2, why.3)))
-not_taken selected reason bytes ending why = (why.0, inl (reason, refl, (refl, why.1)))
+not_taken : (selected : Circuit) (stopped : Stopped) (bytes : List ℕ) (ending : Ending)
+    → NotInvariant selected stopped bytes ending
+    → NotRead (AtItsEnd (NotStrengthened selected)) stopped bytes ending
+not_taken selected (stops.Refused fault) bytes ending why = (why.0, inl why.1)
+not_taken selected stopped bytes ending why = why
 
-pub invariant_refused : (selected : Circuit) (reason : InvariantFault) (before after : History)
-    → Read (InvariantSays selected (Err reason)) before after
-    → Read (NotRead (AtItsEnd (NotStrengthened selected)) (invariant_stops reason)) before after
-invariant_refused selected reason before after = read_weaker _ _ before after (not_taken selected reason)
+pub invariant_refused : (selected : Circuit) (stopped : Stopped) (before after : History)
+    → Read (InvariantSays selected (Err stopped)) before after
+    → Read (NotRead (AtItsEnd (NotStrengthened selected)) stopped) before after
+invariant_refused selected stopped before after = read_weaker _ _ before after (not_taken selected stopped)
 
 -- the bytes are an invariant of the circuit with the selected bad state, and this is the circuit in which it is to be
 -- shown
@@ -143,7 +139,7 @@ one_text selected invariant text other p q =
     let first = p.is_strengthened in
     let second = q.is_strengthened in
     let cubes =
-    ok_same {E = InvariantFault} first.cubes second.cubes (sym first.has_cubes ∙ second.has_cubes) in
+    ok_same {E = Fault} first.cubes second.cubes (sym first.has_cubes ∙ second.has_cubes) in
     let same : p.strengthened ≡ q.strengthened =
     first.strengthened_is ∙ ap (λ (qs : List Cube). with_invariant qs selected) cubes ∙ sym second.strengthened_is in
     let one = one_unrolled q.strengthened 1 in

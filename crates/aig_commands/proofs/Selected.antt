@@ -10,24 +10,17 @@ use Rattle.aig_cnf.specs.ClauseText.{cnf_text}
 use Rattle.aig_fault.specs.Stopping.{StopsFor}
 use Rattle.aig_fault.specs.declared.fault.Fault.{Fault}
 use Rattle.aig_fault.specs.declared.stopped.Stopped.{Stopped}
+use Rattle.aig_fault.specs.declared.stopped.Stopped.TheVariants as stops
 use Rattle.aig_fault.proofs.Stoppings.{stops_weaker}
 use Rattle.aig_replay.specs.Alone.{HasSelected, NotSelected, selected_of}
-use Rattle.aig_replay.specs.declared.fault.SelectFault.{SelectFault}
-use Rattle.aig_replay.specs.declared.fault.SelectFault.TheVariants as select_faults
 use Rattle.aig_unroll.specs.Outcome.{HasClauses, NotUnrolled}
 use Rattle.aig_unroll.specs.Unrolled.{IsTooLarge, IsUnrolled, IsUnsupported}
-use Rattle.aig_unroll.specs.declared.fault.ClauseFault.{ClauseFault}
-use Rattle.aig_unroll.specs.declared.fault.ClauseFault.TheVariants as clause_faults
-use Rattle.aig_unroll.specs.declared.fault.UnrollFault.{UnrollFault}
-use Rattle.aig_unroll.specs.declared.fault.UnrollFault.TheVariants as unroll_faults
 use Rattle.aig_commands.specs.File.{IsFileOf}
 use Rattle.aig_io.specs.Devices.{History}
 use Rattle.aig_io.specs.Runs.{Read}
 use Rattle.aig_commands.specs.Reaching.{IsModelRefused, IsSelectedModel, clauses_selected}
 use Rattle.aig_commands.specs.Reading.{AtItsEnd, ReadSays}
 use Rattle.aig_commands.specs.Refuting.{CanUnroll}
-use Rattle.aig_replay.specs.Stops.{asked_stops}
-use Rattle.aig_unroll.specs.Stops.{clause_stops, unroll_stops}
 use Rattle.aig_commands.specs.Unrolling.{IsUnrolledFor, IsUnrollingRefused, NotUnrolledAs, NotWritable, bad_of}
 use Rattle.aig_commands.specs.Unrolling.{cannot_unroll, cannot_write, has_not_bad}
 use Rattle.aig_commands.proofs.Readings.{CameWhole, made_after, stopped_after}
@@ -45,22 +38,26 @@ unrolled_for bad frames c selected d has same can is = record {
 }
 
 module _ (form : UnrolledForm) (frames : ℕ) (c : Circuit) where
-  pub not_asked : (reason : SelectFault) → NotSelected (bad_of form) c reason
-      → StopsFor (NotUnrolledAs form frames c) (asked_stops reason)
-  not_asked (select_faults.NoBad number) why = has_not_bad number why.0 why.1 refl
-  not_asked select_faults.OutOfMemory why = tt
+  pub not_asked : (stopped : Stopped) → NotSelected (bad_of form) c stopped
+      → StopsFor (NotUnrolledAs form frames c) stopped
+  not_asked stops.OutOfMemory why = tt
+  not_asked (stops.Refused fault) why = has_not_bad why
+  not_asked stopped why = why
 
-  pub not_unrolled : (selected : Circuit) (reason : UnrollFault) → HasSelected (bad_of form) c
-      → selected ≡ selected_of (bad_of form) c → NotUnrolled selected frames reason
-      → StopsFor (NotUnrolledAs form frames c) (unroll_stops reason)
-  not_unrolled selected unroll_faults.OutOfMemory has same why = tt
-  not_unrolled selected reason has same why =
-      cannot_unroll reason has (subst (λ (k : Circuit). NotUnrolled k frames reason) same why) refl
+  pub not_unrolled : (selected : Circuit) (stopped : Stopped) → HasSelected (bad_of form) c
+      → selected ≡ selected_of (bad_of form) c → NotUnrolled selected frames stopped
+      → StopsFor (NotUnrolledAs form frames c) stopped
+  not_unrolled selected stops.OutOfMemory has same why = tt
+  not_unrolled selected (stops.Refused fault) has same why =
+      cannot_unroll has (subst (λ (k : Circuit). NotUnrolled k frames (stops.Refused fault)) same why)
+  not_unrolled selected stopped has same why = why
 
-  pub not_written : (d : Circuit) (reason : ClauseFault) → IsUnrolledFor (bad_of form) frames c d
-      → NotWritable form d reason → StopsFor (NotUnrolledAs form frames c) (clause_stops reason)
-  not_written d clause_faults.NoBadStates is why = cannot_write clause_faults.NoBadStates d is why refl
-  not_written d clause_faults.TooLarge is why = cannot_write clause_faults.TooLarge d is why refl
+pub not_written : (form : UnrolledForm) (frames : ℕ) (c d : Circuit) (stopped : Stopped)
+    → IsUnrolledFor (bad_of form) frames c d → NotWritable form d stopped
+    → StopsFor (NotUnrolledAs form frames c) stopped
+not_written (Clauses bad) frames c d (stops.Refused fault) is why = cannot_write d is why
+not_written (Clauses bad) frames c d stopped is why = absurd why
+not_written form frames c d stopped is why = absurd why
 
 -- a file was read, and its circuit is not unrolled
 pub file_not_unrolled : (request : Unroll) (found : Circuit) (stopped : Stopped) (bytes : List ℕ)
@@ -74,12 +71,12 @@ module _ (bad : Option ℕ) (frames : ℕ) (c selected : Circuit) (has : HasSele
     ≡ selected_of bad c) where
   with_it : (fault : Fault) → NotUnrolledAs (Clauses None) frames selected fault
       → NotUnrolledAs (Clauses bad) frames c fault
-  with_it fault (has_not_bad number none above is) = cc
-  with_it fault (cannot_unroll reason there why is) =
-      cannot_unroll reason has (subst (λ (k : Circuit). NotUnrolled k frames reason) same why) is
-  with_it fault (cannot_write reason d unrolled why is) =
-      cannot_write reason d (unrolled_for bad frames c selected d has same (unrolled.supported, unrolled.fits)
-      unrolled.is_unrolled) why is
+  with_it fault (has_not_bad none) = absurd none
+  with_it fault (cannot_unroll there why) =
+      cannot_unroll has (subst (λ (k : Circuit). NotUnrolled k frames (stops.Refused fault)) same why)
+  with_it fault (cannot_write d unrolled why) =
+      cannot_write d (unrolled_for bad frames c selected d has same (unrolled.supported, unrolled.fits)
+      unrolled.is_unrolled) why
 
   pub none_alone : (stopped : Stopped) → StopsFor (NotUnrolledAs (Clauses None) frames selected) stopped
       → StopsFor (NotUnrolledAs (Clauses bad) frames c) stopped

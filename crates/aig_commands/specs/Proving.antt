@@ -8,16 +8,12 @@ use Rattle.aig_command.specs.declared.request.Invariant.{Invariant}
 use Rattle.aig_command.specs.declared.request.Reach.{Reach}
 use Rattle.aig_command.specs.declared.request.SolverFile.TheVariants.{Refutation}
 use Rattle.aig_command.specs.declared.request.UnrolledForm.TheVariants.{Clauses}
-use Rattle.aig_invariant.specs.declared.fault.InvariantFault.{InvariantFault}
 use Rattle.aig_invariant.specs.Invariant.{Cube, with_invariant}
 use Rattle.aig_invariant.specs.Laws.{IsNever}
-use Rattle.aig_invariant.specs.Outcome.{HasCubes, NotInvariant}
-use Rattle.aig_io.specs.Runs.{AtEnd}
+use Rattle.aig_invariant.specs.Outcome.{HasCubes, IsInvariantRefused}
 use Rattle.aig_replay.specs.Alone.{HasSelected, selected_of}
 use Rattle.aig_unroll.specs.Outcome.{HasClauses}
 use Rattle.aig_fault.specs.declared.fault.Fault.{Fault}
-use Rattle.aig_fault.specs.declared.stopped.Stopped.TheVariants.{Refused}
-use Rattle.aig_invariant.specs.Stops.{invariant_stops}
 use Rattle.aig_commands.specs.Reaching.{IsModelRefused, IsSelectedModel}
 use Rattle.aig_commands.specs.Unrolling.{IsUnrolledFor, NotUnrolledAs}
 
@@ -53,8 +49,7 @@ pub record IsStrengthened (selected : Circuit) (invariant : List ℕ) (strengthe
 -- circuit in which it is to be shown has no clauses.
 abbrev pub NotStrengthened : Circuit → Fault → List ℕ → Type 0
 NotStrengthened selected fault invariant =
-    ((reason : InvariantFault) × (invariant_stops reason ≡ Refused fault)
-    × NotInvariant selected reason invariant AtEnd)
+    IsInvariantRefused selected fault invariant
     ⊎ ((cubes : List Cube) × HasCubes selected invariant cubes
     × NotUnrolledAs (Clauses None) 1 (with_invariant cubes selected) fault)
 

@@ -1,11 +1,10 @@
 -- Which witness is written for a solver's answer (this project's profile): a model is read, it is run by the values of
 -- the answer, and where a bad state is reached, that is claimed.
-use Rattle.std.specs.Prelude.{◌≡◌, ℕ, List, None}
+use Rattle.std.specs.Prelude.{◌≡◌, ℕ, List}
 use Rattle.aig_circuit.specs.declared.circuit.Circuit.{Circuit}
 use Rattle.aig_circuit.specs.Wellformed.{IsWellFormed}
 use Rattle.aig_io.specs.Runs.{AtEnd}
 use Rattle.aig_witness.specs.Witness.{Claim}
-use Rattle.aig_replay.specs.declared.fault.AnswerFault.{AnswerFault}
 use Rattle.aig_replay.specs.Alone.{HasSelected, selected_of}
 use Rattle.aig_replay.specs.Reached.{NotFoundBy, ReachedBy}
 use Rattle.aig_replay.specs.WitnessLines.{witness_text}
@@ -14,7 +13,6 @@ use Rattle.aig_command.specs.declared.request.Unroll.{Unroll}
 use Rattle.aig_command.specs.declared.request.UnrolledForm.TheVariants.{Clauses}
 use Rattle.aig_fault.specs.declared.fault.Fault.{Fault}
 use Rattle.aig_fault.specs.declared.stopped.Stopped.TheVariants.{Refused}
-use Rattle.aig_replay.specs.Stops.{answer_stops}
 use Rattle.aig_commands.specs.Unrolling.{IsUnrollingRefused, IsUnrollingText}
 
 -- the request for the clauses on which the answer is
@@ -46,6 +44,4 @@ pub record IsReachText (request : Reach) (selected : Circuit) (answer text : Lis
 
 -- The answer gives no witness, for this reason.
 abbrev pub IsReachRefused : Reach → Circuit → Fault → List ℕ → Type 0
-IsReachRefused request selected fault answer =
-    (reason : AnswerFault) × (answer_stops reason ≡ Refused fault)
-    × NotFoundBy selected request.frames reason answer AtEnd
+IsReachRefused request selected fault answer = NotFoundBy selected request.frames (Refused fault) answer AtEnd

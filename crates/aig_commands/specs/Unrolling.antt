@@ -1,26 +1,21 @@
 -- Which text an unrolling writes (this project's profile): a circuit is read, and what is written is its unrolled
 -- circuit, or the clauses by which a bad state of that is 1.
-use Rattle.std.specs.Prelude.{◌≡◌, ◌⊎◌, ◌≤◌, ℕ, List, Option, None, Some, length, ⊤}
+use Rattle.std.specs.Prelude.{◌≡◌, ◌⊎◌, ℕ, List, Option, None, ⊤}
 use Rattle.aig_circuit.specs.declared.circuit.Circuit.{Circuit}
 use Rattle.aig_text.specs.AsciiText.{ascii_text}
 use Rattle.aig_binary.specs.BinaryText.{binary_text}
 use Rattle.aig_cnf.specs.ClauseText.{cnf_text}
-use Rattle.aig_fault.specs.Stopping.{fault_at}
 use Rattle.aig_fault.specs.declared.fault.Fault.{Fault}
-use Rattle.aig_fault.specs.declared.fault.Place.TheVariants.{Whole}
-use Rattle.aig_fault.specs.declared.kind.Kind.TheVariants.{NoSuchBadState}
+use Rattle.aig_fault.specs.declared.stopped.Stopped.{Stopped}
 use Rattle.aig_fault.specs.declared.stopped.Stopped.TheVariants.{Refused}
-use Rattle.aig_unroll.specs.declared.fault.ClauseFault.{ClauseFault}
-use Rattle.aig_unroll.specs.declared.fault.UnrollFault.{UnrollFault}
 use Rattle.aig_unroll.specs.Outcome.{HasClauses, NotInClauses, NotUnrolled}
 use Rattle.aig_unroll.specs.Unrolled.{IsTooLarge, IsUnrolled, IsUnsupported}
-use Rattle.aig_replay.specs.Alone.{HasSelected, selected_of}
+use Rattle.aig_replay.specs.Alone.{HasNotSelected, HasSelected, selected_of}
 use Rattle.aig_command.specs.declared.request.Unroll.{Unroll}
 use Rattle.aig_command.specs.declared.request.UnrolledForm.{UnrolledForm}
 use Rattle.aig_command.specs.declared.request.UnrolledForm.TheVariants.{Ascii, Binary, Clauses}
 use Rattle.aig_commands.specs.File.{IsFileOf}
 use Rattle.aig_commands.specs.Reading.{IsUnreadable}
-use Rattle.aig_unroll.specs.Stops.{clause_stops, unroll_stops}
 
 -- how an unrolled circuit is written: its canonical text, in binary or in ASCII, or its clauses
 abbrev pub unrolled_text : UnrolledForm → Circuit → List ℕ
@@ -41,10 +36,10 @@ IsWritable Ascii d = ⊤
 IsWritable (Clauses bad) d = HasClauses d
 
 -- it cannot for this reason
-abbrev pub NotWritable : UnrolledForm → Circuit → ClauseFault → Type 0
-NotWritable Binary d reason = ⊥
-NotWritable Ascii d reason = ⊥
-NotWritable (Clauses bad) d reason = NotInClauses d reason
+abbrev pub NotWritable : UnrolledForm → Circuit → Stopped → Type 0
+NotWritable Binary d stopped = ⊥
+NotWritable Ascii d stopped = ⊥
+NotWritable (Clauses bad) d stopped = NotInClauses d stopped
 
 -- The circuit d is a circuit c unrolled over so many frames, or c with this bad state alone.
 pub record IsUnrolledFor (bad : Option ℕ) (frames : ℕ) (c d : Circuit) : Type 0 where
@@ -66,13 +61,11 @@ pub record IsUnrollingText (request : Unroll) (bytes text : List ℕ) : Type 0 w
 -- A circuit is not unrolled so: it has not the selected bad state; it cannot be unrolled; or no clauses can be made of
 -- what is unrolled.
 pub data NotUnrolledAs (form : UnrolledForm) (frames : ℕ) (c : Circuit) (fault : Fault) : Type 0 where
-  has_not_bad : (number : ℕ) → bad_of form ≡ Some number → length c.bad ≤ number
-      → fault ≡ fault_at NoSuchBadState Whole number → NotUnrolledAs form frames c fault
-  cannot_unroll : (reason : UnrollFault) → HasSelected (bad_of form) c
-      → NotUnrolled (selected_of (bad_of form) c) frames reason → unroll_stops reason ≡ Refused fault
+  has_not_bad : HasNotSelected (bad_of form) c fault → NotUnrolledAs form frames c fault
+  cannot_unroll : HasSelected (bad_of form) c → NotUnrolled (selected_of (bad_of form) c) frames (Refused fault)
       → NotUnrolledAs form frames c fault
-  cannot_write : (reason : ClauseFault) (d : Circuit) → IsUnrolledFor (bad_of form) frames c d
-      → NotWritable form d reason → clause_stops reason ≡ Refused fault → NotUnrolledAs form frames c fault
+  cannot_write : (d : Circuit) → IsUnrolledFor (bad_of form) frames c d → NotWritable form d (Refused fault)
+      → NotUnrolledAs form frames c fault
 
 -- The bytes have no unrolling text for this reason: they are no file of a circuit; or they are the file of one, and
 -- this is why it is not unrolled.

@@ -16,12 +16,12 @@ use crate::file::read_circuit;
 use aig_command::{Unroll, UnrolledForm};
 use aig_core::{Checked, Keep, Sink, Source};
 use aig_fault::Stopped;
-use aig_replay::{SelectFault, with_selected_bad};
-use aig_unroll::{ClauseFault, Unrolling};
+use aig_replay::with_selected_bad;
+use aig_unroll::Unrolling;
 use std::alloc::Global;
 
 /// The circuit with the bad state alone that its clauses are to speak of, if one is selected.
-fn selected_of(alloc: Global, form: UnrolledForm, found: Checked) -> Result<Checked, SelectFault>
+fn selected_of(alloc: Global, form: UnrolledForm, found: Checked) -> Result<Checked, Stopped>
     ensures ok { IfOk result (λ selected. selected ≡ selected_of (bad_of form) found) }
     ensures there { OnOk result (HasSelected (bad_of form) found) }
     ensures err { IfErr result (NotSelected (bad_of form) found) }
@@ -33,7 +33,7 @@ fn selected_of(alloc: Global, form: UnrolledForm, found: Checked) -> Result<Chec
 }
 
 /// Whether an unrolled circuit can be written as it is asked for.
-fn check_form(form: UnrolledForm, circuit: &Unrolling) -> Result<(), ClauseFault>
+fn check_form(form: UnrolledForm, circuit: &Unrolling) -> Result<(), Stopped>
     ensures ok { OnOk result (IsWritable form circuit.now) }
     ensures err { IfErr result (NotWritable form circuit.now) }
 {
@@ -60,7 +60,7 @@ pub(crate) fn unroll_as(
         Ok(()) => Ok(circuit),
         Err(fault) => {
             drop(circuit); // for the proof
-            Err(Stopped::from(fault))
+            Err(fault)
         }
     }
 }

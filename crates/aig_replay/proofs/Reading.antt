@@ -5,7 +5,6 @@ use Rattle.std.proofs.Common.{nat_le, nat_lt, refl, replicate, set, subst, sym}
 use Rattle.std.proofs.lemmas.List.Sums.{fold-append}
 use Rattle.aig_answer.specs.declared.reader.Reader.{Reader}
 use Rattle.aig_answer.specs.declared.reader.Signed.{Signed}
-use Rattle.aig_answer.specs.declared.reader.Spot.{Spot}
 use Rattle.aig_answer.specs.declared.reader.Spot.TheVariants.{LineStart, Wrong}
 use Rattle.aig_answer.specs.declared.reader.Status.TheVariants.{Satisfiable}
 use Rattle.aig_answer.specs.Answer.{SoFar, after, answer_of, bad_line, begun, closed, next, so_far, with_any}

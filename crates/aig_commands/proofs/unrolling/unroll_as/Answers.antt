@@ -26,8 +26,8 @@ returns-in-Ok-clause-ok c = (
 
 pub returns-in-Err-clause-err : goal.returns-in-Err-clause-err
 returns-in-Err-clause-err c =
-    rw c.from.ensures (not_written c.args.form c.args.frames c.args.found c.in_ok-circuit.circuit c.in-Err.fault
+    not_written c.args.form c.args.frames c.args.found c.in_ok-circuit.circuit c.in-Err.fault
     (unrolled_for (bad_of c.args.form) c.args.frames c.args.found c.in_ok-selected.selected c.in_ok-circuit.circuit
     c.in_ok-selected.ensures.there c.in_ok-selected.ensures.ok c.in_ok-circuit.ensures.supported
     c.in_ok-circuit.ensures.ok)
-    c.in-Err.ensures.err)
+    c.in-Err.ensures.err
