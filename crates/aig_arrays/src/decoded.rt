@@ -2,7 +2,11 @@
 ghost use Rattle.std.specs.Prelude.{◌≡◌, ◌+◌, ◌*◌, ◌≤◌, ◌==◌, IfOk, IfErr, MatchResult, Ok};
 ghost use Rattle.std.specs.Prelude.{length};
 ghost use Rattle.aig_circuit.specs.declared.circuit.Circuit.{Circuit as CircuitRecord};
-ghost use Rattle.aig_arrays.specs.Outcomes.{GivesOrMemory, out_of_memory};
+ghost use Rattle.aig_arrays.specs.Outcomes.{GivesOrMemory};
+ghost use Rattle.aig_fault.specs.declared.fault.Place.TheVariants.{Whole};
+ghost use Rattle.aig_fault.specs.declared.stopped.Stopped.TheVariants.{OutOfMemory};
+ghost use Rattle.aig_rows.specs.Stops.{kind_stops};
+ghost use Rattle.aig_text.specs.Reading.{kind_of};
 ghost use Rattle.aig_arrays.specs.Decoded.{IsFirstFault, counts_fit, decoded, entries_decoded};
 ghost use Rattle.aig_arrays.specs.Decoded.{comment_in, with_entries};
 ghost use Rattle.aig_circuit.specs.Wellformed.{largest_index};
@@ -11,26 +15,22 @@ ghost use Rattle.aig_arrays.specs.Words.{bytes_length};
 
 use crate::counts::Counts;
 use crate::entries::WordCursor;
-use crate::fault::ArrayFault;
 use crate::sections::read_sections;
 use crate::symbols::read_symbols;
 use aig_core::{CheckFault, Checked, Circuit, Keep, Listing, Steps, check};
+use aig_fault::{Kind, Place, Stopped, refused, refused_whole};
 use aig_text::empty_circuit;
-use std::alloc::{AllocError, AllocFailed, Global};
+use std::alloc::{AllocError, Global};
 
-impl From<AllocError> for ArrayFault {
-    ghost from_gives = { λ _ e. e ≡ out_of_memory };
-
-    fn from(_refused: AllocError) -> ArrayFault {
-        ArrayFault::Structure(CheckFault::OutOfMemory)
-    }
-}
-
-impl<T: Drop> From<AllocFailed<T>> for ArrayFault {
-    ghost from_gives = { λ _ e. e ≡ out_of_memory };
-
-    fn from(_refused: AllocFailed<T>) -> ArrayFault {
-        ArrayFault::Structure(CheckFault::OutOfMemory)
+/// A structural fault has no one place.
+fn check_stops(fault: CheckFault) -> Stopped
+    ensures { result ≡ kind_stops Whole (kind_of fault) }
+{
+    match fault {
+        CheckFault::Redefined(variable) => refused(Kind::Redefined, Place::Whole, variable.0),
+        CheckFault::Undefined(literal) => refused(Kind::Undefined, Place::Whole, literal.0),
+        CheckFault::Cyclic(literal) => refused(Kind::Cyclic, Place::Whole, literal.0),
+        CheckFault::OutOfMemory => Stopped::OutOfMemory,
     }
 }
 
@@ -99,7 +99,7 @@ fn add_entries(
     words: &[u32],
     bytes: &[u8],
     circuit: &mut Circuit,
-) -> Result<(), ArrayFault>
+) -> Result<(), Stopped>
     requires max_var { counts.now.max_var ≤ largest_index }
     requires names { counts.now.name_bytes ≤ length bytes.now }
     requires sizes { sum circuit.old.justice.sizes ≤ largest_index }
@@ -111,7 +111,7 @@ fn add_entries(
     let (names, comment) = bytes.split_at(counts.name_bytes as usize);
     let end = read_symbols(alloc, counts, names, circuit, &mut from)?;
     if end != names.len() {
-        return Err(ArrayFault::BadCounts);
+        return Err(refused_whole(Kind::BadCounts));
     }
     circuit.comment = comment_of(alloc, counts, comment)?;
     Ok(())
@@ -123,11 +123,11 @@ fn read_entries(
     counts: &Counts,
     words: &[u32],
     bytes: &[u8],
-) -> Result<Circuit, ArrayFault>
+) -> Result<Circuit, Stopped>
     ensures { GivesOrMemory (λ c. c) result (entries_decoded counts.now words.now bytes.now) }
 {
     if !counts_fit(counts, words, bytes) {
-        return Err(ArrayFault::BadCounts);
+        return Err(refused_whole(Kind::BadCounts));
     }
     let mut circuit = empty_circuit(alloc, counts.max_var);
     if let Err(fault) = add_entries(alloc, counts, words, bytes, &mut circuit) {
@@ -145,10 +145,10 @@ pub fn read_arrays(
     words: &[u32],
     bytes: &[u8],
     keep: Keep,
-) -> Result<Checked, ArrayFault>
+) -> Result<Checked, Stopped>
     ensures ok { IfOk result (λ c. decoded counts.now words.now bytes.now ≡ Ok c) }
     ensures only { (c : CircuitRecord) → decoded counts.now words.now bytes.now ≡ Ok c
-        → MatchResult result (λ d. d ≡ c) (λ e. e ≡ out_of_memory) }
+        → MatchResult result (λ d. d ≡ c) (λ e. e ≡ OutOfMemory) }
     ensures err { IfErr result (λ e. IsFirstFault e (decoded counts.now words.now bytes.now)) }
 {
     let circuit = read_entries(alloc, counts, words, bytes)?;
@@ -156,7 +156,7 @@ pub fn read_arrays(
         Ok(checked) => Ok(checked),
         Err((circuit, fault)) => {
             drop(circuit); // for the proof
-            Err(ArrayFault::Structure(fault))
+            Err(check_stops(fault))
         }
     }
 }
