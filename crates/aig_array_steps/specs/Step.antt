@@ -1,9 +1,8 @@
 -- One step of a circuit whose words are in order, over the bytes of its values (this project's interface for C; what a
 -- step is stands in `Meaning`).
-use Rattle.std.specs.Prelude.{◌≡◌, ◌+◌, ◌<◌, ◌≤◌, ◌++◌, ℕ, List, [], None, length, map, take, drop, slice_index, true}
+use Rattle.std.specs.Prelude.{◌≡◌, ◌⊎◌, ◌+◌, ◌<◌, ◌≤◌, ◌++◌, ℕ, List, [], None, length, map, take, drop, slice_index}
+use Rattle.std.specs.Prelude.{true}
 use Rattle.std.specs.List.{range_with_len}
-use Rattle.aig_array_steps.specs.declared.one_step.StepFault.{StepFault}
-use Rattle.aig_array_steps.specs.declared.one_step.StepFault.TheVariants.{BadCounts, NotOrdered, TooShort, BadValue}
 use Rattle.aig_arrays.specs.Decoded.{are_in_range}
 use Rattle.aig_arrays.specs.Words.{counts_of, section_length, section_words}
 use Rattle.aig_arrays.specs.declared.counts.Counts.{Counts}
@@ -12,6 +11,10 @@ use Rattle.aig_circuit.specs.Wellformed.{IsWellFormed}
 use Rattle.aig_circuit.specs.declared.circuit.Circuit.{Circuit}
 use Rattle.aig_circuit.specs.declared.value.Val.{Val}
 use Rattle.aig_circuit.specs.declared.value.Val.TheVariants.{Zero, One, X}
+use Rattle.aig_fault.specs.Stopping.{fault_at}
+use Rattle.aig_fault.specs.declared.fault.Fault.{Fault}
+use Rattle.aig_fault.specs.declared.fault.Place.TheVariants.{Value, Whole}
+use Rattle.aig_fault.specs.declared.kind.Kind.TheVariants as kinds
 use Rattle.aig_meaning.specs.Meaning.{IsStepAssignment, literal_value, next_literals}
 
 -- the byte of a value
@@ -73,11 +76,14 @@ pub record IsStepOf (n : Counts) (words before after : List ℕ) : Type 0 where
   pub stepped : IsStepped c before after
   pub sections : HasSections n words
 
--- what is known where no step was taken, by the first fault
-abbrev pub IsFault : Counts → (words values : List ℕ) → StepFault → Type 0
-IsFault n words values BadCounts = ¬ HasSections n words
-IsFault n words values NotOrdered = HasSections n words × (¬ IsDecoded n words)
-IsFault n words values (TooShort needed) =
-    HasSections n words × IsDecoded n words × (needed ≡ values_length n) × (length values < needed)
-IsFault n words values (BadValue place) =
-    HasSections n words × IsDecoded n words × (values_length n ≤ length values) × IsBadValue n values place
+-- the words tell a circuit, and there is no room for its values
+abbrev pub HasNoRoom : Counts → (words values : List ℕ) → Type 0
+HasNoRoom n words values = HasSections n words × IsDecoded n words × (length values < values_length n)
+
+-- what is known of the first fault
+abbrev pub IsFault : Counts → (words values : List ℕ) → Fault → Type 0
+IsFault n words values fault =
+    ((fault ≡ fault_at kinds.BadCounts Whole 0) × (¬ HasSections n words))
+    ⊎ ((fault ≡ fault_at kinds.NotOrdered Whole 0) × HasSections n words × (¬ IsDecoded n words))
+    ⊎ ((place : ℕ) × (fault ≡ fault_at kinds.BadValue (Value place) 0) × HasSections n words × IsDecoded n words
+    × (values_length n ≤ length values) × IsBadValue n values place)

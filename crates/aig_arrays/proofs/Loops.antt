@@ -16,8 +16,8 @@ use Rattle.aig_text.specs.declared.header_line.Header.{Header}
 use Rattle.aig_text.specs.declared.section.Section.{Section}
 use Rattle.aig_arrays.specs.Outcomes.{GivesOrMemory, entries_meant, entry_meant}
 use Rattle.aig_arrays.specs.Decoded.{Ahead, row_decoded, rows_decoded, section_decoded, sections_decoded, width}
-use Rattle.aig_arrays.specs.declared.fault.ArrayFault.{ArrayFault}
-use Rattle.aig_arrays.specs.declared.fault.ArrayFault.TheVariants.{BadEntry}
+use Rattle.aig_fault.specs.declared.stopped.Stopped.{Stopped}
+use Rattle.aig_arrays.specs.Decoded.{bad_entry}
 use Rattle.aig_arrays.proofs.Grammar.Rows.{ahead, rows_found, tells_first, with_first, wrong_first}
 
 -- the first words, and the others
@@ -41,7 +41,7 @@ split_four (a ∷ b ∷ d ∷ e ∷ ws) h =
 split_four ws h = absurd (omega arith)
 
 module _ {A : Type 0} (tell : List ℕ → A) where
-  first_meant : (found : List A) (ns : List ℕ) (r : Result (List (List ℕ) × Ahead) ArrayFault)
+  first_meant : (found : List A) (ns : List ℕ) (r : Result (List (List ℕ) × Ahead) Stopped)
       → entries_meant tell found (◌>>=◌ {B = List (List ℕ) × Ahead} r (with_first ns))
       ≡ entries_meant tell (found ++ tell ns ∷ []) r
   first_meant found ns (Ok y) =
@@ -53,14 +53,14 @@ module _ {A : Type 0} (tell : List ℕ → A) where
     abbrev pub IsCarried : ℕ → A → ℕ → Type 0
     IsCarried carried x next = (ns : List ℕ) → tell ns ≡ x → next ≡ carried_on form.first carried (get_or ns 0 0)
 
-    by_row : (carried next n : ℕ) (a after : Ahead) (x : A) (found : List A) (r : Result (List ℕ × Ahead) ArrayFault)
+    by_row : (carried next n : ℕ) (a after : Ahead) (x : A) (found : List A) (r : Result (List ℕ × Ahead) Stopped)
         → row_decoded form bound carried a ≡ r → entry_meant tell r ≡ Ok (x, after) → IsCarried carried x next
         → entries_meant tell found (rows_decoded form bound carried (suc n) a)
         ≡ entries_meant tell (found ++ x ∷ []) (rows_decoded form bound next n after)
     unfolding rows_decoded
     by_row carried next n a after x found (Err e) is h goes = cc
     by_row carried next n a after x found (Ok q) is h goes =
-        let same : (tell q.0, q.1) ≡ (x, after) = ok_same {E = ArrayFault} (tell q.0, q.1) (x, after) h in
+        let same : (tell q.0, q.1) ≡ (x, after) = ok_same {E = Stopped} (tell q.0, q.1) (x, after) h in
         let means : tell q.0 ≡ x = ap (λ (p : A × Ahead). p.0) same in
         let behind : q.1 ≡ after = ap (λ (p : A × Ahead). p.1) same in
         let on : ℕ = carried_on form.first carried (get_or q.0 0 0) in
@@ -89,7 +89,7 @@ module _ {A : Type 0} (tell : List ℕ → A) where
           (ap (unless_wrong ns) (sym right)))
 
       wrong_by : (kind : Kind) → Some kind ≡ fault_in_row form bound carried ns
-          → entry_meant tell (row_decoded form bound carried (ahead at ws)) ≡ Err (BadEntry at kind)
+          → entry_meant tell (row_decoded form bound carried (ahead at ws)) ≡ Err (bad_entry at kind)
       wrong_by kind wrong =
           ap (λ (us : List ℕ). entry_meant tell (row_decoded form bound carried (ahead at us))) split
           ∙ ap (entry_meant tell) (wrong_first (width form)
@@ -108,7 +108,7 @@ module _ {A : Type 0} (tell : List ℕ → A) where
 
     pub one_wrong : (carried at : ℕ) (ws : List ℕ) (kind : Kind) → 1 ≤ length ws → 1 ≡ width form
         → Some kind ≡ fault_in_row form bound carried (get_or ws 0 0 ∷ [])
-        → entry_meant tell (row_decoded form bound carried (ahead at ws)) ≡ Err (BadEntry at kind)
+        → entry_meant tell (row_decoded form bound carried (ahead at ws)) ≡ Err (bad_entry at kind)
     one_wrong carried at ws kind some long wrong =
         wrong_by carried at ws (get_or ws 0 0 ∷ []) (slice_range ws 1 (length ws)) (split_one ws some) long kind wrong
 
@@ -131,27 +131,27 @@ module _ {A : Type 0} (tell : List ℕ → A) where
 
     pub three_wrong : (carried at : ℕ) (ws : List ℕ) (kind : Kind) → 3 ≤ length ws → 3 ≡ width form
         → Some kind ≡ fault_in_row form bound carried (get_or ws 0 0 ∷ get_or ws 1 0 ∷ get_or ws 2 0 ∷ [])
-        → entry_meant tell (row_decoded form bound carried (ahead at ws)) ≡ Err (BadEntry at kind)
+        → entry_meant tell (row_decoded form bound carried (ahead at ws)) ≡ Err (bad_entry at kind)
     three_wrong carried at ws kind some long wrong =
         wrong_by carried at ws (get_or ws 0 0 ∷ get_or ws 1 0 ∷ get_or ws 2 0 ∷ []) (slice_range ws 3 (length ws))
         (split_three ws some) long kind wrong
 
-    wrong_row : (carried n : ℕ) (a : Ahead) (found : List A) (e : ArrayFault)
-        (r : Result (List ℕ × Ahead) ArrayFault) → row_decoded form bound carried a ≡ r → entry_meant tell r ≡ Err e
+    wrong_row : (carried n : ℕ) (a : Ahead) (found : List A) (e : Stopped)
+        (r : Result (List ℕ × Ahead) Stopped) → row_decoded form bound carried a ≡ r → entry_meant tell r ≡ Err e
         → entries_meant tell found (rows_decoded form bound carried (suc n) a) ≡ Err e
     unfolding rows_decoded
     wrong_row carried n a found e (Ok q) is h = cc
     wrong_row carried n a found e (Err d) is h =
-        let same : d ≡ e = cc in rw is (ap (λ (f : ArrayFault). Err f) same)
+        let same : d ≡ e = cc in rw is (ap (λ (f : Stopped). Err f) same)
 
     -- an entry that is wrong
-    pub wrong_one : (carried n : ℕ) (a : Ahead) (found : List A) (e : ArrayFault)
+    pub wrong_one : (carried n : ℕ) (a : Ahead) (found : List A) (e : Stopped)
         → entry_meant tell (row_decoded form bound carried a) ≡ Err e
         → entries_meant tell found (rows_decoded form bound carried (suc n) a) ≡ Err e
     wrong_one carried n a found e h = wrong_row carried n a found e (row_decoded form bound carried a) refl h
 
     -- what all tells, where these entries are still to be read after those that were found
-    module _ (carried left : ℕ) (a : Ahead) (found : List A) (all : Result (List A × Ahead) ArrayFault)
+    module _ (carried left : ℕ) (a : Ahead) (found : List A) (all : Result (List A × Ahead) Stopped)
         (tells : entries_meant tell found (rows_decoded form bound carried left a) ≡ all) where
       pub more_found : (next next_left : ℕ) (after : Ahead) (x : A) (now_found : List A) → 0 < left
           → next_left ≡ left - 1 → entry_meant tell (row_decoded form bound carried a) ≡ Ok (x, after)
@@ -163,7 +163,7 @@ module _ {A : Type 0} (tell : List ℕ → A) where
           ∙ sym (one_more carried next next_left a after x found h goes)
           ∙ ap (λ (k : ℕ). entries_meant tell found (rows_decoded form bound carried k a)) one ∙ tells
 
-      pub wrong_found : (e : ArrayFault) → 0 < left → entry_meant tell (row_decoded form bound carried a) ≡ Err e
+      pub wrong_found : (e : Stopped) → 0 < left → entry_meant tell (row_decoded form bound carried a) ≡ Err e
           → all ≡ Err e
       wrong_found e some h =
           let one : left ≡ suc (left - 1) = omega arith in
@@ -178,18 +178,18 @@ module _ {A : Type 0} (tell : List ℕ → A) where
 
 -- sizes that were read add up to no more than their bound
 sizes_fit : (m start count : ℕ) (a after : Ahead) (before found : List ℕ)
-    (r : Result (List (List ℕ) × Ahead) ArrayFault) → rows_decoded size_form m start count a ≡ r → start ≡ sum before
+    (r : Result (List (List ℕ) × Ahead) Stopped) → rows_decoded size_form m start count a ≡ r → start ≡ sum before
     → start ≤ m → entries_meant size_of before r ≡ Ok (found, after) → sum found ≤ m
 sizes_fit m start count a after before found (Err e) is from low h = cc
 sizes_fit m start count a after before found (Ok rows) is from low h =
-    let same = ok_same {E = ArrayFault} (before ++ map size_of rows.0, rows.1) (found, after) h in
+    let same = ok_same {E = Stopped} (before ++ map size_of rows.0, rows.1) (found, after) h in
     let all : start + sum (map size_of rows.0) ≤ m =
     sizes_within m start rows.0 low (rows_found size_form m start count a rows is).good in
     subst (λ (p : List ℕ × Ahead). sum p.0 ≤ m) same
     (omega (arith, all, from, sum_by-append (λ (k : ℕ). k) before (map size_of rows.0)))
 
 pub sizes_given : {X : Type 0} (m start count : ℕ) (a after : Ahead) (before found : List ℕ)
-    (result : Result X ArrayFault) → start ≡ sum before → sum before ≤ m
+    (result : Result X Stopped) → start ≡ sum before → sum before ≤ m
     → GivesOrMemory (λ _. (found, after)) result (entries_meant size_of before (rows_decoded size_form m start count a))
     → OnOk result (sum found ≤ m)
 sizes_given m start count a after before found (Ok x) from low h =
@@ -203,7 +203,7 @@ module _ (h : Header) (s : Section) (ss : List Section) (c : Circuit) (a : Ahead
   unfolding sections_decoded
   more_sections d b is = rw is refl
 
-  pub wrong_section : (e : ArrayFault) → section_decoded (in_ascii s) h c a ≡ Err e
+  pub wrong_section : (e : Stopped) → section_decoded (in_ascii s) h c a ≡ Err e
       → sections_decoded h (s ∷ ss) c a ≡ Err e
   unfolding sections_decoded
   wrong_section e is = rw is refl

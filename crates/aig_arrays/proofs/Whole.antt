@@ -18,13 +18,13 @@ use Rattle.aig_text.specs.declared.section.Section.{Section}
 use Rattle.aig_text.specs.declared.section.Section.TheVariants.{Inputs}
 use Rattle.std.proofs.Math.ListN.{drop_of_length-le}
 use Rattle.aig_text.specs.declared.header_line.Header.{Header}
-use Rattle.aig_arrays.specs.Outcomes.{out_of_memory}
+use Rattle.aig_fault.specs.declared.stopped.Stopped.TheVariants.{OutOfMemory}
 use Rattle.aig_arrays.specs.Decoded.{Ahead, IsFirstFault, counts_fit, entries_decoded, section_decoded}
 use Rattle.aig_arrays.specs.Decoded.{sections_decoded}
 use Rattle.aig_arrays.specs.Decoded.{decoded, next_symbol, symbol_decoded, symbols_decoded, with_entries}
 use Rattle.aig_arrays.specs.Words.{Counts}
-use Rattle.aig_arrays.specs.declared.fault.ArrayFault.{ArrayFault}
-use Rattle.aig_arrays.specs.declared.fault.ArrayFault.TheVariants.{BadCounts, BadEntry, Structure}
+use Rattle.aig_fault.specs.declared.stopped.Stopped.{Stopped}
+use Rattle.aig_arrays.specs.Decoded.{bad_counts, bad_entry}
 use Rattle.aig_arrays.proofs.Grammar.Rows.{ahead, tells_first, wrong_first}
 use Rattle.aig_arrays.proofs.Loops.{more_sections, split_four, wrong_section}
 
@@ -37,7 +37,7 @@ module _ (h : Header) (names : List ℕ) (before : Names) (start at : ℕ) (ws :
   tell ns = checked_symbol h before (symbol_decoded names start ns)
 
   pub symbol_none : symbol_decoded names start row ≡ None
-      → next_symbol h names before start (ahead at ws) ≡ Err (BadEntry at kinds.BadSymbol)
+      → next_symbol h names before start (ahead at ws) ≡ Err (bad_entry at kinds.BadSymbol)
   unfolding checked_symbol
   symbol_none none =
       ap (λ (us : List ℕ). next_symbol h names before start (ahead at us)) (split_four ws some)
@@ -46,7 +46,7 @@ module _ (h : Header) (names : List ℕ) (before : Names) (start at : ℕ) (ws :
 
   pub symbol_wrong : (s : Symbol) (kind : Kind) → symbol_decoded names start row ≡ Some s
       → Some kind ≡ fault_in_symbol h before s
-      → next_symbol h names before start (ahead at ws) ≡ Err (BadEntry at kind)
+      → next_symbol h names before start (ahead at ws) ≡ Err (bad_entry at kind)
   unfolding checked_symbol
   symbol_wrong s kind is wrong =
       ap (λ (us : List ℕ). next_symbol h names before start (ahead at us)) (split_four ws some)
@@ -63,14 +63,14 @@ module _ (h : Header) (names : List ℕ) (before : Names) (start at : ℕ) (ws :
 
 -- what all symbols tell, where these are still to be read
 module _ (h : Header) (names : List ℕ) (before : Names) (start left : ℕ) (a : Ahead) (c : Circuit)
-    (all : Result (Circuit × ℕ) ArrayFault) (tells : symbols_decoded h names before start left a c ≡ all) where
+    (all : Result (Circuit × ℕ) Stopped) (tells : symbols_decoded h names before start left a c ≡ all) where
   one_symbol : (n : ℕ) (s : Symbol) (after : Ahead) → next_symbol h names before start a ≡ Ok (s, after)
       → symbols_decoded h names before start (suc n) a c
       ≡ symbols_decoded h names (with_name before s.kind s.position) (start + length s.name) n after (with_symbol c s)
   unfolding symbols_decoded
   one_symbol n s after is = rw is refl
 
-  no_symbol : (n : ℕ) (e : ArrayFault) → next_symbol h names before start a ≡ Err e
+  no_symbol : (n : ℕ) (e : Stopped) → next_symbol h names before start a ≡ Err e
       → symbols_decoded h names before start (suc n) a c ≡ Err e
   unfolding symbols_decoded
   no_symbol n e is = rw is refl
@@ -88,8 +88,8 @@ module _ (h : Header) (names : List ℕ) (before : Names) (start left : ℕ) (a 
       ∙ sym (one_symbol next_left s after is)
       ∙ ap (λ (k : ℕ). symbols_decoded h names before start k a c) one ∙ tells
 
-  pub wrong_symbols : (e : ArrayFault) → 0 < left
-      → (e ≡ out_of_memory) ⊎ (next_symbol h names before start a ≡ Err e) → (e ≡ out_of_memory) ⊎ (all ≡ Err e)
+  pub wrong_symbols : (e : Stopped) → 0 < left
+      → (e ≡ OutOfMemory) ⊎ (next_symbol h names before start a ≡ Err e) → (e ≡ OutOfMemory) ⊎ (all ≡ Err e)
   wrong_symbols e some (inl m) = inl m
   wrong_symbols e some (inr is) =
       let one : left ≡ suc (left - 1) = omega arith in
@@ -101,7 +101,7 @@ module _ (h : Header) (names : List ℕ) (before : Names) (start left : ℕ) (a 
 
 -- what all sections tell, where those from this one on are still to be read
 module _ (h : Header) (sections : List Section) (k : ℕ) (c : Circuit) (a : Ahead)
-    (all : Result (Circuit × Ahead) ArrayFault) (tells : sections_decoded h (drop k sections) c a ≡ all) where
+    (all : Result (Circuit × Ahead) Stopped) (tells : sections_decoded h (drop k sections) c a ≡ all) where
   next_section : k < length sections → drop k sections ≡ get_or sections k Inputs ∷ drop (k + 1) sections
   next_section more =
       let next : suc k ≡ k + 1 = omega arith in
@@ -114,9 +114,9 @@ module _ (h : Header) (sections : List Section) (k : ℕ) (c : Circuit) (a : Ahe
       sym (more_sections h (get_or sections k Inputs) (drop (k + 1) sections) c a d b is)
       ∙ ap (λ (ss : List Section). sections_decoded h ss c a) (sym (next_section more)) ∙ tells
 
-  pub section_fails : (e : ArrayFault) → k < length sections
-      → (e ≡ out_of_memory) ⊎ (section_decoded (in_ascii (get_or sections k Inputs)) h c a ≡ Err e)
-      → (e ≡ out_of_memory) ⊎ (all ≡ Err e)
+  pub section_fails : (e : Stopped) → k < length sections
+      → (e ≡ OutOfMemory) ⊎ (section_decoded (in_ascii (get_or sections k Inputs)) h c a ≡ Err e)
+      → (e ≡ OutOfMemory) ⊎ (all ≡ Err e)
   section_fails e more (inl m) = inl m
   section_fails e more (inr is) =
       inr (sym tells ∙ ap (λ (ss : List Section). sections_decoded h ss c a) (next_section more)
@@ -129,7 +129,7 @@ module _ (h : Header) (sections : List Section) (k : ℕ) (c : Circuit) (a : Ahe
 
 -- the circuit is judged
 module _ (n : Counts) (words bytes : List ℕ) where
-  pub entries_wrong : (e : ArrayFault) → (e ≡ out_of_memory) ⊎ (entries_decoded n words bytes ≡ Err e)
+  pub entries_wrong : (e : Stopped) → (e ≡ OutOfMemory) ⊎ (entries_decoded n words bytes ≡ Err e)
       → IsFirstFault e (decoded n words bytes)
   unfolding decoded
   entries_wrong e (inl m) = inl m
@@ -141,24 +141,24 @@ module _ (n : Counts) (words bytes : List ℕ) where
   decoded_right c is none = rw (is, none) refl
 
   pub decoded_wrong : (c : Circuit) (fault : Stopped) → entries_decoded n words bytes ≡ Ok c
-      → IsFault fault (first_structural_fault c) → IsFirstFault (Structure fault) (decoded n words bytes)
+      → IsFault fault (first_structural_fault c) → IsFirstFault fault (decoded n words bytes)
   unfolding decoded
-  decoded_wrong c fault is (inl m) = inl (ap (λ (f : Stopped). Structure f) m)
+  decoded_wrong c fault is (inl m) = inl m
   decoded_wrong c fault is (inr f) = inr (rw (is, f) refl)
 
   -- nothing else is decoded, and a fault of what tells a circuit is want of memory
   pub one_decoded : (c d : Circuit) → decoded n words bytes ≡ Ok d → decoded n words bytes ≡ Ok c → d ≡ c
-  one_decoded c d one other = ok_same {E = ArrayFault} d c (sym one ∙ other)
+  one_decoded c d one other = ok_same {E = Stopped} d c (sym one ∙ other)
 
-  pub only_memory : (c : Circuit) (e : ArrayFault) → IsFirstFault e (decoded n words bytes)
+  pub only_memory : (c : Circuit) (e : Stopped) → IsFirstFault e (decoded n words bytes)
       → decoded n words bytes ≡ Ok c
-      → e ≡ out_of_memory
+      → e ≡ OutOfMemory
   only_memory c e (inl m) is = m
   only_memory c e (inr h) is = cc
 
 -- counts that fit, and others
 module _ (n : Counts) (words bytes : List ℕ) where
-  pub unfit : counts_fit n words bytes ≡ false → entries_decoded n words bytes ≡ Err BadCounts
+  pub unfit : counts_fit n words bytes ≡ false → entries_decoded n words bytes ≡ Err bad_counts
   unfolding entries_decoded
   unfit h = rw h refl
 
@@ -167,9 +167,9 @@ module _ (n : Counts) (words bytes : List ℕ) where
   unfolding entries_decoded
   fit h = rw h refl
 
-  pub fit_fails : counts_fit n words bytes ≡ true → (d : Circuit) (e : ArrayFault) → d ≡ empty_circuit n.max_var
-      → (e ≡ out_of_memory) ⊎ (with_entries n words bytes d ≡ Err e)
-      → (e ≡ out_of_memory) ⊎ (entries_decoded n words bytes ≡ Err e)
+  pub fit_fails : counts_fit n words bytes ≡ true → (d : Circuit) (e : Stopped) → d ≡ empty_circuit n.max_var
+      → (e ≡ OutOfMemory) ⊎ (with_entries n words bytes d ≡ Err e)
+      → (e ≡ OutOfMemory) ⊎ (entries_decoded n words bytes ≡ Err e)
   fit_fails h d e same (inl m) = inl m
   fit_fails h d e same (inr is) =
       inr (fit h ∙ ap (λ (c : Circuit). with_entries n words bytes c) (sym same) ∙ is)

@@ -2,7 +2,8 @@
 ghost use Rattle.std.specs.Prelude.{◌≡◌, ◌+◌, ◌*◌, ◌≤◌, ◌==◌, IfOk, IfErr, MatchResult, Ok};
 ghost use Rattle.std.specs.Prelude.{length};
 ghost use Rattle.aig_circuit.specs.declared.circuit.Circuit.{Circuit as CircuitRecord};
-ghost use Rattle.aig_arrays.specs.Outcomes.{GivesOrMemory, out_of_memory};
+ghost use Rattle.aig_arrays.specs.Outcomes.{GivesOrMemory};
+ghost use Rattle.aig_fault.specs.declared.stopped.Stopped.TheVariants.{OutOfMemory};
 ghost use Rattle.aig_arrays.specs.Decoded.{IsFirstFault, counts_fit, decoded, entries_decoded};
 ghost use Rattle.aig_arrays.specs.Decoded.{comment_in, with_entries};
 ghost use Rattle.aig_circuit.specs.Wellformed.{largest_index};
@@ -11,29 +12,12 @@ ghost use Rattle.aig_arrays.specs.Words.{bytes_length};
 
 use crate::counts::Counts;
 use crate::entries::WordCursor;
-use crate::fault::ArrayFault;
 use crate::sections::read_sections;
 use crate::symbols::read_symbols;
 use aig_core::{Checked, Circuit, Keep, Listing, Steps, check};
-use aig_fault::Stopped;
+use aig_fault::{Kind, Stopped, refused_whole};
 use aig_text::empty_circuit;
-use std::alloc::{AllocError, AllocFailed, Global};
-
-impl From<AllocError> for ArrayFault {
-    ghost from_gives = { λ _ e. e ≡ out_of_memory };
-
-    fn from(_refused: AllocError) -> ArrayFault {
-        ArrayFault::Structure(Stopped::OutOfMemory)
-    }
-}
-
-impl<T: Drop> From<AllocFailed<T>> for ArrayFault {
-    ghost from_gives = { λ _ e. e ≡ out_of_memory };
-
-    fn from(_refused: AllocFailed<T>) -> ArrayFault {
-        ArrayFault::Structure(Stopped::OutOfMemory)
-    }
-}
+use std::alloc::{AllocError, Global};
 
 /// How many words stand before the sizes of the justice properties.
 fn before_sizes(n: &Counts) -> usize
@@ -100,7 +84,7 @@ fn add_entries(
     words: &[u32],
     bytes: &[u8],
     circuit: &mut Circuit,
-) -> Result<(), ArrayFault>
+) -> Result<(), Stopped>
     requires max_var { counts.now.max_var ≤ largest_index }
     requires names { counts.now.name_bytes ≤ length bytes.now }
     requires sizes { sum circuit.old.justice.sizes ≤ largest_index }
@@ -112,7 +96,7 @@ fn add_entries(
     let (names, comment) = bytes.split_at(counts.name_bytes as usize);
     let end = read_symbols(alloc, counts, names, circuit, &mut from)?;
     if end != names.len() {
-        return Err(ArrayFault::BadCounts);
+        return Err(refused_whole(Kind::BadCounts));
     }
     circuit.comment = comment_of(alloc, counts, comment)?;
     Ok(())
@@ -124,11 +108,11 @@ fn read_entries(
     counts: &Counts,
     words: &[u32],
     bytes: &[u8],
-) -> Result<Circuit, ArrayFault>
+) -> Result<Circuit, Stopped>
     ensures { GivesOrMemory (λ c. c) result (entries_decoded counts.now words.now bytes.now) }
 {
     if !counts_fit(counts, words, bytes) {
-        return Err(ArrayFault::BadCounts);
+        return Err(refused_whole(Kind::BadCounts));
     }
     let mut circuit = empty_circuit(alloc, counts.max_var);
     if let Err(fault) = add_entries(alloc, counts, words, bytes, &mut circuit) {
@@ -146,10 +130,10 @@ pub fn read_arrays(
     words: &[u32],
     bytes: &[u8],
     keep: Keep,
-) -> Result<Checked, ArrayFault>
+) -> Result<Checked, Stopped>
     ensures ok { IfOk result (λ c. decoded counts.now words.now bytes.now ≡ Ok c) }
     ensures only { (c : CircuitRecord) → decoded counts.now words.now bytes.now ≡ Ok c
-        → MatchResult result (λ d. d ≡ c) (λ e. e ≡ out_of_memory) }
+        → MatchResult result (λ d. d ≡ c) (λ e. e ≡ OutOfMemory) }
     ensures err { IfErr result (λ e. IsFirstFault e (decoded counts.now words.now bytes.now)) }
 {
     let circuit = read_entries(alloc, counts, words, bytes)?;
@@ -157,7 +141,7 @@ pub fn read_arrays(
         Ok(checked) => Ok(checked),
         Err((circuit, fault)) => {
             drop(circuit); // for the proof
-            Err(ArrayFault::Structure(fault))
+            Err(fault)
         }
     }
 }

@@ -2,7 +2,7 @@
 ghost use Rattle.std.specs.Prelude.{◌≡◌, ◌+◌, ◌*◌, ◌<◌, ◌≤◌, ◌^◌};
 ghost use Rattle.std.specs.Prelude.{List, ℕ, [], ◌∷◌, nat_lt, slice_index};
 ghost use Rattle.aig_arrays.specs.Outcomes.{entry_meant};
-ghost use Rattle.aig_arrays.specs.Decoded.{row_decoded};
+ghost use Rattle.aig_arrays.specs.Decoded.{bad_entry, row_decoded};
 ghost use Rattle.aig_circuit.specs.Wellformed.{largest_index};
 ghost use Rattle.aig_rows.specs.Outcomes.{GivesOrFails};
 ghost use Rattle.aig_rows.specs.Reading.{carried_on, fault_in_row, is_no_variable};
@@ -10,9 +10,8 @@ ghost use Rattle.aig_rows.specs.Rows.{Form, gate_form, gate_of, input_form, inpu
 ghost use Rattle.aig_rows.specs.Rows.{latch_of, literal_form, literal_in, reset_of, size_form};
 ghost use Rattle.aig_rows.specs.Rows.{size_of};
 
-use crate::fault::ArrayFault;
 use aig_core::{Gate, Latch, Lit, Reset, Var};
-use aig_fault::Kind;
+use aig_fault::{Kind, Place, Stopped, refused, refused_whole};
 use std::marker::Model;
 
 /// A place among words.
@@ -46,7 +45,7 @@ pub(crate) trait FromWords: Copy {
     ghost meant_by: { List ℕ → Self };
 
     /// Reads the entry that begins here, and moves past it, unless it is not right.
-    fn read_entry(from: &mut WordCursor, bound: u32, carried: u64) -> Result<Self, ArrayFault>
+    fn read_entry(from: &mut WordCursor, bound: u32, carried: u64) -> Result<Self, Stopped>
         requires bound { bound ≤ largest_index }
         requires carried { carried + 2 ^ 32 ≤ 2 ^ 64 }
         ensures { GivesOrFails (λ entry. (entry, from.new)) result
@@ -58,6 +57,13 @@ pub(crate) trait FromWords: Copy {
         ensures carried { (ns : List ℕ) → meant_by ns ≡ self
             → result ≡ carried_on form.first carried (slice_index ns 0) }
         ensures small { result < carried + 2 ^ 32 };
+}
+
+/// What is wrong with the entry that begins at this word.
+pub(crate) fn bad_entry(word: u64, kind: Kind) -> Stopped
+    ensures { result ≡ bad_entry word kind }
+{
+    refused(kind, Place::Word(word), 0)
 }
 
 /// Whether a word cannot be a definition.
@@ -164,13 +170,13 @@ impl FromWords for Var {
     ghost meant_by = { input_of };
 
     #[inline(always)]
-    fn read_entry(from: &mut WordCursor, bound: u32, _carried: u64) -> Result<Var, ArrayFault> {
+    fn read_entry(from: &mut WordCursor, bound: u32, _carried: u64) -> Result<Var, Stopped> {
         let [own, rest @ ..] = from.rest else {
-            return Err(ArrayFault::BadCounts);
+            return Err(refused_whole(Kind::BadCounts));
         };
         let word = from.at;
         if let Some(kind) = fault_in_input(bound, *own) {
-            return Err(ArrayFault::BadEntry { word, kind });
+            return Err(bad_entry(word, kind));
         }
         let at = word + 1;
         *from = WordCursor { rest, at };
@@ -189,13 +195,13 @@ impl FromWords for Latch {
     ghost meant_by = { latch_of };
 
     #[inline(always)]
-    fn read_entry(from: &mut WordCursor, bound: u32, _carried: u64) -> Result<Latch, ArrayFault> {
+    fn read_entry(from: &mut WordCursor, bound: u32, _carried: u64) -> Result<Latch, Stopped> {
         let [own, next, reset, rest @ ..] = from.rest else {
-            return Err(ArrayFault::BadCounts);
+            return Err(refused_whole(Kind::BadCounts));
         };
         let word = from.at;
         if let Some(kind) = fault_in_latch(bound, *own, *next, *reset) {
-            return Err(ArrayFault::BadEntry { word, kind });
+            return Err(bad_entry(word, kind));
         }
         let at = word + 3;
         *from = WordCursor { rest, at };
@@ -218,13 +224,13 @@ impl FromWords for Lit {
     ghost meant_by = { literal_in };
 
     #[inline(always)]
-    fn read_entry(from: &mut WordCursor, bound: u32, _carried: u64) -> Result<Lit, ArrayFault> {
+    fn read_entry(from: &mut WordCursor, bound: u32, _carried: u64) -> Result<Lit, Stopped> {
         let [literal, rest @ ..] = from.rest else {
-            return Err(ArrayFault::BadCounts);
+            return Err(refused_whole(Kind::BadCounts));
         };
         let word = from.at;
         if let Some(kind) = fault_in_literal(bound, *literal) {
-            return Err(ArrayFault::BadEntry { word, kind });
+            return Err(bad_entry(word, kind));
         }
         let at = word + 1;
         *from = WordCursor { rest, at };
@@ -244,13 +250,13 @@ impl FromWords for u32 {
     ghost meant_by = { size_of };
 
     #[inline(always)]
-    fn read_entry(from: &mut WordCursor, bound: u32, carried: u64) -> Result<u32, ArrayFault> {
+    fn read_entry(from: &mut WordCursor, bound: u32, carried: u64) -> Result<u32, Stopped> {
         let [size, rest @ ..] = from.rest else {
-            return Err(ArrayFault::BadCounts);
+            return Err(refused_whole(Kind::BadCounts));
         };
         let word = from.at;
         if let Some(kind) = fault_in_size(bound, carried, *size) {
-            return Err(ArrayFault::BadEntry { word, kind });
+            return Err(bad_entry(word, kind));
         }
         let at = word + 1;
         *from = WordCursor { rest, at };
@@ -269,13 +275,13 @@ impl FromWords for Gate {
     ghost meant_by = { gate_of };
 
     #[inline(always)]
-    fn read_entry(from: &mut WordCursor, bound: u32, _carried: u64) -> Result<Gate, ArrayFault> {
+    fn read_entry(from: &mut WordCursor, bound: u32, _carried: u64) -> Result<Gate, Stopped> {
         let [own, left, right, rest @ ..] = from.rest else {
-            return Err(ArrayFault::BadCounts);
+            return Err(refused_whole(Kind::BadCounts));
         };
         let word = from.at;
         if let Some(kind) = fault_in_gate(bound, *own, *left, *right) {
-            return Err(ArrayFault::BadEntry { word, kind });
+            return Err(bad_entry(word, kind));
         }
         let at = word + 3;
         *from = WordCursor { rest, at };

@@ -10,7 +10,6 @@
 mod counts;
 mod decoded;
 mod entries;
-mod fault;
 pub mod laws;
 mod numbered;
 mod put;
@@ -19,6 +18,5 @@ mod symbols;
 
 pub use crate::counts::Counts;
 pub use crate::decoded::read_arrays;
-pub use crate::fault::ArrayFault;
 pub use crate::numbered::numbered_image;
 pub use crate::put::{counts_of, put_bytes, put_words};

@@ -9,8 +9,8 @@ ghost use Rattle.aig_text.specs.Sections.{in_ascii, sections};
 
 use crate::counts::Counts;
 use crate::entries::{FromWords, WordCursor};
-use crate::fault::ArrayFault;
 use aig_core::{Circuit, LARGEST, Listing};
+use aig_fault::Stopped;
 use aig_text::{SECTIONS, Section};
 use std::alloc::Global;
 use std::mem;
@@ -23,7 +23,7 @@ fn push_rows<T: FromWords>(
     bound: u32,
     start: u64,
     from: &mut WordCursor,
-) -> Result<(), ArrayFault>
+) -> Result<(), Stopped>
     requires bound { bound ≤ largest_index }
     requires start { start ≤ largest_index }
     ensures { GivesOrMemory (λ _. (found.new.items, from.new)) result
@@ -55,7 +55,7 @@ fn read_rows<T: FromWords>(
     bound: u32,
     start: u64,
     from: &mut WordCursor,
-) -> Result<(), ArrayFault>
+) -> Result<(), Stopped>
     requires bound { bound ≤ largest_index }
     requires start { start ≤ largest_index }
     ensures { GivesOrMemory (λ _. (found.new, from.new)) result
@@ -87,7 +87,7 @@ fn read_section(
     counts: &Counts,
     circuit: &mut Circuit,
     from: &mut WordCursor,
-) -> Result<(), ArrayFault>
+) -> Result<(), Stopped>
     requires max_var { counts.now.max_var ≤ largest_index }
     requires sizes { sum circuit.old.justice.sizes ≤ largest_index }
     ensures read { GivesOrMemory (λ _. (circuit.new, from.new)) result
@@ -131,7 +131,7 @@ fn read_each(
     counts: &Counts,
     circuit: &mut Circuit,
     from: &mut WordCursor,
-) -> Result<(), ArrayFault>
+) -> Result<(), Stopped>
     requires max_var { counts.now.max_var ≤ largest_index }
     requires sizes { sum circuit.old.justice.sizes ≤ largest_index }
     ensures { GivesOrMemory (λ _. (circuit.new, from.new)) result
@@ -152,7 +152,7 @@ pub(crate) fn read_sections(
     counts: &Counts,
     circuit: &mut Circuit,
     from: &mut WordCursor,
-) -> Result<(), ArrayFault>
+) -> Result<(), Stopped>
     requires max_var { counts.now.max_var ≤ largest_index }
     requires sizes { sum circuit.old.justice.sizes ≤ largest_index }
     ensures { GivesOrMemory (λ _. (circuit.new, from.new)) result

@@ -2,7 +2,7 @@
 ghost use Rattle.std.specs.Prelude.{◌≡◌, ◌+◌, ◌<◌, ◌≤◌, [], ◌∷◌};
 ghost use Rattle.std.specs.Prelude.{IfOk, IfErr, IfSome, None, OnOk, length, not};
 ghost use Rattle.std.specs.List.{list_any};
-ghost use Rattle.aig_arrays.specs.Outcomes.{GivesOrMemory, out_of_memory};
+ghost use Rattle.aig_arrays.specs.Outcomes.{GivesOrMemory};
 ghost use Rattle.aig_arrays.specs.Decoded.{header_of, kind_decoded, next_symbol};
 ghost use Rattle.aig_arrays.specs.Decoded.{symbol_decoded, symbols_decoded};
 ghost use Rattle.aig_core.specs.Names.{nothing_named, with_name};
@@ -10,10 +10,9 @@ ghost use Rattle.aig_rows.specs.Outcomes.{Gives};
 ghost use Rattle.aig_text.specs.Reading.{count_named, fault_in_symbol};
 
 use crate::counts::Counts;
-use crate::entries::WordCursor;
-use crate::fault::ArrayFault;
+use crate::entries::{WordCursor, bad_entry};
 use aig_core::{BorrowedSymbol, Circuit, Kind, NamedCounts, Names};
-use aig_fault::Kind as FaultKind;
+use aig_fault::{Kind as FaultKind, Stopped, refused_whole};
 use std::alloc::{AllocError, Global};
 
 /// A line of a symbol has so many bytes at most beside the name.
@@ -100,7 +99,7 @@ fn read_symbol<'a>(
     names: &'a [u8],
     start: usize,
     from: &mut WordCursor,
-) -> Result<BorrowedSymbol<'a>, ArrayFault>
+) -> Result<BorrowedSymbol<'a>, Stopped>
     requires { start ≤ length names.now }
     ensures symbol { GivesOrMemory (λ s. (s, from.new)) result
         (next_symbol (header_of counts.now) names.now named.old start from.old) }
@@ -108,17 +107,14 @@ fn read_symbol<'a>(
     ensures fits { IfOk result (λ s. start + length s.name ≤ length names.now) }
 {
     let [kind, position, offset, length, rest @ ..] = from.rest else {
-        return Err(ArrayFault::BadCounts);
+        return Err(refused_whole(FaultKind::BadCounts));
     };
     let word = from.at;
     let Some(symbol) = symbol_of(names, start, [*kind, *position, *offset, *length]) else {
-        return Err(ArrayFault::BadEntry {
-            word,
-            kind: FaultKind::BadSymbol,
-        });
+        return Err(bad_entry(word, FaultKind::BadSymbol));
     };
     if let Some(kind) = check_symbol(counts, named, &symbol)? {
-        return Err(ArrayFault::BadEntry { word, kind });
+        return Err(bad_entry(word, kind));
     }
     let at = word + 4;
     *from = WordCursor { rest, at };
@@ -132,7 +128,7 @@ fn push_symbols(
     names: &[u8],
     circuit: &mut Circuit,
     from: &mut WordCursor,
-) -> Result<usize, ArrayFault>
+) -> Result<usize, Stopped>
     ensures { GivesOrMemory (λ end. (circuit.new, end)) result
         (symbols_decoded (header_of counts.now) names.now named.old 0 counts.now.symbols from.old
         circuit.old) }
@@ -155,7 +151,7 @@ pub(crate) fn read_symbols(
     names: &[u8],
     circuit: &mut Circuit,
     from: &mut WordCursor,
-) -> Result<usize, ArrayFault>
+) -> Result<usize, Stopped>
     ensures { GivesOrMemory (λ end. (circuit.new, end)) result
         (symbols_decoded (header_of counts.now) names.now nothing_named 0 counts.now.symbols
         from.old

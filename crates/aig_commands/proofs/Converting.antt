@@ -8,18 +8,16 @@ use Rattle.aig_fault.specs.declared.kind.Kind.TheVariants.{HasBad}
 use Rattle.aig_fault.specs.declared.stopped.Stopped.{Stopped}
 use Rattle.aig_fault.proofs.Stoppings.{stops_weaker}
 use Rattle.aig_map.specs.Undone.{IsMapFault}
-use Rattle.aig_map.specs.declared.fault.MapFault.{MapFault}
-use Rattle.aig_map.specs.declared.fault.MapFault.TheVariants as map_faults
 use Rattle.aig_commands.specs.Conversion.{IsConversionRefused, IsSource, has_bad_states, has_no_source}
 use Rattle.aig_commands.specs.File.{IsFileOf}
-use Rattle.aig_map.specs.Stops.{map_stops}
 
 module _ (request : ToAig) (found : Circuit) (bytes : List ℕ) (file : IsFileOf bytes request.max_var found) where
   -- a map cannot be undone
-  pub not_undone : (reason : MapFault) → (request.undo_map ≡ true) × IsMapFault found reason
-      → StopsFor (λ fault. IsConversionRefused request fault bytes) (map_stops reason)
-  not_undone map_faults.OutOfMemory why = tt
-  not_undone reason why = has_no_source found reason file why.0 why.1 refl
+  pub not_undone : (stopped : Stopped) → (request.undo_map ≡ true) × StopsFor (IsMapFault found) stopped
+      → StopsFor (λ fault. IsConversionRefused request fault bytes) stopped
+  not_undone stopped why =
+      stops_weaker (IsMapFault found) (λ fault. IsConversionRefused request fault bytes) stopped
+      (λ fault is. has_no_source found file why.0 is) why.1
 
   -- outputs cannot become bad states
   pub not_turned : (source : Circuit) (stopped : Stopped) → IsSource request.undo_map found source

@@ -10,7 +10,7 @@ use Rattle.aig_binary.specs.BinaryText.{binary_text}
 use Rattle.aig_map.proofs.Mapping.{mapped_image_is_one, mapped_image_is_ordered}
 use Rattle.aig_map.proofs.Sources.OneSource.{undoing_recovers}
 use Rattle.aig_image.proofs.Imaging.OwnImage.{own_image}
-use Rattle.aig_map.proofs.Sources.Refused.{only_memory}
+use Rattle.aig_map.proofs.Sources.Refused.{no_map_fault}
 use Rattle.aig_command.specs.declared.request.ToAig.{ToAig}
 use Rattle.aig_commands.specs.File.{IsFileOf}
 use Rattle.aig_commands.specs.Conversion.{IsConversionText, IsSource, IsTextAs}
@@ -72,6 +72,6 @@ mapped_text_has_no_fault there keeps file binary converted =
     let again = binary_file mapped.0 binary ordered.0 ordered.1 mapped.2 in (
       ap fault_of (file_is_read LARGEST binary mapped.0 again),
       λ found fault file_too told.
-          only_memory mapped.0 fault (rw (one_circuit binary LARGEST found mapped.0 file_too again) at told) c
+          no_map_fault mapped.0 fault (rw (one_circuit binary LARGEST found mapped.0 file_too again) at told) c
           (undoing_recovers c mapped.0 good mapped.1).0,
     )

@@ -6,17 +6,14 @@ use Rattle.aig_binary.specs.BinaryText.{binary_text}
 use Rattle.aig_image.specs.Image.{IsBinaryImage}
 use Rattle.aig_map.specs.MapBlock.{IsMappedImage}
 use Rattle.aig_map.specs.Undone.{IsMapFault, IsUndoneFrom}
-use Rattle.aig_map.specs.declared.fault.MapFault.{MapFault}
 use Rattle.aig_command.specs.declared.request.ToAig.{ToAig}
 use Rattle.aig_fault.specs.Stopping.{fault_at}
 use Rattle.aig_fault.specs.declared.fault.Fault.{Fault}
 use Rattle.aig_fault.specs.declared.fault.Place.TheVariants.{Whole}
 use Rattle.aig_fault.specs.declared.kind.Kind.TheVariants.{HasBad}
-use Rattle.aig_fault.specs.declared.stopped.Stopped.TheVariants.{Refused}
 use Rattle.aig_commands.specs.File.{IsFileOf}
 use Rattle.aig_commands.specs.OutputsAsBad.{with_outputs_as_bad}
 use Rattle.aig_commands.specs.Reading.{IsUnreadable}
-use Rattle.aig_map.specs.Stops.{map_stops}
 
 -- the circuit without its symbols and its comment
 abbrev pub stripped : Circuit → Circuit
@@ -67,9 +64,8 @@ pub record IsConversionText (request : ToAig) (bytes text : List ℕ) : Type 0 w
 -- already.
 pub data IsConversionRefused (request : ToAig) (fault : Fault) (bytes : List ℕ) : Type 0 where
   is_unreadable : IsUnreadable request.max_var fault bytes → IsConversionRefused request fault bytes
-  has_no_source : (found : Circuit) (reason : MapFault) → IsFileOf bytes request.max_var found
-      → request.undo_map ≡ true → IsMapFault found reason → map_stops reason ≡ Refused fault
-      → IsConversionRefused request fault bytes
+  has_no_source : (found : Circuit) → IsFileOf bytes request.max_var found → request.undo_map ≡ true
+      → IsMapFault found fault → IsConversionRefused request fault bytes
   has_bad_states : (found source : Circuit) → IsFileOf bytes request.max_var found
       → IsSource request.undo_map found source → fault ≡ fault_at HasBad Whole 0 → request.outputs_as_bad ≡ true
       → source.bad ≢ [] → IsConversionRefused request fault bytes

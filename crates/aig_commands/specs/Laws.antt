@@ -12,8 +12,7 @@ use Rattle.aig_text.specs.AsciiGrammar.{IsAsciiText}
 use Rattle.aig_checked.specs.BinaryOrder.{IsInBinaryOrder}
 use Rattle.aig_binary.specs.BinaryText.{binary_text}
 use Rattle.aig_circuit.specs.declared.circuit.Circuit.{Circuit}
-use Rattle.aig_map.specs.declared.fault.MapFault.{MapFault}
-use Rattle.aig_map.specs.declared.fault.MapFault.TheVariants.{OutOfMemory}
+use Rattle.aig_fault.specs.declared.fault.Fault.{Fault}
 use Rattle.aig_map.specs.Undone.{IsMapFault}
 use Rattle.aig_command.specs.declared.request.Sim.{Sim}
 use Rattle.aig_command.specs.declared.request.ToAig.{ToAig}
@@ -215,8 +214,7 @@ abbrev pub MappedTextsHaveNoFault : Type 0
 MappedTextsHaveNoFault = (there : ToAig) → KeepsMap there
     → (file binary : List ℕ) → IsConversionText there file binary
     → (first_fault LARGEST binary ≡ None)
-    × ((found : Circuit) (fault : MapFault)
-    → IsFileOf binary LARGEST found → IsMapFault found fault → fault ≡ OutOfMemory)
+    × ((found : Circuit) (fault : Fault) → IsFileOf binary LARGEST found → ¬ IsMapFault found fault)
 
 -- a model and a solver's answer have one witness at most
 abbrev pub ReachTextsAreUnambiguous : Type 0

@@ -17,7 +17,7 @@ use crate::answer::Answer;
 use crate::file::read_circuit;
 use crate::outputs_as_bad::{symbols_if_free, with_outputs_as_bad};
 use aig_command::ToAig;
-use aig_convert::{MapFault, into_binary, into_binary_with_map, undo};
+use aig_convert::{into_binary, into_binary_with_map, undo};
 use aig_core::{Checked, Circuit, Keep, OutOfMemory, Sink, Source, Steps, Symbols};
 use aig_fault::Stopped;
 use std::alloc::Global;
@@ -67,9 +67,10 @@ fn turn_if_asked(alloc: Global, request: &ToAig, circuit: Checked) -> Result<Che
 }
 
 /// The circuit whose mapped image was read, where the request asks to undo the map.
-fn undo_if_asked(alloc: Global, request: &ToAig, found: Checked) -> Result<Checked, MapFault>
+fn undo_if_asked(alloc: Global, request: &ToAig, found: Checked) -> Result<Checked, Stopped>
     ensures ok { IfOk result (λ source. IsSource request.now.undo_map found source) }
-    ensures err { IfErr result (λ e. (request.now.undo_map ≡ true) × IsMapFault found e) }
+    ensures err { IfErr result (λ stopped. (request.now.undo_map ≡ true)
+        × StopsFor (IsMapFault found) stopped) }
 {
     if !request.undo_map {
         return Ok(found);

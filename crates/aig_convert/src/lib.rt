@@ -15,4 +15,3 @@ pub use crate::mapped::{MappedImage, into_binary_with_map, to_binary_with_map, w
 pub use crate::plain::to_binary;
 pub use crate::undoing::undo;
 pub use aig_image::into_binary;
-pub use aig_map::MapFault;

@@ -2,39 +2,40 @@
 ghost use Rattle.std.specs.Prelude.{◌≡◌, ◌↔◌, ◌⊎◌, IfOk, IfErr, IsTrue, MatchResult, Ok, OnOk};
 ghost use Rattle.aig_circuit.specs.declared.circuit.Circuit.{Circuit as CircuitRecord};
 ghost use Rattle.aig_circuit.specs.Wellformed.{AreDistinct, IsWellFormed, defined_variables};
-ghost use Rattle.aig_map.specs.declared.fault.MapFault.TheVariants.{Forged as IsForged};
-ghost use Rattle.aig_map.specs.declared.fault.MapFault.TheVariants.{OutOfMemory as IsOutOfMemory};
+ghost use Rattle.aig_fault.specs.Stopping.{StopsFor};
+ghost use Rattle.aig_fault.specs.declared.stopped.Stopped.TheVariants.{OutOfMemory as IsOutOfMemory};
 ghost use Rattle.aig_checked.specs.BinaryOrder.{IsInBinaryOrder};
 ghost use Rattle.aig_map.specs.MapBlock.{IsMappedImage};
 ghost use Rattle.aig_map.specs.Parts.Confirmed.{ExchangesDiffer};
 ghost use Rattle.aig_map.specs.Parts.Tables.{block_read, source_read, IsBlockOf, IsLeftOf};
 ghost use Rattle.aig_map.specs.Undone.{IsMapFault, IsUndoneFrom, comment_behind};
-ghost use Rattle.aig_map.specs.Undone.{source_variables, undone};
+ghost use Rattle.aig_map.specs.Undone.{forged, source_variables, undone};
 
 use aig_core::{Checked, Circuit, OutOfMemory, is_defined_once, is_in_binary_order};
+use aig_fault::{Kind, Stopped, refused_whole};
 use aig_map::{
-    MapBlock, MapFault, Recorded, SourceVariables, TakenBlock, into_recorded, make_undone,
+    MapBlock, Recorded, SourceVariables, TakenBlock, into_recorded, make_undone,
     positions_by_place, source_variables, take_block, tells_comment, tells_order,
 };
 use std::alloc::Global;
 
 /// Nothing else can be wrong with the source than that a variable is defined twice.
-fn check_source(alloc: Global, source: Circuit) -> Result<Checked, MapFault>
+fn check_source(alloc: Global, source: Circuit) -> Result<Checked, Stopped>
     requires { AreDistinct (defined_variables source) → IsWellFormed source }
     ensures ok { IfOk result (λ c. c ≡ source) }
     ensures formed { OnOk result (IsWellFormed source) }
     ensures err { IfErr result (λ e. (e ≡ IsOutOfMemory)
-        ⊎ ((e ≡ IsForged) × (¬ IsWellFormed source))) }
+        ⊎ ((e ≡ forged) × (¬ IsWellFormed source))) }
 {
     match is_defined_once(alloc, &source) {
         Ok(true) => Ok(Checked::from_well_formed(source)),
         Ok(false) => {
             drop(source); // for the proof
-            Err(MapFault::Forged)
+            Err(refused_whole(Kind::MapForged))
         }
         Err(_) => {
             drop(source); // for the proof
-            Err(MapFault::OutOfMemory)
+            Err(Stopped::OutOfMemory)
         }
     }
 }
@@ -68,7 +69,7 @@ fn confirm_source(
     recorded: &Recorded,
     places: &[u32],
     comment: &[u8],
-) -> Result<Circuit, MapFault>
+) -> Result<Circuit, Stopped>
     ghost mapped: { CircuitRecord }
     requires left { IsLeftOf mapped (block_read mapped) comment.now image.now }
     requires block { IsBlockOf (block_read mapped) mapped recorded.now places.now }
@@ -77,17 +78,17 @@ fn confirm_source(
     ensures ok { IfOk result (λ c. c ≡ source) }
     ensures image { IfOk result (λ c. IsWellFormed c → IsMappedImage c mapped) }
     ensures err { IfErr result (λ e. (e ≡ IsOutOfMemory)
-        ⊎ ((e ≡ IsForged) × (¬ (IsWellFormed source × IsMappedImage source mapped)))) }
+        ⊎ ((e ≡ forged) × (¬ (IsWellFormed source × IsMappedImage source mapped)))) }
 {
     match has_image(alloc, image, recorded, places, comment) {
         Ok(true) => Ok(source),
         Ok(false) => {
             drop(source); // for the proof
-            Err(MapFault::Forged)
+            Err(refused_whole(Kind::MapForged))
         }
         Err(_) => {
             drop(source); // for the proof
-            Err(MapFault::OutOfMemory)
+            Err(Stopped::OutOfMemory)
         }
     }
 }
@@ -101,7 +102,7 @@ fn source_by_places(
     variables: SourceVariables,
     places: &[u32],
     comment: &[u8],
-) -> Result<Circuit, MapFault>
+) -> Result<Circuit, Stopped>
     ghost mapped: { CircuitRecord }
     requires left { IsLeftOf mapped (block_read mapped) comment.now image.now }
     requires block { IsBlockOf (block_read mapped) mapped recorded.now places.now }
@@ -109,11 +110,11 @@ fn source_by_places(
     ensures ok { IfOk result (λ c. c ≡ source_read mapped comment.now) }
     ensures formed { IfOk result (λ c. AreDistinct (defined_variables c) → IsWellFormed c) }
     ensures image { IfOk result (λ c. IsWellFormed c → IsMappedImage c mapped) }
-    ensures fault { IfErr result (λ e. IsMapFault mapped e) }
+    ensures fault { IfErr result (StopsFor (IsMapFault mapped)) }
 {
     let source = match make_undone(alloc, &variables, places, recorded, comment, image) {
         Ok(source) => source,
-        Err(fault) => return Err(fault),
+        Err(stopped) => return Err(stopped),
     };
     drop(variables);
     confirm_source(alloc, source, image, recorded, places, comment)
@@ -126,22 +127,22 @@ fn source_by_block(
     image: &Circuit,
     block: MapBlock,
     comment: &[u8],
-) -> Result<Circuit, MapFault>
+) -> Result<Circuit, Stopped>
     ghost mapped: { CircuitRecord }
     requires ordered { IsInBinaryOrder mapped }
     requires left { IsLeftOf mapped block comment.now image.now }
     ensures ok { IfOk result (λ c. c ≡ undone block (comment_behind block comment.now) mapped) }
     ensures formed { IfOk result (λ c. AreDistinct (defined_variables c) → IsWellFormed c) }
     ensures image { IfOk result (λ c. IsWellFormed c → IsMappedImage c mapped) }
-    ensures fault { IfErr result (λ e. IsMapFault mapped e) }
+    ensures fault { IfErr result (StopsFor (IsMapFault mapped)) }
 {
     let variables = match source_variables(alloc, &block) {
         Ok(variables) => variables,
-        Err(fault) => return Err(fault),
+        Err(stopped) => return Err(stopped),
     };
     let places = match positions_by_place(alloc, block.gates.as_slice()) {
         Ok(places) => places,
-        Err(_) => return Err(MapFault::OutOfMemory),
+        Err(_) => return Err(Stopped::OutOfMemory),
     };
     match into_recorded(alloc, block) {
         Ok(recorded) => source_by_places(
@@ -152,7 +153,7 @@ fn source_by_block(
             places.as_slice(),
             comment,
         ),
-        Err(_) => Err(MapFault::OutOfMemory),
+        Err(_) => Err(Stopped::OutOfMemory),
     }
 }
 
@@ -161,29 +162,29 @@ fn undo_by_block(
     image: &Circuit,
     block: MapBlock,
     comment: &[u8],
-) -> Result<Checked, MapFault>
+) -> Result<Checked, Stopped>
     ghost mapped: { CircuitRecord }
     requires ordered { IsInBinaryOrder mapped }
     requires left { IsLeftOf mapped block comment.now image.now }
     ensures ok { IfOk result (λ c. IsUndoneFrom mapped c) }
-    ensures fault { IfErr result (λ e. IsMapFault mapped e) }
+    ensures fault { IfErr result (StopsFor (IsMapFault mapped)) }
 {
     match source_by_block(alloc, image, block, comment) {
         Ok(source) => check_source(alloc, source),
-        Err(fault) => Err(fault),
+        Err(stopped) => Err(stopped),
     }
 }
 
 #[tactic(auto, using(aig_map::proofs::Sources::Refused::unread))]
-fn recover(alloc: Global, image: Checked) -> Result<Checked, MapFault>
+fn recover(alloc: Global, image: Checked) -> Result<Checked, Stopped>
     ghost mapped: { CircuitRecord }
     requires { image ≡ mapped }
     ensures ok { IfOk result (λ c. IsUndoneFrom mapped c) }
-    ensures fault { IfErr result (λ e. IsMapFault mapped e) }
+    ensures fault { IfErr result (StopsFor (IsMapFault mapped)) }
 {
     if !is_in_binary_order(&image) {
         drop(image); // for the proof
-        return Err(MapFault::NotOrdered);
+        return Err(refused_whole(Kind::NotOrdered));
     }
     match take_block(alloc, image.into_circuit()) {
         Ok(taken) => {
@@ -194,18 +195,18 @@ fn recover(alloc: Global, image: Checked) -> Result<Checked, MapFault>
             } = taken;
             undo_by_block(alloc, &image, block, comment.as_slice())
         }
-        Err(fault) => Err(fault),
+        Err(stopped) => Err(stopped),
     }
 }
 
 /// The circuit whose mapped image this is, which is no longer needed. The errors are, in this
 /// order: the argument is not in binary order, has no map block, has one that is not of its form,
 /// or is the mapped image of no circuit. Of a mapped image it fails only if an allocation fails.
-pub fn undo(alloc: Global, image: Checked) -> Result<Checked, MapFault>
+pub fn undo(alloc: Global, image: Checked) -> Result<Checked, Stopped>
     ensures ok { IfOk result (λ c. IsUndoneFrom image c) }
     ensures only { (c : CircuitRecord) → IsUndoneFrom image c
         → MatchResult result (λ d. d ≡ c) (λ e. e ≡ IsOutOfMemory) }
-    ensures fault { IfErr result (λ e. IsMapFault image e) }
+    ensures fault { IfErr result (StopsFor (IsMapFault image)) }
 {
     recover(alloc, image)
 }

@@ -9,7 +9,7 @@ use Rattle.aig_arrays.specs.Laws.{IsDecodedFrom}
 use Rattle.aig_arrays.specs.Ordered.{IsNumberedImage}
 use Rattle.aig_arrays.specs.Decoded.{decoded}
 use Rattle.aig_arrays.specs.Words.{HasWords, circuit_bytes, circuit_words, counts_of}
-use Rattle.aig_arrays.specs.declared.fault.ArrayFault.{ArrayFault}
+use Rattle.aig_fault.specs.declared.stopped.Stopped.{Stopped}
 use Rattle.aig_arrays.proofs.Grammar.Tells.{is_decoded}
 use Rattle.aig_arrays.proofs.Grammar.Decoded.{decoded_has_words}
 use Rattle.aig_binary.proofs.Files.{one_circuit}
@@ -85,7 +85,7 @@ plain_conversion true max_var =
 plain_conversion false max_var =
     record { form = refl; strip = refl; keep_map = refl; undo_map = refl; outputs_as_bad = refl }
 
-one_decoded : (first : Result Circuit ArrayFault) (c d : Circuit) → first ≡ Ok c → first ≡ Ok d → c ≡ d
+one_decoded : (first : Result Circuit Stopped) (c d : Circuit) → first ≡ Ok c → first ≡ Ok d → c ≡ d
 one_decoded first c d is is_too = cc
 
 pub read_and_written : ReadAndWrittenIsConverted

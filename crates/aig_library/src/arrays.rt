@@ -15,9 +15,7 @@ ghost use Rattle.aig_library.specs.Asked.{CanRead, has};
 ghost use Rattle.aig_library.specs.Outcome.{StopsInMemory};
 
 use crate::asked::{ASCII, ORDERED, has, only_has};
-use crate::outcome::{
-    BAD_OPTIONS, DONE, Outcome, TOO_SHORT, answer, array_stops, ending, outcome_of,
-};
+use crate::outcome::{BAD_OPTIONS, DONE, Outcome, TOO_SHORT, answer, ending, outcome_of};
 use aig_arrays::{Counts, counts_of, numbered_image, put_bytes, put_words, read_arrays};
 use aig_binary::{read_file, write_binary};
 use aig_commands::{Stopped, refused_whole};
@@ -256,6 +254,6 @@ pub fn write(
     let is_ascii = has(options, ASCII);
     match read_arrays(alloc, counts, words, bytes, what_to_keep(!is_ascii)) {
         Ok(circuit) => answer(text_of(alloc, is_ascii, circuit), output),
-        Err(fault) => outcome_of(&array_stops(&fault)),
+        Err(stopped) => outcome_of(&stopped),
     }
 }

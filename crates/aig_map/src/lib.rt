@@ -9,19 +9,16 @@
 #![tactic(auto)]
 
 mod confirmed;
-mod fault;
 mod kept_map;
 mod map_block;
 mod map_reading;
 mod map_text;
 mod recorded;
 mod recording;
-mod stops;
 mod turns;
 mod undone;
 
 pub use crate::confirmed::tells_comment;
-pub use crate::fault::MapFault;
 pub use crate::kept_map::{KeptMap, KeptVariables};
 pub use crate::map_block::{MapBlock, MappedGate};
 pub use crate::map_reading::{TakenBlock, take_block};

@@ -34,8 +34,8 @@ use Rattle.aig_arrays.specs.Decoded.{decoded, symbols_decoded, unless_broken, un
 use Rattle.aig_arrays.specs.Words.{Counts, bytes_length, circuit_bytes, circuit_words, counts_of, names_of}
 use Rattle.aig_arrays.specs.Words.{section_words, symbol_words, words_length}
 use Rattle.aig_arrays.specs.Laws.{IsDecodedFrom}
-use Rattle.aig_arrays.specs.declared.fault.ArrayFault.{ArrayFault}
-use Rattle.aig_arrays.specs.declared.fault.ArrayFault.TheVariants.{BadCounts}
+use Rattle.aig_fault.specs.declared.stopped.Stopped.{Stopped}
+use Rattle.aig_arrays.specs.Decoded.{bad_counts}
 use Rattle.aig_arrays.proofs.Grammar.Rows.{ahead}
 use Rattle.aig_arrays.proofs.Grammar.Sections.{AreSectionsFirst, all_found}
 use Rattle.aig_arrays.proofs.Grammar.Symbols.{AreSymbolsFirst, names_in, symbols_found}
@@ -76,11 +76,11 @@ pub record TellEntries (n : Counts) (words bytes : List ℕ) (c : Circuit) : Typ
   pub ends : named.1 ≡ n.name_bytes
   pub circuit : with_comment_decoded n bytes named.0 ≡ c
 
-abbrev then_symbols : Counts → List ℕ → Circuit × Ahead → Result (Circuit × ℕ) ArrayFault
+abbrev then_symbols : Counts → List ℕ → Circuit × Ahead → Result (Circuit × ℕ) Stopped
 then_symbols n bytes numbered =
     symbols_decoded (header_of n) (take n.name_bytes bytes) nothing_named 0 n.symbols numbered.1 numbered.0
 
-abbrev then_all : Counts → List ℕ → Circuit × Ahead → Result Circuit ArrayFault
+abbrev then_all : Counts → List ℕ → Circuit × Ahead → Result Circuit Stopped
 then_all n bytes numbered = then_symbols n bytes numbered >>= unless_left n bytes
 
 pub entries_found : (n : Counts) (words bytes : List ℕ) (c : Circuit) → entries_decoded n words bytes ≡ Ok c
@@ -88,10 +88,10 @@ pub entries_found : (n : Counts) (words bytes : List ℕ) (c : Circuit) → entr
 unfolding entries_decoded
 entries_found n words bytes c h =
     let all = sections_decoded (header_of n) sections (empty_circuit n.max_var) (ahead 0 words) in
-    let t = let_through (counts_fit n words bytes) BadCounts (all >>= then_all n bytes) c h in
+    let t = let_through (counts_fit n words bytes) bad_counts (all >>= then_all n bytes) c h in
     let b = both_ok all (then_all n bytes) c t.1 in
     let d = both_ok (then_symbols n bytes b.0) (unless_left n bytes) c b.2 in
-    let e = let_through (nat_eq d.0.1 n.name_bytes) BadCounts (Ok (with_comment_decoded n bytes d.0.0)) c d.2 in
+    let e = let_through (nat_eq d.0.1 n.name_bytes) bad_counts (Ok (with_comment_decoded n bytes d.0.0)) c d.2 in
     record {
       fits = do_fit n words bytes t.0;
       numbered = b.0.0;
@@ -101,7 +101,7 @@ entries_found n words bytes c h =
       symbols =
           symbols_found (header_of n) (take n.name_bytes bytes) nothing_named 0 n.symbols b.0.1 b.0.0 d.0 d.1;
       ends = eqb-true d.0.1 n.name_bytes e.0;
-      circuit = ok_same {E = ArrayFault} (with_comment_decoded n bytes d.0.0) c e.1;
+      circuit = ok_same {E = Stopped} (with_comment_decoded n bytes d.0.0) c e.1;
     }
 
 -- the comment that stands in these bytes
@@ -332,7 +332,7 @@ module _ (n : Counts) (words bytes : List ℕ) (c : Circuit) (t : TellEntries n 
 
 -- what is decoded has the words, and is well formed
 no_fault : (c d : Circuit) (o : Option Stopped) → unless_broken c o ≡ Ok d → (o ≡ None) × (c ≡ d)
-no_fault c d None h = (refl, ok_same {E = ArrayFault} c d h)
+no_fault c d None h = (refl, ok_same {E = Stopped} c d h)
 no_fault c d (Some f) h = cc
 
 pub entries_in_form : (n : Counts) (words bytes : List ℕ) (c : Circuit) → entries_decoded n words bytes ≡ Ok c

@@ -14,8 +14,8 @@ use Rattle.aig_rows.proofs.Grammar.Entries.{AreGoodRows, IsGoodRow, MayStand}
 use Rattle.aig_rows.proofs.Grammar.Rows.{all_may_stand, carried_behind, none_wrong, unless_none}
 use Rattle.aig_rows.proofs.Steps.{both_ok, ok_same, passed}
 use Rattle.aig_arrays.specs.Decoded.{Ahead, at_word, behind, row_decoded, rows_decoded, width, words_decoded}
-use Rattle.aig_arrays.specs.declared.fault.ArrayFault.{ArrayFault}
-use Rattle.aig_arrays.specs.declared.fault.ArrayFault.TheVariants.{BadCounts, BadEntry}
+use Rattle.aig_fault.specs.declared.stopped.Stopped.{Stopped}
+use Rattle.aig_arrays.specs.Decoded.{bad_counts, bad_entry}
 
 -- the words that are ahead after so many others
 abbrev pub ahead : ℕ → List ℕ → Ahead
@@ -33,16 +33,16 @@ pub record IsDecodedFirst {A : Type 0} (count : ℕ) (tell : List ℕ → Result
   pub counted : length first ≡ count
   pub tells : tell first ≡ Ok p.0
 
-abbrev with_behind : {A : Type 0} → ℕ → Ahead → A → Result (A × Ahead) ArrayFault
+abbrev with_behind : {A : Type 0} → ℕ → Ahead → A → Result (A × Ahead) Stopped
 with_behind count a found = Ok (found, behind count a)
 
 pub first_decoded : {A : Type 0} (count : ℕ) (tell : List ℕ → Result A Kind) (a : Ahead) (p : A × Ahead)
     → words_decoded count tell a ≡ Ok p → IsDecodedFirst count tell a p
 first_decoded {A} count tell a p h =
     let first = take count a.words in
-    let t = passed (ltb (length a.words) count) BadCounts (at_word a.at (tell first) >>= with_behind count a) p h in
+    let t = passed (ltb (length a.words) count) bad_counts (at_word a.at (tell first) >>= with_behind count a) p h in
     let b = both_ok (at_word a.at (tell first)) (with_behind count a) p t.1 in
-    let same : (b.0, behind count a) ≡ p = ok_same {E = ArrayFault} (b.0, behind count a) p b.2 in
+    let same : (b.0, behind count a) ≡ p = ok_same {E = Stopped} (b.0, behind count a) p b.2 in
     subst (IsDecodedFirst count tell a) same (record {
       first = first;
       words = sym (take-append-drop count a.words);
@@ -72,7 +72,7 @@ module _ {A : Type 0} (count : ℕ) (tell : List ℕ → Result A Kind) (at : �
       h
 
   pub wrong_first : (kind : Kind) → length first ≡ count → tell first ≡ Err kind
-      → words_decoded count tell (ahead at (first ++ rest)) ≡ Err (BadEntry at kind)
+      → words_decoded count tell (ahead at (first ++ rest)) ≡ Err (bad_entry at kind)
   wrong_first kind long h =
       there long
       ∙ ap (λ (r : Result A Kind).
@@ -115,10 +115,10 @@ pub record AreRowsFirst (form : Form) (bound carried count : ℕ) (words : List 
   pub good : AreGoodRows form bound carried rows
   pub counted : length rows ≡ count
 
-abbrev pub with_first : List ℕ → List (List ℕ) × Ahead → Result (List (List ℕ) × Ahead) ArrayFault
+abbrev pub with_first : List ℕ → List (List ℕ) × Ahead → Result (List (List ℕ) × Ahead) Stopped
 with_first first others = Ok (first ∷ others.0, others.1)
 
-abbrev then_rows : Form → ℕ → ℕ → ℕ → List ℕ × Ahead → Result (List (List ℕ) × Ahead) ArrayFault
+abbrev then_rows : Form → ℕ → ℕ → ℕ → List ℕ × Ahead → Result (List (List ℕ) × Ahead) Stopped
 then_rows form bound carried count first =
     rows_decoded form bound (carried_behind form carried first.0) count first.1 >>= with_first first.0
 
@@ -127,7 +127,7 @@ pub rows_found : (form : Form) (bound carried count : ℕ) (a : Ahead) (p : List
 unfolding rows_decoded
 rows_found form bound carried zero a p h =
     subst (λ (q : List (List ℕ) × Ahead). AreRowsFirst form bound carried zero a.words q.0 q.1.words)
-    (ok_same {E = ArrayFault} ([], a) p h) (record { are = refl; good = tt; counted = refl })
+    (ok_same {E = Stopped} ([], a) p h) (record { are = refl; good = tt; counted = refl })
 rows_found form bound carried (suc count) a p h =
     let f = both_ok (row_decoded form bound carried a) (then_rows form bound carried count) p h in
     let r = row_found form bound carried a f.0 f.1 in
@@ -135,7 +135,7 @@ rows_found form bound carried (suc count) a p h =
     let o = both_ok (rows_decoded form bound next count f.0.1) (with_first f.0.0) p f.2 in
     let others = rows_found form bound next count f.0.1 o.0 o.1 in
     subst (λ (q : List (List ℕ) × Ahead). AreRowsFirst form bound carried (suc count) a.words q.0 q.1.words)
-    (ok_same {E = ArrayFault} (f.0.0 ∷ o.0.0, o.0.1) p o.2)
+    (ok_same {E = Stopped} (f.0.0 ∷ o.0.0, o.0.1) p o.2)
     (record {
       are =
           r.words ∙ ap (λ (ns : List ℕ). f.0.0 ++ ns) others.are

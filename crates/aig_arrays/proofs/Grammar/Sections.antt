@@ -10,7 +10,7 @@ use Rattle.aig_text.specs.declared.section.Section.{Section}
 use Rattle.aig_text.proofs.Grammar.Sections.{AllApart, AllEmpty, AllFit, AreApart, rows_by, tells_rows, with_all}
 use Rattle.aig_arrays.specs.Decoded.{Ahead, rows_decoded, section_decoded, sections_decoded}
 use Rattle.aig_arrays.specs.Words.{words_in}
-use Rattle.aig_arrays.specs.declared.fault.ArrayFault.{ArrayFault}
+use Rattle.aig_fault.specs.declared.stopped.Stopped.{Stopped}
 use Rattle.aig_arrays.proofs.Grammar.Rows.{AreRowsFirst, ahead, rows_are_decoded, rows_found}
 
 -- words that hold the rows of a circuit in these sections, and what they make of another one
@@ -40,14 +40,14 @@ module _ (h : Header) where
   abbrev count_in : Section → Circuit → ℕ
   count_in s c = (in_ascii s).count h c
 
-  abbrev rows_of_section : Section → Circuit → Ahead → Result (List (List ℕ) × Ahead) ArrayFault
+  abbrev rows_of_section : Section → Circuit → Ahead → Result (List (List ℕ) × Ahead) Stopped
   rows_of_section s c a =
       rows_decoded (in_ascii s).form ((in_ascii s).bound h) (start_of s c) (count_in s c) a
 
-  abbrev after_rows : Section → Circuit → List (List ℕ) × Ahead → Result (Circuit × Ahead) ArrayFault
+  abbrev after_rows : Section → Circuit → List (List ℕ) × Ahead → Result (Circuit × Ahead) Stopped
   after_rows s c found = Ok ((in_ascii s).with_rows h found.0 c, found.1)
 
-  abbrev then_sections : List Section → Circuit × Ahead → Result (Circuit × Ahead) ArrayFault
+  abbrev then_sections : List Section → Circuit × Ahead → Result (Circuit × Ahead) Stopped
   then_sections ss found = sections_decoded h ss found.0 found.1
 
   abbrev AreRowsOf : Section → Circuit → List (List ℕ) → List ℕ → List ℕ → Type 0
@@ -60,11 +60,11 @@ module _ (h : Header) where
   unfolding sections_decoded
   sections_found [] c a p apart empty is =
       subst (λ (q : Circuit × Ahead). AreSectionsFirst h [] c q.0 a.words q.1.words)
-      (ok_same {E = ArrayFault} (c, a) p is) (record { are = refl; fit = tt; circuit = refl })
+      (ok_same {E = Stopped} (c, a) p is) (record { are = refl; fit = tt; circuit = refl })
   sections_found (s ∷ ss) c a p apart empty is =
       let f = both_ok (section_decoded (in_ascii s) h c a) (then_sections ss) p is in
       let r = both_ok (rows_of_section s c a) (after_rows s c) f.0 f.1 in
-      let e : ((in_ascii s).with_rows h r.0.0 c, r.0.1) ≡ f.0 = ok_same {E = ArrayFault} _ _ r.2 in
+      let e : ((in_ascii s).with_rows h r.0.0 c, r.0.1) ≡ f.0 = ok_same {E = Stopped} _ _ r.2 in
       let rows =
       rows_found (in_ascii s).form ((in_ascii s).bound h) (start_of s c) (count_in s c) a r.0 r.1 in
       let next : Circuit = (in_ascii s).with_rows h r.0.0 c in

@@ -23,7 +23,7 @@ use Rattle.aig_text.proofs.Grammar.Symbols.{AreNew}
 use Rattle.aig_text.proofs.Grammar.Tail.{checked_tells, new_is_checked}
 use Rattle.aig_arrays.specs.Decoded.{Ahead, is_name, kind_decoded, next_symbol, symbol_decoded, symbols_decoded}
 use Rattle.aig_arrays.specs.Words.{kind_word, symbol_row, symbol_words}
-use Rattle.aig_arrays.specs.declared.fault.ArrayFault.{ArrayFault}
+use Rattle.aig_fault.specs.declared.stopped.Stopped.{Stopped}
 use Rattle.aig_arrays.proofs.Grammar.Rows.{ahead, first_decoded, tells_first}
 
 -- the names of symbols
@@ -130,7 +130,7 @@ pub record AreSymbolsFirst (h : Header) (names : List ℕ) (before : Names) (sta
   pub counted : length symbols ≡ count
   pub circuit : with_symbols c symbols ≡ p.0
 
-abbrev then_symbols : Header → List ℕ → Names → ℕ → ℕ → Circuit → Symbol × Ahead → Result (Circuit × ℕ) ArrayFault
+abbrev then_symbols : Header → List ℕ → Names → ℕ → ℕ → Circuit → Symbol × Ahead → Result (Circuit × ℕ) Stopped
 then_symbols h names before start count c found =
     symbols_decoded h names (with_name before found.0.kind found.0.position) (start + length found.0.name) count found.1
     (with_symbol c found.0)
@@ -140,7 +140,7 @@ pub symbols_found : (h : Header) (names : List ℕ) (before : Names) (start coun
     → AreSymbolsFirst h names before start count a.words c p
 unfolding symbols_decoded symbol_words
 symbols_found h names before start zero a c p is =
-    subst (AreSymbolsFirst h names before start zero a.words c) (ok_same {E = ArrayFault} (c, start) p is) (record {
+    subst (AreSymbolsFirst h names before start zero a.words c) (ok_same {E = Stopped} (c, start) p is) (record {
       symbols = [];
       rest = a.words;
       words_are = refl;

@@ -17,9 +17,9 @@ use Rattle.aig_text.specs.AsciiText.{numbers_text}
 use Rattle.aig_map.specs.declared.map_block.MappedGate.{MappedGate}
 use Rattle.aig_map.specs.MapBlock.{one_if, variable_row, mapped_row}
 use Rattle.aig_map.specs.MapSpelling.{number_at, last_number_at, is_variable, variable_at, gate_at}
-use Rattle.aig_map.specs.declared.fault.MapFault.{MapFault}
+use Rattle.aig_fault.specs.declared.fault.Fault.{Fault}
 use Rattle.aig_map.specs.MapReading.{◌>>=◌, or_else, entries_at}
-use Rattle.aig_map.specs.declared.fault.MapFault.TheVariants.{Malformed}
+use Rattle.aig_map.specs.MapReading.{bad_line}
 
 -- the line of these numbers, and what follows it
 abbrev pub line : List ℕ → List ℕ → List ℕ
@@ -157,7 +157,7 @@ module _ (m : ℕ) (few : m ≤ LARGEST) where
 -- So many lines of a map block: their text is read as what they tell, and what is read is their text.
 
 -- what is there where no fault is
-pub there : {A : Type 0} (fault : MapFault) (x : Option A) (y : A) → or_else fault x ≡ Ok y → x ≡ Some y
+pub there : {A : Type 0} (fault : Fault) (x : Option A) (y : A) → or_else fault x ≡ Ok y → x ≡ Some y
 there fault None y h = cc
 there fault (Some x) y h = cc
 
@@ -205,7 +205,7 @@ module _ {T : Type 0} {entry : List ℕ → Option (T × List ℕ)} {row : T →
 
 -- what so many lines tell, and what follows them
 abbrev pub Read : Type 0 → Type 0
-Read T = Result (List T × List ℕ) MapFault
+Read T = Result (List T × List ℕ) Fault
 
 module _ {T : Type 0} where
   -- what is read after what was found before
@@ -236,7 +236,7 @@ module _ {T : Type 0} where
 
     -- a line that is not of its form
     pub entries_wrong : (whole : Read T) → i < count → entry bytes ≡ None → from_here ≡ whole
-        → whole ≡ Err (Malformed (line + i))
+        → whole ≡ Err (bad_line (line + i))
     unfolding entries_at
     entries_wrong whole l h is =
         let one : count - i ≡ suc (count - (i + 1)) = omega arith in

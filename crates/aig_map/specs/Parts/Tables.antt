@@ -6,7 +6,7 @@ use Rattle.aig_circuit.specs.Wellformed.{AreDistinct, IsWellFormed}
 use Rattle.aig_checked.specs.BinaryOrder.{IsInBinaryOrder}
 use Rattle.aig_image.specs.Relabelled.{relabelled_gate}
 use Rattle.aig_image.specs.Reordered.{taken}
-use Rattle.aig_map.specs.declared.fault.MapFault.{MapFault}
+use Rattle.aig_fault.specs.declared.fault.Fault.{Fault}
 use Rattle.aig_map.specs.declared.map_block.MapBlock.{MapBlock}
 use Rattle.aig_map.specs.declared.recorded.Recorded.{Recorded}
 use Rattle.aig_map.specs.MapReading.{block_reading, HasCountsOf, IsWithinBounds}
@@ -14,7 +14,7 @@ use Rattle.aig_map.specs.Parts.Turns.{positions}
 use Rattle.aig_map.specs.Undone.{comment_behind, exchanges_recorded, places_recorded, undone}
 
 -- the block that was read, or an empty one
-abbrev pub block_in : Result (MapBlock × List ℕ) MapFault → MapBlock
+abbrev pub block_in : Result (MapBlock × List ℕ) Fault → MapBlock
 block_in (Ok (b, rest)) = b
 block_in (Err e) = record { max_var = 0; inputs = []; latches = []; gates = []; has_comment = false }
 

@@ -11,7 +11,7 @@ returns-in-Ok-true-clause-image g c = λ formed.
 
 pub returns-in-Ok-false-clause-err : goal.returns-in-Ok-false-clause-err
 returns-in-Ok-false-clause-err g c = inr (
-  refl,
+  c.refused_whole.ensures,
   λ (both : IsWellFormed c.args.source × IsMappedImage c.args.source g.mapped).
       let image = subst (λ (source : Circuit). IsMappedImage source g.mapped) c.requires.1.1.0 both.1 in
       let formed = subst IsWellFormed c.requires.1.1.0 both.0 in

@@ -15,7 +15,7 @@ make_undone-requires g c = (kept_without_comment _ _ _ _ _ c.requires.0.bare c.r
 pub returns-in-Err-clause-fault : goal.returns-in-Err-clause-fault
 returns-in-Err-clause-fault g c =
     of_exchanges g.mapped (block_read g.mapped) c.args.comment.now c.requires.1.0.fit.ordered
-    c.requires.0.read c.in-Err.fault c.requires.0.formed (rw c.requires.0.bare at c.in-Err.ensures.err)
+    c.requires.0.read c.in-Err.stopped c.requires.0.formed (rw c.requires.0.bare at c.in-Err.ensures.err)
 
 pub confirm_source-requires : goal.confirm_source-requires
 confirm_source-requires g c = (
