@@ -6,8 +6,9 @@ use Rattle.aig_arrays.proofs.decoded.read_entries.Goals as goal
 
 pub returns-then-not-counts_fit : goal.returns-then-not-counts_fit
 returns-then-not-counts_fit c =
-    inr (unfit c.args.counts.now c.args.words.now c.args.bytes.now
-    (sym c.counts_fit.ensures ∙ c.if-not-counts_fit.true))
+    rw c.refused_whole.ensures (inr (
+    unfit c.args.counts.now c.args.words.now c.args.bytes.now (sym c.counts_fit.ensures ∙ c.if-not-counts_fit.true)
+    ))
 
 pub returns-in-Err : goal.returns-in-Err
 returns-in-Err c =
