@@ -54,6 +54,7 @@ def in_lines(design, room):
     frames = int(design.words[1]) if design.words[:1] == ("--frames",) else checked.FRAMES
     said = room.run("--jobs", "2", "--keep", "kept", *words_of(design))
     found = checked.judge(said, truths(design), frames=frames)
+    checked.need("does not fail in Yosys's replay" not in said.err, "a replay without a failure", said)
     checked.judge_kept(room, room.here / "kept", found, said)
 
 
@@ -235,6 +236,24 @@ def others(room):
     checked.judge(said, truths(designs.one("counter")))
 
 
+def replayed(design, room):
+    """Each counterexample is replayed on the Verilog, and the assertion that fails there is named."""
+    need_tools(*TOOLS)
+    placed(room)
+    said = room.run(*words_of(design))
+    for it in checked.judge(said, truths(design)):
+        noted = [line for line in said.err.splitlines() if it.name in line and it.source in line and "replay" in line]
+        checked.need(len(noted) == (it.answer == "reached"), f"{it} has the notes {noted}", said)
+
+
+def contradiction(room):
+    """Assumptions that no run keeps are told, since each assertion then holds."""
+    need_tools(*TOOLS)
+    placed(room)
+    said = room.run("--top", "contradictory", "contradictory.sv")
+    checked.need("contradict" in said.err, "it is not told", said)
+
+
 def without_abc(design, room):
     need_tools("yosys", "cadical")
     placed(room)
@@ -270,6 +289,9 @@ def rows():
         yield f"a note of the clocks of {top}", each(noted_clocks, designs.named(top))
     for name, (words, patterns) in REFUSED.items():
         yield name, each(says_nothing, words, patterns)
+    for top in ("counter", "memory", "two_clocks", "reset_to_1", "kept", "past"):
+        yield f"the runs of {top} replayed", each(replayed, designs.named(top))
+    yield "assumptions that contradict one another", contradiction
     yield "deeper than the bound", deep
     yield "deeper than the bound, by ABC", deep_with_abc
     yield "what is left out", left_out
