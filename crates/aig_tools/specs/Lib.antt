@@ -2,7 +2,6 @@ pub use Rattle.aig_commands.specs.File
 pub use Rattle.aig_commands.specs.Conversion
 pub use Rattle.aig_commands.specs.Simulation
 pub use Rattle.aig_commands.specs.Unrolling
-pub use Rattle.aig_commands.specs.Stops
 pub use Rattle.aig_commands.specs.Reading
 pub use Rattle.aig_commands.specs.Reaching
 pub use Rattle.aig_commands.specs.Refuting
