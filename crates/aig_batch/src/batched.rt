@@ -41,6 +41,8 @@ fn put_groups<W: Sink>(
 
 /// Sends the text for the front of a stimulus that has no bad line, and the text for what comes
 /// after it.
+// Not built into its caller, whose stack would then hold a second block of the output.
+#[inline(never)]
 fn trace_good<W: Sink>(
     reader: StimulusReader,
     sink: &mut W,
@@ -66,6 +68,8 @@ fn trace_good<W: Sink>(
 }
 
 /// Sends the text for a stimulus that has no bad line, all lines of which the reader takes.
+// Nor is this.
+#[inline(never)]
 fn trace_lines<W: Sink>(
     reader: StimulusReader,
     sink: &mut W,

@@ -81,6 +81,8 @@ fn done_status(verdict: Option<Verdict>) -> u8
 
 impl<A: FileAccess, R: Source, W: Sink, E: Sink> World<A, R, W, E> {
     /// Reads what is read next, from the source of this name.
+    // Not built into its caller, whose stack would then hold the window of a source while it writes.
+    #[inline(never)]
     pub(crate) fn read(
         &mut self,
         alloc: Global,

@@ -69,6 +69,8 @@ impl StimulusReader {
 
     /// Puts the text for all lines of the bytes up to the first bad one, and ends the run that is
     /// going on then, if it has a step.
+    // Built into its callers, since it takes and returns an output, whose block is moved each time.
+    #[inline(always)]
     pub fn put_trace_text<'a, W: Sink>(self, output: Output<'a, W>, bytes: &[u8]) -> Output<'a, W>
         requires { IsFresh self }
         ensures { AppendedText self.tracing bytes.now output.entry result }
