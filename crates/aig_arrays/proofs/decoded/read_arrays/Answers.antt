@@ -38,8 +38,7 @@ returns-in-Ok-clause-only c = λ d is.
 
 pub returns-in-Err-clause-only : goal.returns-in-Err-clause-only
 returns-in-Err-clause-only c = λ d is.
-    c.check_stops.ensures
-    ∙ only_memory c.args.counts.now c.args.words.now c.args.bytes.now d _ (
+    only_memory c.args.counts.now c.args.words.now c.args.bytes.now d _ (
     decoded_wrong c.args.counts.now c.args.words.now c.args.bytes.now c.in_ok-circuit.circuit c.in-Err.fault
     c.in_ok-circuit.ensures c.in-Err.ensures.fault
     ) is
@@ -52,6 +51,5 @@ returns-in-Ok-clause-ok c =
 
 pub returns-in-Err-clause-err : goal.returns-in-Err-clause-err
 returns-in-Err-clause-err c =
-    rw c.check_stops.ensures
-    (decoded_wrong c.args.counts.now c.args.words.now c.args.bytes.now c.in_ok-circuit.circuit c.in-Err.fault
-    c.in_ok-circuit.ensures c.in-Err.ensures.fault)
+    decoded_wrong c.args.counts.now c.args.words.now c.args.bytes.now c.in_ok-circuit.circuit c.in-Err.fault
+    c.in_ok-circuit.ensures c.in-Err.ensures.fault

@@ -1,5 +1,5 @@
 use Rattle.std.proofs.Common.{◌≡◌, ◌∙◌, [], OnOk, ap, is_err, refl, subst}
-use Rattle.aig_io.specs.Notes.{bytes_of}
+use Rattle.aig_io.specs.Notes.{bytes_of, sum_of}
 use Rattle.aig_io.specs.Output.{output_to}
 use Rattle.aig_wave.specs.Frames.{frames_of}
 use Rattle.aig_wave.specs.Standing.{WasSent, Wave, output_at, wave_origin}
@@ -33,4 +33,5 @@ pub returns-clause-reported : goal.returns-clause-reported
 returns-clause-reported g c =
     let s = c.self.inside in
     subst (λ (s : Wave _). OnOk c.finish.result.0 (s.history.failures ≡ 0)) c.self.view_is
-    (no_failures s.failures s.dump_writer.output.failed c.finish.result.0 c.self.invariant.1 c.finish.ensures.reported)
+    (no_failures (sum_of s.failures.notes) s.dump_writer.output.failed c.finish.result.0 c.self.invariant.1
+    c.finish.ensures.reported)

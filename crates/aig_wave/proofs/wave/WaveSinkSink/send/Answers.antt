@@ -13,7 +13,7 @@ invariant_of-self-2 g c =
     let o = output_at v.output.name s.before.value history in
     let text = bytes_of s.log.notes in (
       still_dump s.before.value history v c.flush.new.self _
-          (subst (Dumps v.dump_state.layout o c.flush.new.self) (ap bytes_of (sym c.note.ensures))
+          (subst (Dumps v.dump_state.layout o c.flush.new.self) (ap bytes_of (sym c.note-2.ensures))
           (c.flush.ensures.dumps v.dump_state.layout o (text ++ c.args.bytes.now)
           (c.take_bytes.ensures v.dump_state.layout o text c.self.invariant.0))),
       λ some. (
@@ -36,12 +36,12 @@ returns-clause-history g c =
     (c.take_bytes.ensures v.dump_state.layout o text c.self.invariant.0))
     ∙ ap (λ (s : Wave _). s.history.origin) c.self.view_is in
     let all : bytes ≡ take (length bytes) bytes = sym (take_all (length bytes) bytes (omega arith)) in
-    let texts : bytes_of c.note.new.self.notes ≡ c.args.self.now.history.bytes ++ take (length bytes) bytes =
-    ap bytes_of c.note.ensures ∙ ap (λ (t : List ℕ). text ++ t) all
+    let texts : bytes_of c.note-2.new.self.notes ≡ c.args.self.now.history.bytes ++ take (length bytes) bytes =
+    ap bytes_of c.note-2.ensures ∙ ap (λ (t : List ℕ). text ++ t) all
     ∙ ap (λ (s : Wave _). s.history.bytes ++ take (length bytes) bytes) c.self.view_is in
     let no_more : sum_of s.log.notes + 0 ≡ sum_of s.log.notes = omega arith in
-    let ends : sum_of c.note.new.self.notes ≡ c.args.self.now.history.ends =
-    ap sum_of c.note.ensures ∙ no_more ∙ ap (λ (s : Wave _). s.history.ends) c.self.view_is in
-    let failures : s.failures ≡ c.args.self.now.history.failures =
+    let ends : sum_of c.note-2.new.self.notes ≡ c.args.self.now.history.ends =
+    ap sum_of c.note-2.ensures ∙ no_more ∙ ap (λ (s : Wave _). s.history.ends) c.self.view_is in
+    let failures : sum_of s.failures.notes ≡ c.args.self.now.history.failures =
     ap (λ (s : Wave _). s.history.failures) c.self.view_is in
     λ i. record { origin = origins i; bytes = texts i; ends = ends i; failures = failures i }
