@@ -247,7 +247,8 @@ check 'the lines of crates.txt that it copies' cat "$work/lines"
 wants "$small" '' 0
 check 'the launch after it' launch aigtoaig --ascii < "$work/small"
 again="\n\nUsage: aiger <COMMAND>\n\nFor more information, try '--help'.\n"
-wants '' "error: 'aiger' requires a subcommand but one was not provided\n  [subcommands: aigtoaig, aigsim, aigunroll]$again" 2
+"$program" --help > "$work/help"
+wants '' "$(cat "$work/help")\n" 2
 check 'no words to the launcher' launch
 wants '' "error: unrecognized subcommand 'aigtoaig --ascii'\n\n  tip: a similar subcommand exists: 'aigtoaig'$again" 2
 check 'one word of two to the launcher' launch 'aigtoaig --ascii'
@@ -570,6 +571,17 @@ printf '#!/bin/bash\nread -r _ ignored < <(grep ^SigIgn /proc/self/status)\necho
 edit
 wants '1\n' "$proves" 0
 check 'it is ignored' signalled
+# no file grows then, so what comes goes through pipes
+limited() { { (ulimit -f 0 && exec env --default-signal=XFSZ "$tree/aiger") 2>&1 | cat; } 2>&1; return "${PIPESTATUS[0]}"; }
+wants '1\n' '' 0
+check 'where no file may grow, and the program is noted' limited
+look_again
+check 'where it is noted, and was not looked at in this second' limited
+look_again
+rm -f "$out/launch.stamp"
+check 'and where nothing is noted' limited
+wants "$out/launch.seen\n" '' 0
+check 'which leaves no other file' find "$out" -name 'launch.*'
 cp "$program" "$work/program"
 
 # --- a folder that cannot be written ---

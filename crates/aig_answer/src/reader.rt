@@ -28,17 +28,17 @@ pub enum Spot {
     Comment,
     /// In the line of a status, of which so many bytes came.
     Word(Status, usize),
-    /// Behind the `v` of a line of values.
+    /// After the `v` of a line of values.
     Values,
-    /// Behind a space in it.
+    /// After a space in it.
     Space,
-    /// Behind a minus.
+    /// After a minus.
     Minus,
     /// In a number, negative or not, that comes to this so far.
     Number(bool, u32),
-    /// Behind a carriage return, which only a line feed may follow.
+    /// After a carriage return, which only a line feed may follow.
     Return,
-    /// Behind a wrong byte.
+    /// After a wrong byte.
     Wrong,
 }
 
@@ -262,7 +262,7 @@ impl Reader {
         self.standing_at(Spot::Wrong)
     }
 
-    /// Behind a number, of which 0 is the last.
+    /// After a number, of which 0 is the last.
     fn ended_by(self, number: u32) -> Reader
         ensures { result ≡ ended_by self number }
     {
@@ -317,7 +317,7 @@ impl Reader {
         }
     }
 
-    /// Behind one more byte.
+    /// After one more byte.
     pub fn next(self, byte: u8) -> Move
         ensures { result ≡ next self byte }
     {
@@ -338,7 +338,7 @@ impl Reader {
         }
     }
 
-    /// Behind the last byte.
+    /// After the last byte.
     fn close(self) -> Reader
         ensures { result ≡ closed self }
     {

@@ -4,7 +4,7 @@ use Rattle.std.specs.Prelude.{◌≡◌, ◌+◌, ◌<◌, ◌≤◌, ◌++◌, 
 use Rattle.std.specs.List.{range_with_len}
 use Rattle.aig_array_steps.specs.declared.one_step.StepFault.{StepFault}
 use Rattle.aig_array_steps.specs.declared.one_step.StepFault.TheVariants.{BadCounts, NotOrdered, TooShort, BadValue}
-use Rattle.aig_arrays.specs.Told.{are_in_range}
+use Rattle.aig_arrays.specs.Decoded.{are_in_range}
 use Rattle.aig_arrays.specs.Words.{counts_of, section_length, section_words}
 use Rattle.aig_arrays.specs.declared.counts.Counts.{Counts}
 use Rattle.aig_checked.specs.BinaryOrder.{IsNumberedInOrder}
@@ -43,7 +43,7 @@ value_bytes c a =
     map value_byte (map a (range_with_len 0 (1 + c.max_var))
     ++ map (literal_value a) (c.outputs ++ c.bad ++ c.constraints ++ next_literals c))
 
--- The bytes of inputs and state stand behind the first, and all bytes are now those of a step from there.
+-- The bytes of inputs and state stand after the first, and all bytes are now those of a step from there.
 pub record IsStepped (c : Circuit) (before after : List ℕ) : Type 0 where
   pub a : ℕ → Val
   pub given : List Val
@@ -62,9 +62,9 @@ pub record IsBadValue (n : Counts) (values : List ℕ) (place : ℕ) : Type 0 wh
   pub bad : 2 < slice_index values place
   pub first : (i : ℕ) → 1 ≤ i → i < place → slice_index values i ≤ 2
 
--- some circuit is told
-abbrev pub IsTold : Counts → List ℕ → Type 0
-IsTold n words = (c : Circuit) × TellsNumbered n words c
+-- some circuit is decoded
+abbrev pub IsDecoded : Counts → List ℕ → Type 0
+IsDecoded n words = (c : Circuit) × TellsNumbered n words c
 
 -- the values are now those of a step of a circuit that the words tell
 pub record IsStepOf (n : Counts) (words before after : List ℕ) : Type 0 where
@@ -76,8 +76,8 @@ pub record IsStepOf (n : Counts) (words before after : List ℕ) : Type 0 where
 -- what is known where no step was taken, by the first fault
 abbrev pub IsFault : Counts → (words values : List ℕ) → StepFault → Type 0
 IsFault n words values BadCounts = ¬ HasSections n words
-IsFault n words values NotOrdered = HasSections n words × (¬ IsTold n words)
+IsFault n words values NotOrdered = HasSections n words × (¬ IsDecoded n words)
 IsFault n words values (TooShort needed) =
-    HasSections n words × IsTold n words × (needed ≡ values_length n) × (length values < needed)
+    HasSections n words × IsDecoded n words × (needed ≡ values_length n) × (length values < needed)
 IsFault n words values (BadValue place) =
-    HasSections n words × IsTold n words × (values_length n ≤ length values) × IsBadValue n values place
+    HasSections n words × IsDecoded n words × (values_length n ≤ length values) × IsBadValue n values place

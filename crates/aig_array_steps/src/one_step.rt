@@ -62,7 +62,7 @@ fn write(counts: &Counts, sections: &Sections, values: &mut [u8])
 /// Takes a step of the circuit that the words tell, over its values: a byte each, 0, 1 or 2 for x,
 /// of the constant and each variable, then of outputs, bad states, constraints and the next state.
 /// Inputs and state are given. Symbols are not looked at, and no memory is taken.
-#[tactic(auto, using(crate::proofs::Told::sections_are_right, crate::proofs::Told::some_is_told, crate::proofs::Told::step_is_of))]
+#[tactic(auto, using(crate::proofs::Decoded::sections_are_right, crate::proofs::Decoded::some_is_decoded, crate::proofs::Decoded::step_is_of))]
 pub fn step(counts: &Counts, words: &[u32], values: &mut [u8]) -> Result<(), StepFault>
     ensures ok { IfOk result (λ _. IsStepOf counts.now words.now values.old values.new) }
     ensures fault { IfErr result (IsFault counts.now words.now values.old) }

@@ -2,7 +2,7 @@
 ghost use Rattle.std.specs.Prelude.{◌≡◌, ◌+◌, ◌*◌, ◌<◌, ◌≤◌, ◌^◌};
 ghost use Rattle.std.specs.Prelude.{List, ℕ, [], ◌∷◌, nat_lt, slice_index};
 ghost use Rattle.aig_arrays.specs.Outcomes.{entry_meant};
-ghost use Rattle.aig_arrays.specs.Told.{row_told};
+ghost use Rattle.aig_arrays.specs.Decoded.{row_decoded};
 ghost use Rattle.aig_circuit.specs.Wellformed.{largest_index};
 ghost use Rattle.aig_rows.specs.Outcomes.{GivesOrFails};
 ghost use Rattle.aig_rows.specs.Reading.{carried_on, fault_in_row, is_no_variable};
@@ -25,7 +25,7 @@ pub(crate) struct WordCursor<'a> {
 }
 
 impl<'a> Model for WordCursor<'a> {
-    ghost use Rattle.aig_arrays.specs.Told.{Ahead};
+    ghost use Rattle.aig_arrays.specs.Decoded.{Ahead};
 
     ghost Value = { Ahead };
 
@@ -36,8 +36,8 @@ impl<'a> Model for WordCursor<'a> {
     ghost invariant = { λ a. a.at + length a.rest.now < 2 ^ 64 };
 }
 
-/// What so many words tell in a row. It is judged beside the largest index, or what sizes may add
-/// up to (`bound`), and beside the sum of the sizes before it (`carried`).
+/// An entry read from a fixed number of words. It is judged beside the largest index, or what sizes
+/// may add up to (`bound`), and beside the sum of the sizes before it (`carried`).
 pub(crate) trait FromWords: Copy {
     /// What the words have to hold.
     ghost form: { Form };
@@ -45,12 +45,12 @@ pub(crate) trait FromWords: Copy {
     /// The entry that the words mean.
     ghost meant_by: { List ℕ → Self };
 
-    /// Reads the entry that begins here, and moves behind it, unless it is not right.
+    /// Reads the entry that begins here, and moves past it, unless it is not right.
     fn read_entry(from: &mut WordCursor, bound: u32, carried: u64) -> Result<Self, ArrayFault>
         requires bound { bound ≤ largest_index }
         requires carried { carried + 2 ^ 32 ≤ 2 ^ 64 }
         ensures { GivesOrFails (λ entry. (entry, from.new)) result
-            (entry_meant meant_by (row_told form bound carried from.old)) };
+            (entry_meant meant_by (row_decoded form bound carried from.old)) };
 
     /// What is carried to the next entry.
     fn carry(self, carried: u64) -> u64

@@ -1,9 +1,9 @@
-//! Sections of arrays: entries of one kind, one behind the other.
+//! Sections of arrays: entries of one kind, one after the other.
 ghost use Rattle.std.specs.Prelude.{◌≡◌, ◌+◌, ◌*◌, ◌^◌, ◌<◌, ◌≤◌, OnOk};
 ghost use Rattle.std.specs.List.{sum};
 ghost use Rattle.aig_arrays.specs.Outcomes.{GivesOrMemory, entries_meant};
-ghost use Rattle.aig_arrays.specs.Told.{header_of, rows_told};
-ghost use Rattle.aig_arrays.specs.Told.{section_told, sections_told};
+ghost use Rattle.aig_arrays.specs.Decoded.{header_of, rows_decoded};
+ghost use Rattle.aig_arrays.specs.Decoded.{section_decoded, sections_decoded};
 ghost use Rattle.aig_circuit.specs.Wellformed.{largest_index};
 ghost use Rattle.aig_text.specs.Sections.{in_ascii, sections};
 
@@ -16,7 +16,7 @@ use std::alloc::Global;
 use std::mem;
 
 /// Adds so many entries, which are judged beside `bound` and what is carried to the first, and
-/// moves behind them.
+/// moves past them.
 fn push_rows<T: FromWords>(
     found: &mut Vec<T>,
     count: u32,
@@ -27,7 +27,8 @@ fn push_rows<T: FromWords>(
     requires bound { bound ≤ largest_index }
     requires start { start ≤ largest_index }
     ensures { GivesOrMemory (λ _. (found.new.items, from.new)) result
-        (entries_meant T.meant_by found.old.items (rows_told T.form bound start count from.old)) }
+        (entries_meant T.meant_by found.old.items (rows_decoded T.form bound start count
+        from.old)) }
 {
     // One of its own, so that it stays in registers.
     let mut at = WordCursor {
@@ -58,7 +59,7 @@ fn read_rows<T: FromWords>(
     requires bound { bound ≤ largest_index }
     requires start { start ≤ largest_index }
     ensures { GivesOrMemory (λ _. (found.new, from.new)) result
-        (entries_meant T.meant_by found.old (rows_told T.form bound start count from.old)) }
+        (entries_meant T.meant_by found.old (rows_decoded T.form bound start count from.old)) }
 {
     let mut items = mem::replace(found, Listing::new(alloc)).into_vec();
     items.reserve(count as usize)?;
@@ -79,7 +80,7 @@ fn total(sizes: &[u32]) -> u64
     all
 }
 
-/// Adds the entries of a section, and moves behind them.
+/// Adds the entries of a section, and moves past them.
 fn read_section(
     alloc: Global,
     section: Section,
@@ -90,7 +91,7 @@ fn read_section(
     requires max_var { counts.now.max_var ≤ largest_index }
     requires sizes { sum circuit.old.justice.sizes ≤ largest_index }
     ensures read { GivesOrMemory (λ _. (circuit.new, from.new)) result
-        (section_told (in_ascii section) (header_of counts.now) circuit.old from.old) }
+        (section_decoded (in_ascii section) (header_of counts.now) circuit.old from.old) }
     ensures sizes { OnOk result (sum circuit.new.justice.sizes ≤ largest_index) }
 {
     let top = counts.max_var;
@@ -123,7 +124,7 @@ fn read_section(
     }
 }
 
-/// Adds the entries of these sections, and moves behind them.
+/// Adds the entries of these sections, and moves past them.
 fn read_each(
     alloc: Global,
     sections: &[Section],
@@ -134,7 +135,7 @@ fn read_each(
     requires max_var { counts.now.max_var ≤ largest_index }
     requires sizes { sum circuit.old.justice.sizes ≤ largest_index }
     ensures { GivesOrMemory (λ _. (circuit.new, from.new)) result
-        (sections_told (header_of counts.now) sections.now circuit.old from.old) }
+        (sections_decoded (header_of counts.now) sections.now circuit.old from.old) }
 {
     for section in sections {
         // For a `?` here the kit's borrow checker makes no proof.
@@ -145,7 +146,7 @@ fn read_each(
     Ok(())
 }
 
-/// Adds the entries of all sections, and moves behind them.
+/// Adds the entries of all sections, and moves past them.
 pub(crate) fn read_sections(
     alloc: Global,
     counts: &Counts,
@@ -155,7 +156,7 @@ pub(crate) fn read_sections(
     requires max_var { counts.now.max_var ≤ largest_index }
     requires sizes { sum circuit.old.justice.sizes ≤ largest_index }
     ensures { GivesOrMemory (λ _. (circuit.new, from.new)) result
-        (sections_told (header_of counts.now) sections circuit.old from.old) }
+        (sections_decoded (header_of counts.now) sections circuit.old from.old) }
 {
     read_each(alloc, &SECTIONS, counts, circuit, from)
 }

@@ -2,9 +2,9 @@
 ghost use Rattle.std.specs.Prelude.{◌≡◌, ◌+◌, ◌<◌, ◌≤◌, [], ◌∷◌};
 ghost use Rattle.std.specs.Prelude.{IfOk, IfErr, IfSome, None, OnOk, length, not};
 ghost use Rattle.std.specs.List.{list_any};
-ghost use Rattle.aig_arrays.specs.Outcomes.{GivesOrMemory, want_of_memory};
-ghost use Rattle.aig_arrays.specs.Told.{header_of, kind_told, next_symbol};
-ghost use Rattle.aig_arrays.specs.Told.{symbol_told, symbols_told};
+ghost use Rattle.aig_arrays.specs.Outcomes.{GivesOrMemory, out_of_memory};
+ghost use Rattle.aig_arrays.specs.Decoded.{header_of, kind_decoded, next_symbol};
+ghost use Rattle.aig_arrays.specs.Decoded.{symbol_decoded, symbols_decoded};
 ghost use Rattle.aig_core.specs.Names.{nothing_named, with_name};
 ghost use Rattle.aig_rows.specs.Outcomes.{Gives};
 ghost use Rattle.aig_text.specs.Reading.{count_named, fault_in_symbol};
@@ -21,7 +21,7 @@ const MOST_BESIDE_NAME: usize = 13;
 
 /// What a word says that a symbol names.
 fn kind_of_word(word: u32) -> Option<Kind>
-    ensures { result ≡ kind_told word }
+    ensures { result ≡ kind_decoded word }
 {
     match word {
         0 => Some(Kind::Input),
@@ -52,7 +52,7 @@ fn count_named(counts: &Counts, kind: Kind) -> u32
 /// The symbol of four words, whose name begins where the one before ends.
 fn symbol_of<'a>(names: &'a [u8], start: usize, row: [u32; 4]) -> Option<BorrowedSymbol<'a>>
     requires { start ≤ length names.now }
-    ensures symbol { Gives (λ s. s) result (symbol_told names.now start row) }
+    ensures symbol { Gives (λ s. s) result (symbol_decoded names.now start row) }
     ensures fits { IfSome result (λ s. start + length s.name ≤ length names.now) }
 {
     let [kind, position, offset, length] = row;
@@ -93,7 +93,7 @@ fn check_symbol(
     }
 }
 
-/// Reads the symbol that begins here, and moves behind it.
+/// Reads the symbol that begins here, and moves past it.
 fn read_symbol<'a>(
     counts: &Counts,
     named: &mut Names,
@@ -134,7 +134,7 @@ fn push_symbols(
     from: &mut WordCursor,
 ) -> Result<usize, ArrayFault>
     ensures { GivesOrMemory (λ end. (circuit.new, end)) result
-        (symbols_told (header_of counts.now) names.now named.old 0 counts.now.symbols from.old
+        (symbols_decoded (header_of counts.now) names.now named.old 0 counts.now.symbols from.old
         circuit.old) }
 {
     let mut start = 0;
@@ -157,7 +157,8 @@ pub(crate) fn read_symbols(
     from: &mut WordCursor,
 ) -> Result<usize, ArrayFault>
     ensures { GivesOrMemory (λ end. (circuit.new, end)) result
-        (symbols_told (header_of counts.now) names.now nothing_named 0 counts.now.symbols from.old
+        (symbols_decoded (header_of counts.now) names.now nothing_named 0 counts.now.symbols
+        from.old
         circuit.old) }
 {
     if counts.symbols == 0 {

@@ -1,6 +1,6 @@
 -- What the answer of a simulation says that reads the whole stimulus before it sends anything.
 use Rattle.std.specs.Prelude.{◌≡◌, ℕ, List, true, false, None, Some, Result, Ok, Err}
-use Rattle.aig_io.specs.Runs.{All, AtEnd, Broken, Ending, IsCut, IsUnbroken, NotSent, Taking, is_at_end}
+use Rattle.aig_io.specs.Runs.{All, AtEnd, Broken, Delivery, Ending, IsCut, IsUnbroken, NotSent, is_at_end}
 use Rattle.aig_circuit.specs.declared.circuit.Circuit.{Circuit}
 use Rattle.aig_step.specs.declared.fault.SimFault.{SimFault}
 use Rattle.aig_step.specs.declared.fault.SimFault.TheVariants.{OutOfMemory, BadStimulus, BadWitness, ReadFailed}
@@ -20,9 +20,9 @@ NotCollected c WriteFailed bytes ending = ⊥
 
 -- All came, no line is bad, and its trace was taken, or the sink failed on the way; or the stimulus was not collected,
 -- and nothing was sent.
-abbrev pub BatchSays : Circuit → Columns → Result (Unit {0}) SimFault → List ℕ → Ending → List ℕ → Taking → Type 0
-BatchSays c columns (Ok done) bytes ending text taking =
-    (ending ≡ AtEnd) × (taking ≡ All) × IsTraceUpTo c columns bytes true None text
-BatchSays c columns (Err WriteFailed) bytes ending text taking =
-    (ending ≡ AtEnd) × IsCut taking × IsTraceUpTo c columns bytes true None text
-BatchSays c columns (Err fault) bytes ending text taking = NotCollected c fault bytes ending × (taking ≡ NotSent)
+abbrev pub BatchSays : Circuit → Columns → Result (Unit {0}) SimFault → List ℕ → Ending → List ℕ → Delivery → Type 0
+BatchSays c columns (Ok done) bytes ending text delivery =
+    (ending ≡ AtEnd) × (delivery ≡ All) × IsTraceUpTo c columns bytes true None text
+BatchSays c columns (Err WriteFailed) bytes ending text delivery =
+    (ending ≡ AtEnd) × IsCut delivery × IsTraceUpTo c columns bytes true None text
+BatchSays c columns (Err fault) bytes ending text delivery = NotCollected c fault bytes ending × (delivery ≡ NotSent)

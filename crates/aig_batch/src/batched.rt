@@ -3,11 +3,11 @@ ghost use Rattle.std.specs.Prelude.{◌≡◌, ℕ, List, None, length, true};
 ghost use Rattle.std.specs.List.{All};
 ghost use Rattle.aig_circuit.specs.declared.circuit.Circuit.{Circuit as CircuitRecord};
 ghost use Rattle.aig_io.specs.Devices.{CanFail};
-ghost use Rattle.aig_io.specs.Runs.{AtEnd, Ran, Sent};
+ghost use Rattle.aig_io.specs.Runs.{AtEnd, Sent, Transferred};
 ghost use Rattle.aig_batch.specs.Batched.{BatchSays};
 ghost use Rattle.aig_step.specs.Outcome.{first_bad_line};
 ghost use Rattle.aig_lanes.specs.Parts.Benches.{HasRoomFor};
-ghost use Rattle.aig_batch.specs.Parts.RunsRead.{PutRuns, SaysEntries, entries_of_groups};
+ghost use Rattle.aig_batch.specs.Parts.RunsRead.{AppendedRuns, SaysEntries, entries_of_groups};
 ghost use Rattle.aig_batch.specs.Parts.Sent.{of_sink};
 ghost use Rattle.aig_trace.specs.Parts.Tracing.{IsFresh};
 ghost use Rattle.aig_lanes.specs.Runs.{IsRunOf};
@@ -32,7 +32,7 @@ fn put_groups<W: Sink>(
 )
     requires runs { All (All (IsRunOf machine.now)) groups.now }
     requires room { All (HasRoomFor machine.now bench.old) groups.now }
-    ensures { PutRuns machine.now bench.old.shown.columns groups.now output.old output.new }
+    ensures { AppendedRuns machine.now bench.old.shown.columns groups.now output.old output.new }
 {
     for group in groups {
         run_group(bench, machine, group.as_slice(), output);
@@ -40,7 +40,7 @@ fn put_groups<W: Sink>(
 }
 
 /// Sends the text for the front of a stimulus that has no bad line, and the text for what comes
-/// behind it.
+/// after it.
 fn trace_good<W: Sink>(
     reader: StimulusReader,
     sink: &mut W,
@@ -50,14 +50,14 @@ fn trace_good<W: Sink>(
 ) -> Result<(), DeviceFault>
     requires fresh { IsFresh reader }
     requires same { reader.tracing.columns ≡ bench.old.shown.columns }
-    requires sink { CanFail (W.past sink.old) }
+    requires sink { CanFail (W.history sink.old) }
     requires runs { All (All (IsRunOf reader.tracing.circuit)) groups.now }
     requires room { All (HasRoomFor reader.tracing.circuit bench.old) groups.now }
     ensures { (c : CircuitRecord) (bytes : List ℕ) → MeansTheSame c reader.tracing.circuit
         → SaysEntries (length c.inputs) bytes (entries_of_groups groups.now) rest.now
         → first_bad_line c bytes true ≡ None
         → Sent (BatchSays c reader.tracing.columns (of_sink result) bytes AtEnd)
-        (W.past sink.old) (W.past sink.new) }
+        (W.history sink.old) (W.history sink.new) }
 {
     let mut output = Output::new(sink);
     put_groups(&mut output, reader.machine(), groups, bench);
@@ -73,11 +73,11 @@ fn trace_lines<W: Sink>(
     bytes: &[u8],
 ) -> Result<(), DeviceFault>
     requires fresh { IsFresh reader }
-    requires sink { CanFail (W.past sink.old) }
+    requires sink { CanFail (W.history sink.old) }
     ensures { (c : CircuitRecord) → MeansTheSame c reader.tracing.circuit
         → first_bad_line c bytes.now true ≡ None
         → Sent (BatchSays c reader.tracing.columns (of_sink result) bytes.now AtEnd)
-        (W.past sink.old) (W.past sink.new) }
+        (W.history sink.old) (W.history sink.new) }
 {
     let (sent, _sink) = reader.put_trace_text(Output::new(sink), bytes).finish();
     sent
@@ -97,9 +97,9 @@ fn trace_collected<W: Sink>(
     requires same { MeansTheSame checked.now reader.tracing.circuit }
     requires columns { reader.tracing.columns ≡ columns }
     requires none_bad { first_bad_line checked.now bytes.now true ≡ None }
-    requires sink { CanFail (W.past sink.old) }
+    requires sink { CanFail (W.history sink.old) }
     ensures { Sent (BatchSays checked.now columns result bytes.now AtEnd)
-        (W.past sink.old) (W.past sink.new) }
+        (W.history sink.old) (W.history sink.new) }
 {
     let circuit = checked.circuit();
     if circuit.latches.len() == 0 && circuit.inputs.len() <= MOST_INPUTS {
@@ -146,10 +146,10 @@ pub fn simulate_batched<R: Source, W: Sink>(
     source: &mut R,
     sink: &mut W,
 ) -> Result<(), SimFault>
-    requires source { CanFail (R.past source.old) }
-    requires sink { CanFail (W.past sink.old) }
-    ensures ran { Ran (BatchSays checked.now columns result)
-        (R.past source.old) (R.past source.new) (W.past sink.old) (W.past sink.new) }
+    requires source { CanFail (R.history source.old) }
+    requires sink { CanFail (W.history sink.old) }
+    ensures transferred { Transferred (BatchSays checked.now columns result)
+        (R.history source.old) (R.history source.new) (W.history sink.old) (W.history sink.new) }
 {
     let reader = StimulusReader::new(alloc, checked, columns)?;
     let bytes = match collect(alloc, checked, source) {

@@ -2,7 +2,7 @@
 ghost use Rattle.std.specs.Prelude.{◌≡◌, [], IfErr, IfOk, None, OnOk, length, true};
 ghost use Rattle.aig_io.specs.Devices.{CanFail, gave_all};
 ghost use Rattle.aig_io.specs.Runs.{Read};
-ghost use Rattle.aig_lines.specs.Fed.{IsUnfed};
+ghost use Rattle.aig_lines.specs.Feeders.{IsInitial};
 ghost use Rattle.aig_step.specs.Outcome.{first_bad_line};
 ghost use Rattle.aig_trace.specs.Parts.Saying.{longest_entry};
 ghost use Rattle.aig_batch.specs.Batched.{NotCollected};
@@ -43,14 +43,15 @@ fn collect_into<R: Source>(
     source: &mut R,
     bytes: &mut Vec<u8>,
 ) -> Result<(), SimFault>
-    requires source { CanFail (R.past source.old) }
-    requires unfed { IsUnfed feeder.old }
+    requires source { CanFail (R.history source.old) }
+    requires initial { IsInitial feeder.old }
     requires limit { feeder.old.limit ≡ longest_entry (length checked.now.inputs) }
     requires none { bytes.old.items ≡ [] }
-    ensures came { OnOk result (R.past source.new ≡ gave_all bytes.new.items (R.past source.old)) }
+    ensures came { OnOk result (R.history source.new
+        ≡ gave_all bytes.new.items (R.history source.old)) }
     ensures good { OnOk result (first_bad_line checked.now bytes.new.items true ≡ None) }
     ensures err { IfErr result (λ e.
-        Read (NotCollected checked.now e) (R.past source.old) (R.past source.new)) }
+        Read (NotCollected checked.now e) (R.history source.old) (R.history source.new)) }
 {
     let mut judge = Judge {
         inputs: checked.circuit().inputs.len(),
@@ -81,11 +82,12 @@ pub(crate) fn collect<R: Source>(
     checked: &Checked,
     source: &mut R,
 ) -> Result<Vec<u8>, SimFault>
-    requires { CanFail (R.past source.old) }
-    ensures came { IfOk result (λ all. R.past source.new ≡ gave_all all.items (R.past source.old)) }
+    requires { CanFail (R.history source.old) }
+    ensures came { IfOk result (λ all. R.history source.new
+        ≡ gave_all all.items (R.history source.old)) }
     ensures good { IfOk result (λ all. first_bad_line checked.now all.items true ≡ None) }
     ensures err { IfErr result (λ e.
-        Read (NotCollected checked.now e) (R.past source.old) (R.past source.new)) }
+        Read (NotCollected checked.now e) (R.history source.old) (R.history source.new)) }
 {
     let mut feeder = LineFeeder::new(alloc, checked.circuit().inputs.len().max(1))?;
     let mut bytes = Vec::new(alloc);

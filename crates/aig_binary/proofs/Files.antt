@@ -8,7 +8,7 @@ use Rattle.std.proofs.lemmas.List.Elements.{All-from_recursion}
 use Rattle.std.proofs.lemmas.Grind.{common_steps}
 use Rattle.std.proofs.lemmas.Bool.{eqb-false}
 use Rattle.std.proofs.lemmas.Slice.Eq.{bytes_eq-Decides}
-use Rattle.aig_io.specs.Output.{Out, Put}
+use Rattle.aig_io.specs.Output.{Appended, Out}
 use Rattle.aig_io.proofs.Puts.{put_twice}
 use Rattle.aig_circuit.specs.Wellformed.{IsWithinLimits, IsWellFormed}
 use Rattle.aig_circuit.specs.declared.circuit.TheConstants.{LARGEST}
@@ -46,10 +46,11 @@ use Rattle.aig_binary.proofs.Grammar.Accepted.{reading_is_accepted as binary_is_
 
 -- the gates of one piece more were put
 pub pieces_put : {W : Type 0} (a b c : Out W) (gs : List Gate) (at count : ℕ) (text : List ℕ)
-    → Put a b (flat_map gate_text (take at gs)) → text ≡ flat_map gate_text (take count (drop at gs)) → Put b c text
-    → Put a c (flat_map gate_text (take (at + count) gs))
+    → Appended a b (flat_map gate_text (take at gs)) → text ≡ flat_map gate_text (take count (drop at gs))
+    → Appended b c text
+    → Appended a c (flat_map gate_text (take (at + count) gs))
 pieces_put a b c gs at count text before is put =
-    subst (λ t. Put a c t)
+    subst (λ t. Appended a c t)
     (search (rules, take-add, flat_map-append))
     (put_twice a b c (flat_map gate_text (take at gs)) text before put)
 

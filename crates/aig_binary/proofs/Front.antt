@@ -15,7 +15,7 @@ use Rattle.aig_lines.proofs.Taken.{left_fits, taken}
 use Rattle.aig_rows.specs.declared.row.NextState.{NextState}
 use Rattle.aig_rows.specs.Rows.{next_of, Form, next_form}
 use Rattle.aig_rows.specs.Outcomes.{rows_meant}
-use Rattle.aig_rows.specs.Reading.{◌>>=◌, Found, carried_on, row_at, rows_at, at_line, want_of_memory}
+use Rattle.aig_rows.specs.Reading.{◌>>=◌, Found, carried_on, row_at, rows_at, at_line, out_of_memory}
 use Rattle.aig_rows.specs.declared.fault.ReadFault.{ReadFault}
 use Rattle.aig_rows.specs.declared.fault.ReadKind.TheVariants as kinds
 use Rattle.aig_rows.proofs.Steps.{both_ok, ok_same}
@@ -98,7 +98,7 @@ pub found_count : (bound start count : ℕ) (at after : Ahead) (ns : List NextSt
     → length ns ≡ count
 found_count bound start count at after ns h = search (rules, found_rows, length-map, rows_count)
 
--- The lines in front of the gates: what is behind them is read by itself, whatever lines come.
+-- The lines in front of the gates: what is after them is read by itself, whatever lines come.
 
 -- a step whose lines were there
 record GoesOn {A : Type 0} (read : Ahead → Found A) (at : Ahead) (p : A × Ahead) : Type 0 where
@@ -222,8 +222,8 @@ abbrev then_header : Header × Ahead → Result Circuit ReadFault
 then_header header = at_line 1 (filled header.0) >>= then_numbered header.1
 
 pub front_wrong : (limit : ℕ) (ls : List Line) (e : ReadFault)
-    → (e ≡ want_of_memory) ⊎ (front_at limit (ahead 1 ls) ≡ Err e)
-    → (e ≡ want_of_memory) ⊎ (binary_at limit ls ≡ Err e)
+    → (e ≡ out_of_memory) ⊎ (front_at limit (ahead 1 ls) ≡ Err e)
+    → (e ≡ out_of_memory) ⊎ (binary_at limit ls ≡ Err e)
 unfolding binary_at
 front_wrong limit ls e (inl m) = inl m
 front_wrong limit ls e (inr is) =

@@ -1,4 +1,4 @@
--- Gates that are read one after another, and what bytes behind a gate change.
+-- Gates that are read one after another, and what bytes after a gate change.
 use Rattle.std.proofs.Common.{◌≡◌, ◌≢◌, ◌≤◌, ◌⊎◌, ◌&&◌, ◌∷◌, ◌++◌, ◌∙◌, ◌^◌, ◌-◌, ◌+◌, ◌<◌, inl, inr, ℕ, zero, suc}
 use Rattle.std.proofs.Common.{List, [], length, Bool, true, false, Option, None, Some, Result, Ok, Err, refl, sym, ap}
 use Rattle.std.proofs.Common.{subst, arith, append_assoc, length-append, nat_lt, nat_le, cond, rules, append-nil}
@@ -12,7 +12,7 @@ use Rattle.aig_circuit.specs.declared.circuit.Gate.{Gate}
 use Rattle.aig_circuit.specs.Literal.{literal_of}
 use Rattle.aig_rows.specs.declared.fault.ReadKind.{ReadKind}
 use Rattle.aig_rows.specs.declared.fault.ReadKind.TheVariants as kinds
-use Rattle.aig_rows.specs.Reading.{◌>>=◌, want_of_memory}
+use Rattle.aig_rows.specs.Reading.{◌>>=◌, out_of_memory}
 use Rattle.aig_rows.specs.declared.fault.Place.TheVariants as places
 use Rattle.aig_rows.specs.declared.fault.ReadFault.{ReadFault}
 use Rattle.aig_binary.specs.Delta.{groups_at, delta_at}
@@ -236,7 +236,7 @@ rest_taken bytes text rest used cut = (
       ∙ sym (append_assoc text (take used rest) (drop used rest)),
 )
 
--- gates that were read, whatever comes behind the bytes
+-- gates that were read, whatever comes after the bytes
 module _ (v count : ℕ) (before found : List Gate) (bytes rest : List ℕ) (l : length found < count)
     (on : (more : List ℕ) → gates_from v count before (bytes ++ more) ≡ gates_from v count found (rest ++ more))
   where
@@ -268,8 +268,8 @@ module _ (v count : ℕ) (before found : List Gate) (bytes rest : List ℕ) (l :
 
 -- where no bytes come
 pub alone_wrong : (v count : ℕ) (found : List Gate) (bytes : List ℕ) (e : ReadFault)
-    → (e ≡ want_of_memory) ⊎ ((more : List ℕ) → gates_from v count found (bytes ++ more) ≡ Err e)
-    → (e ≡ want_of_memory) ⊎ (gates_from v count found bytes ≡ Err e)
+    → (e ≡ out_of_memory) ⊎ ((more : List ℕ) → gates_from v count found (bytes ++ more) ≡ Err e)
+    → (e ≡ out_of_memory) ⊎ (gates_from v count found bytes ≡ Err e)
 alone_wrong v count found bytes e (inl m) = inl m
 alone_wrong v count found bytes e (inr wrong) =
     inr (ap (gates_from v count found) (sym (append-nil bytes)) ∙ wrong [])

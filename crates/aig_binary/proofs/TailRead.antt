@@ -1,4 +1,4 @@
--- The tail of a binary file, behind its gates.
+-- The tail of a binary file, after its gates.
 use Rattle.std.proofs.Common.{◌≡◌, ◌∙◌, ◌-◌, ◌++◌, ℕ, List, Result, Ok, length, take, drop, take-append-drop, refl, ap}
 use Rattle.std.proofs.Common.{sym, subst}
 use Rattle.aig_circuit.specs.declared.circuit.Circuit.{Circuit}

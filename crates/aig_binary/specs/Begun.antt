@@ -23,7 +23,7 @@ front_at limit at = do
   numbered ← sections_at in_binary h sections (empty_circuit h.max_var) header.1
   Ok ((h, numbered.0), numbered.1)
 
--- what is read of gates, behind those that were found before
+-- what is read of gates, after those that were found before
 abbrev pub gates_behind : List Gate → Result (List Gate × List ℕ) ReadFault → Result (List Gate × List ℕ) ReadFault
 gates_behind found (Ok x) = Ok (found ++ x.0, x.1)
 gates_behind found (Err e) = Err e
@@ -34,7 +34,7 @@ gates_from variable count found bytes =
     let n = length found in
     gates_behind found (gates_at (variable + n) (n + 1) (count - n) bytes)
 
--- no gate is left, or the next one goes on behind these bytes
+-- no gate is left, or the next one goes on after these bytes
 abbrev pub NoneIsThere : ℕ → ℕ → List Gate → List ℕ → Type 0
 NoneIsThere variable count found bytes =
     (length found ≡ count) ⊎ (gate_at (variable + length found) bytes ≡ Err kinds.Truncated)
@@ -43,7 +43,7 @@ NoneIsThere variable count found bytes =
 abbrev pub first_gate : Header → ℕ
 first_gate h = 1 + h.inputs + h.latches
 
--- the circuit that gates and the lines behind them tell, where the lines in front told this one
+-- the circuit so far, completed by gates and tail
 abbrev pub gates_then : Header → Circuit → List Gate → ℕ → List ℕ → Result Circuit ReadFault
 gates_then h c found n bytes = do
   gates ← gates_from (first_gate h) h.gates found bytes

@@ -62,7 +62,7 @@ gates_at variable n (suc count) bytes = do
 abbrev pub with_definitions : Header → List Gate → Circuit → Circuit
 with_definitions h gates c = record c { inputs = range_with_len 1 h.inputs; gates = gates }
 
--- the circuit that the lines of a text tell, with the bytes of gates behind the numbered ones
+-- the circuit that the lines of a text tell, with the bytes of gates after the numbered ones
 unfoldable pub binary_at : ℕ → List Line → Result Circuit ReadFault
 binary_at limit ls = do
   header ← header_at binary_word limit (ahead 1 ls)

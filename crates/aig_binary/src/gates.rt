@@ -5,7 +5,7 @@ ghost use Rattle.std.specs.Prelude.{IsTrue, OnOk, drop, length, nat_le};
 ghost use Rattle.std.specs.List.{list_all};
 ghost use Rattle.aig_rows.specs.declared.fault.ReadKind.TheVariants.{Truncated};
 ghost use Rattle.aig_rows.specs.Outcomes.{GivesOrFails, GivesOrMemory};
-ghost use Rattle.aig_rows.specs.Reading.{want_of_memory};
+ghost use Rattle.aig_rows.specs.Reading.{out_of_memory};
 ghost use Rattle.aig_binary.specs.BinaryReading.{no_delta, lowered_at, gate_at};
 ghost use Rattle.aig_binary.specs.Begun.{NoneIsThere, gates_from};
 
@@ -159,7 +159,7 @@ pub(crate) fn read_first_gates(
     ensures all { IfOk result (λ used. NoneIsThere variable count found.new (drop used bytes.now)) }
     ensures fewer { OnOk result (length found.new ≤ count) }
     ensures within { IfOk result (λ used. used ≤ length bytes.now) }
-    ensures err { IfErr result (λ e. (e ≡ want_of_memory) ⊎ ((more : List ℕ)
+    ensures err { IfErr result (λ e. (e ≡ out_of_memory) ⊎ ((more : List ℕ)
         → gates_from variable count found.old (bytes.now ++ more) ≡ Err e)) }
 {
     let mut rest = bytes;

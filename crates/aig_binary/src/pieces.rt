@@ -3,7 +3,7 @@ ghost use Rattle.std.specs.Prelude.{◌≡◌, ◌+◌, ◌<◌, ◌≤◌, ◌+
 ghost use Rattle.std.specs.Prelude.{drop, length};
 ghost use Rattle.aig_circuit.specs.Wellformed.{largest_index};
 ghost use Rattle.aig_lines.specs.Lines.{AreEnded, ahead, lines_of};
-ghost use Rattle.aig_rows.specs.Reading.{want_of_memory};
+ghost use Rattle.aig_rows.specs.Reading.{out_of_memory};
 ghost use Rattle.aig_binary.specs.BinaryReading.{binary_at};
 ghost use Rattle.aig_binary.specs.Begun.{AllIsTaken, FitsHeader, HasAllGates};
 ghost use Rattle.aig_binary.specs.Begun.{front_at, gates_then, rest_of};
@@ -24,12 +24,12 @@ pub(crate) struct BinaryReader {
     /// What the lines in front of the gates told.
     circuit: Circuit,
     gates: Listing<Gate>,
-    /// The number of the first line behind the gates.
+    /// The number of the first line after the gates.
     number: u64,
 }
 
 impl BinaryReader {
-    /// It stands behind the lines that told this.
+    /// It stands after the lines that told this.
     pub(crate) fn new(alloc: Global, header: Header, circuit: Circuit, number: u64) -> Self
         requires { header.inputs + header.latches + header.gates ≤ largest_index }
         ensures from { (bytes : List ℕ) → rest_of result bytes
@@ -58,7 +58,7 @@ impl BinaryReader {
         ensures within { IfOk result (λ x. x.1 ≤ length lines.now) }
         ensures number { IfOk result (λ x. x.0.number ≤ 1 + x.1) }
         ensures fits { IfOk result (λ x. FitsHeader x.0.header x.0.gates) }
-        ensures err { IfErr result (λ e. (e ≡ want_of_memory)
+        ensures err { IfErr result (λ e. (e ≡ out_of_memory)
             ⊎ (front_at limits.max_var (ahead 1 (lines_of lines.now)) ≡ Err e)) }
     {
         let mut at = Cursor::new(lines);

@@ -96,14 +96,15 @@ pub(crate) fn fetch_piece<R: Source, P: Pieces>(
     window: &mut Window,
     least: usize,
 ) -> Result<bool, ReadError>
-    requires { CanFail (R.past source.old) }
-    ensures ok { IfOk result (λ more. Filled window.old window.new more (R.past source.old)
-        (R.past source.new)) }
+    requires { CanFail (R.history source.old) }
+    ensures ok { IfOk result (λ more. Filled window.old window.new more (R.history source.old)
+        (R.history source.new)) }
     ensures least { IfOk result (λ more. IsTrue more → least ≤ length window.new) }
     ensures bound { OnOk result (R.bound source.new + length window.new
         ≡ R.bound source.old + length window.old) }
     ensures fewer { IfOk result (λ more. IsTrue more → R.bound source.new < R.bound source.old) }
-    ensures err { IfErr result (λ error. GaveSome error (R.past source.old) (R.past source.new)) }
+    ensures err { IfErr result (λ error. GaveSome error (R.history source.old)
+        (R.history source.new)) }
 {
     loop {
         let held = window.as_slice().len();
@@ -122,12 +123,12 @@ pub(crate) fn fetch_all<R: Source>(
     window: Window,
     more: bool,
 ) -> Result<Vec<u8>, ReadError>
-    requires { CanFail (R.past source.old) }
-    ensures ok { IfOk result (λ all. ComesOn window all.items more false (R.past source.old)
-        (R.past source.new)) }
+    requires { CanFail (R.history source.old) }
+    ensures ok { IfOk result (λ all. ComesOn window all.items more false (R.history source.old)
+        (R.history source.new)) }
     ensures bound { IfOk result (λ all. vec_len all ≤ R.bound source.old + length window) }
     ensures err { IfErr result (λ error.
-        NotAllCame error more (R.past source.old) (R.past source.new)) }
+        NotAllCame error more (R.history source.old) (R.history source.new)) }
 {
     let mut bytes = window.into_bytes();
     if more {
@@ -142,15 +143,16 @@ fn read_pieces<R: Source, P: Pieces>(
     window: &mut Window,
     reader: &mut P,
 ) -> Result<bool, ReadError>
-    requires source { CanFail (R.past source.old) }
+    requires source { CanFail (R.history source.old) }
     requires valid { P.is_valid reader.old }
     requires counted { P.next_line reader.old + length window.old + R.bound source.old ≤ 2 ^ 63 }
     ensures ok { IfOk result (λ more. ReadsFrom (P.rest reader.old) (P.rest reader.new)
-        window.old window.new more (R.past source.old) (R.past source.new)) }
+        window.old window.new more (R.history source.old) (R.history source.new)) }
     ensures valid { OnOk result (P.is_valid reader.new) }
     ensures counted { OnOk result
         (P.next_line reader.new + length window.new + R.bound source.new ≤ 2 ^ 63) }
-    ensures err { IfErr result (λ error. GaveSome error (R.past source.old) (R.past source.new)) }
+    ensures err { IfErr result (λ error. GaveSome error (R.history source.old)
+        (R.history source.new)) }
 {
     let mut more = true;
     while more && !reader.is_done() {
@@ -179,12 +181,12 @@ pub(crate) fn read_rest<R: Source, P: Pieces>(
     window: Window,
     reader: P,
 ) -> Result<Circuit, SourceFault>
-    requires source { CanFail (R.past source.old) }
+    requires source { CanFail (R.history source.old) }
     requires valid { P.is_valid reader }
     requires counted { P.next_line reader + length window + R.bound source.old ≤ 2 ^ 63 }
     ensures { ReadsAs
         (λ answer bytes. GivesOrMemory (λ c. c) answer (P.rest reader (window ++ bytes))) result
-        (R.past source.old) (R.past source.new) }
+        (R.history source.old) (R.history source.new) }
 {
     let mut reader = reader;
     let mut window = window;

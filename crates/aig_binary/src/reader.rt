@@ -9,7 +9,7 @@ ghost use Rattle.aig_text.specs.Sections.{in_binary, sections};
 ghost use Rattle.aig_rows.specs.Outcomes.{GivesOrMemory};
 ghost use Rattle.aig_circuit.specs.declared.circuit.Circuit.{Circuit as CircuitRecord};
 ghost use Rattle.aig_text.specs.Reading.{IsFirstFault, section_at, sections_at};
-ghost use Rattle.aig_rows.specs.Reading.{at_line, want_of_memory};
+ghost use Rattle.aig_rows.specs.Reading.{at_line, out_of_memory};
 ghost use Rattle.aig_checked.specs.BinaryOrder.{IsInBinaryOrder};
 ghost use Rattle.aig_binary.specs.BinaryGrammar.{IsBinaryText};
 ghost use Rattle.aig_binary.specs.BinaryReading.{filled, with_definitions};
@@ -50,7 +50,7 @@ fn check_filled(header: Header) -> Result<Header, ReadFault>
 fn inputs(alloc: Global, count: u32) -> Result<Listing<Var>, ReadFault>
     requires { count < 2 ^ 31 }
     ensures ok { IfOk result (λ found. found ≡ range_with_len 1 count) }
-    ensures err { IfErr result (λ e. e ≡ want_of_memory) }
+    ensures err { IfErr result (λ e. e ≡ out_of_memory) }
 {
     let mut found = Listing::from_vec(Vec::with_capacity(alloc, count as usize)?);
     for at in 0..count {
@@ -67,7 +67,7 @@ fn latches(
 ) -> Result<Listing<Latch>, ReadFault>
     requires { variable + length nexts.now < 2 ^ 32 }
     ensures ok { IfOk result (λ found. found ≡ latches_by variable nexts.now) }
-    ensures err { IfErr result (λ e. e ≡ want_of_memory) }
+    ensures err { IfErr result (λ e. e ≡ out_of_memory) }
 {
     let mut found = Listing::from_vec(Vec::with_capacity(alloc, nexts.len())?);
     let mut var = variable;
@@ -158,7 +158,7 @@ pub(crate) fn add_definitions(
 ) -> Result<(), ReadFault>
     requires { header.now.inputs < 2 ^ 31 }
     ensures ok { OnOk result (circuit.new ≡ with_definitions header.now gates circuit.old) }
-    ensures err { IfErr result (λ e. e ≡ want_of_memory) }
+    ensures err { IfErr result (λ e. e ≡ out_of_memory) }
 {
     circuit.inputs = inputs(alloc, header.inputs)?;
     circuit.gates = gates;
@@ -202,7 +202,7 @@ pub fn read_binary(alloc: Global, bytes: &[u8], limits: Limits) -> Result<Checke
     ensures ok { IfOk result (λ c. IsBinaryText bytes.now limits.max_var c) }
     ensures ordered { IfOk result (λ c. IsInBinaryOrder c) }
     ensures only { (c : CircuitRecord) → IsBinaryText bytes.now limits.max_var c
-        → MatchResult result (λ d. d ≡ c) (λ e. e ≡ want_of_memory) }
+        → MatchResult result (λ d. d ≡ c) (λ e. e ≡ out_of_memory) }
     ensures fault { IfErr result (λ e. IsFirstFault e
         (first_binary_fault limits.max_var bytes.now)) }
 {

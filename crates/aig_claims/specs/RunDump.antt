@@ -59,7 +59,7 @@ pub record JudgedWith (c : Circuit) (verdict : Verdict) (bytes text : List ℕ) 
   pub judged : Judged c verdict bytes
   pub is_dump : IsWitnessDump c judged.claim verdict text
 
--- Why there is no dump: memory was refused, while bytes came or behind their end; the source failed; or all came, and
+-- Why there is no dump: memory was refused, while bytes came or after their end; the source failed; or all came, and
 -- the line of this number is the first wrong one.
 abbrev pub HasNoDump : Circuit → SimFault → List ℕ → Ending → Type 0
 HasNoDump c sim_faults.OutOfMemory bytes ending = IsUnbroken ending

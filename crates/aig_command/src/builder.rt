@@ -10,12 +10,12 @@ use std::alloc::{AllocError, Global};
 
 /// The program's version, the one place in the sources that has it. By its contract the library's
 /// number is the same.
-pub const VERSION: &str = "1.1.0";
+pub const VERSION: &str = "1.2.0";
 
 const ABOUT: &str = "Tools for circuits in the AIGER format";
 
 const AFTER: &str = "\
-What each command does, and examples: aiger COMMAND --help, and man aiger";
+What each command does, and examples: aiger help COMMAND, and man aiger";
 
 const TO_AIG_ABOUT: &str = "Convert an AIGER file to binary or to ASCII";
 
@@ -96,6 +96,10 @@ Examples, of a model with two inputs, a bad state and no latches:
   aiger aigsim - steps.txt < model.aag             the model from a stream";
 
 const UNROLL_ABOUT: &str = "Unroll a circuit over time frames, as one circuit without latches";
+
+const UNROLL_USAGE: &str = "\
+aiger aigunroll --frames <K> [OPTIONS] [source] [destination]
+       aiger aigunroll --invariant <FILE> [OPTIONS] [source] [destination]";
 
 const UNROLL_AFTER: &str = "\
 The inputs written are one for the first value of each latch without an initial
@@ -231,6 +235,18 @@ fn command<'a>(alloc: Global, name: &'a str, about: &'a str, after: &'a str) -> 
     Command::new(alloc, name).about(about).after_help(after)
 }
 
+fn command_with_usage<'a>(
+    alloc: Global,
+    name: &'a str,
+    usage: &'a str,
+    about: &'a str,
+    after: &'a str,
+) -> Command<'a>
+    ensures { HasApp (new_app name.now) result }
+{
+    command(alloc, name, about, after).override_usage(usage)
+}
+
 fn flag<'a>(alloc: Global, name: &'a str, help: &'a str) -> Arg<'a>
     ensures { HasRule (flag name.now) result }
 {
@@ -349,7 +365,13 @@ fn aigsim<'a>(alloc: Global) -> Result<Command<'a>, AllocError>
 fn aigunroll<'a>(alloc: Global) -> Result<Command<'a>, AllocError>
     ensures { IfOk result (HasApp aigunroll) }
 {
-    let command = Ok(command(alloc, "aigunroll", UNROLL_ABOUT, UNROLL_AFTER));
+    let command = Ok(command_with_usage(
+        alloc,
+        "aigunroll",
+        UNROLL_USAGE,
+        UNROLL_ABOUT,
+        UNROLL_AFTER,
+    ));
     let command = with_argument(command, frames(alloc));
     let command = with_argument(command, flag(alloc, "ascii", ASCII_HELP));
     let command = with_argument(command, flag(alloc, "cnf", CNF_HELP));
@@ -371,7 +393,7 @@ fn program<'a>(alloc: Global) -> Result<Command<'a>, AllocError>
         .version(VERSION)
         .propagate_version(true)
         .subcommand_required(true)
-        .disable_help_subcommand(true);
+        .arg_required_else_help(true);
     command.bin_name("aiger")
 }
 

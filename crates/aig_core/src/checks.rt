@@ -18,25 +18,6 @@ use std::alloc::Global;
 mod distinct;
 mod faults;
 
-/// Checks a circuit in form. The error has the circuit as it was, and its first fault or that
-/// memory ran out. No order of the gates is kept (`check_keeping`).
-pub fn check(
-    alloc: Global,
-    circuit: Circuit,
-    steps: &mut Steps,
-) -> Result<Checked, (Circuit, CheckFault)>
-    requires in_form { IsInForm circuit }
-    ensures ok { IfOk result (λ checked. checked ≡ circuit) }
-    ensures well_formed { OnOk result (IsWellFormed circuit) }
-    ensures ok_faultless { OnOk result (first_structural_fault circuit ≡ None) }
-    ensures handed_back { IfErr result (λ e. e.0 ≡ circuit) }
-    ensures fault { IfErr result (λ e. IsFault e.1 (first_structural_fault circuit)) }
-    ensures refused { IfErr result (λ e. e.1 ≢ WantOfMemory → ¬ IsWellFormed circuit) }
-    ensures few { steps.new.count ≤ steps.old.count + 2 * length circuit.gates }
-{
-    check_keeping(alloc, circuit, Keep::Circuit, steps)
-}
-
 /// What a check keeps.
 #[derive(Clone, Copy)]
 pub enum Keep {
@@ -47,8 +28,9 @@ pub enum Keep {
     Order,
 }
 
-/// Checks a circuit in form, as `check` does, and keeps what is wanted of it later.
-pub fn check_keeping(
+/// Checks a circuit in form, and keeps what is wanted of it later. The error has the circuit as it
+/// was, and its first fault or that memory ran out.
+pub fn check(
     alloc: Global,
     circuit: Circuit,
     keep: Keep,

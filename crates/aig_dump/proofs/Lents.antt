@@ -1,9 +1,10 @@
 -- What a source over bytes in memory gave, once it was read.
 use Rattle.std.proofs.Common.{◌≡◌, ◌∙◌, ◌⊎◌, ◌+◌, ◌<◌, ℕ, List, Bool, false, OnOk, ap, IfErr, IfOk, Result}
 use Rattle.std.proofs.Common.{Ok, Err, inl, inr, refl, subst, arith, None, Some, length, take, true}
-use Rattle.aig_io.specs.Devices.{Origin, Past, unused}
+use Rattle.aig_io.specs.Devices.{History, Origin, unused}
 use Rattle.aig_io.specs.Lent.{HasGiven, lent}
-use Rattle.aig_io.specs.Runs.{All, AtEnd, Broken, Ending, IsUnbroken, Open, Ran, Read, Taking, came, is_at_end}
+use Rattle.aig_io.specs.Runs.{All, AtEnd, Broken, Delivery, Ending, IsUnbroken, Open, Read, Transferred, came}
+use Rattle.aig_io.specs.Runs.{is_at_end}
 use Rattle.aig_circuit.specs.declared.circuit.Circuit.{Circuit}
 use Rattle.aig_step.specs.declared.fault.SimFault.{SimFault}
 use Rattle.aig_step.specs.declared.fault.SimFault.TheVariants as sim_faults
@@ -19,12 +20,12 @@ use Rattle.aig_dump.proofs.Behind.{bad_line_stays, wrong_line_stays}
 
 -- a simulation that succeeded read all, found no bad line, and traced all
 all_traced : (batch : Bool) (c : Circuit) (done : Unit {0}) (bytes : List ℕ) (ending : Ending) (trace : List ℕ)
-    (taking : Taking) → TraceSaysAs batch c Properties (Ok done) bytes ending trace taking
-    → (ending ≡ AtEnd) × (taking ≡ All) × IsTraceUpTo c Properties bytes true None trace
-all_traced true c done bytes ending trace taking says = says
-all_traced false c done bytes ending trace taking says = says
+    (delivery : Delivery) → TraceSaysAs batch c Properties (Ok done) bytes ending trace delivery
+    → (ending ≡ AtEnd) × (delivery ≡ All) × IsTraceUpTo c Properties bytes true None trace
+all_traced true c done bytes ending trace delivery says = says
+all_traced false c done bytes ending trace delivery says = says
 
-module _ (input : List ℕ) (now : Past) (given : HasGiven now) where
+module _ (input : List ℕ) (now : History) (given : HasGiven now) where
   -- what was read to its end is all of the input, and else a beginning of it
   pub all_read : (bytes : List ℕ) → now ≡ came bytes AtEnd (unused (lent input)) → bytes ≡ input
   all_read bytes is =
@@ -57,34 +58,34 @@ module _ (input : List ℕ) (now : Past) (given : HasGiven now) where
       (subst (λ bs. first_bad_witness_line c bs false ≡ Some k) (part_read bytes is) first)
   wrong_line c bytes Broken k whole is first = absurd whole
 
-  pub dumped : (batch : Bool) (c : Circuit) (r : Result (Unit {0}) SimFault) (origin : Origin) (sink_now : Past)
-      → Ran (DumpSays batch c r) (unused (lent input)) now (unused origin) sink_now
+  pub dumped : (batch : Bool) (c : Circuit) (r : Result (Unit {0}) SimFault) (origin : Origin) (sink_now : History)
+      → Transferred (DumpSays batch c r) (unused (lent input)) now (unused origin) sink_now
       → OnOk r ((first_bad_line c input true ≡ None) × IsDumpFor c input sink_now.bytes)
   dumped batch c (Ok done) origin sink_now ran =
       let sent = ran.says in
       let d = sent.says.1 in
-      let says = all_traced batch c done ran.bytes ran.ending d.trace d.taking d.says in
+      let says = all_traced batch c done ran.bytes ran.ending d.trace d.delivery d.says in
       let read = all_read ran.bytes (rw says.0 at ran.came) in
-      let text : sink_now.bytes ≡ sent.text = ap (λ (p : Past). p.bytes) (rw sent.says.0 at sent.sent) in
+      let text : sink_now.bytes ≡ sent.text = ap (λ (p : History). p.bytes) (rw sent.says.0 at sent.sent) in
       let is : sent.text ≡ wave_text c d.trace true = rw says.1 at d.is_dump in
       subst (λ (bytes : List ℕ). (first_bad_line c bytes true ≡ None) × IsDumpFor c bytes sink_now.bytes) read
       (says.2.first, (d.trace, says.2.is_text, text ∙ is))
   dumped batch c (Err fault) origin sink_now ran = tt
 
   bad_stimulus : (batch : Bool) (c : Circuit) (line : ℕ) (bytes : List ℕ) (ending : Ending) (trace : List ℕ)
-      (taking : Taking)
-      → TraceSaysAs batch c Properties (Err (sim_faults.BadStimulus line)) bytes ending trace taking
+      (delivery : Delivery)
+      → TraceSaysAs batch c Properties (Err (sim_faults.BadStimulus line)) bytes ending trace delivery
       → now ≡ came bytes ending (unused (lent input)) → first_bad_line c input true ≡ Some line
-  bad_stimulus true c line bytes ending trace taking says is = bad_line c bytes ending line says.0.0 is says.0.1
-  bad_stimulus false c line bytes ending trace taking says is = bad_line c bytes ending line says.0 is says.2.first
+  bad_stimulus true c line bytes ending trace delivery says is = bad_line c bytes ending line says.0.0 is says.0.1
+  bad_stimulus false c line bytes ending trace delivery says is = bad_line c bytes ending line says.0 is says.2.first
 
-  pub not_dumped : (batch : Bool) (c : Circuit) (r : Result (Unit {0}) SimFault) (sink sink_now : Past)
-      → Ran (DumpSays batch c r) (unused (lent input)) now sink sink_now
+  pub not_dumped : (batch : Bool) (c : Circuit) (r : Result (Unit {0}) SimFault) (sink sink_now : History)
+      → Transferred (DumpSays batch c r) (unused (lent input)) now sink sink_now
       → IfErr r (λ fault. IsBadStimulus c input fault ⊎ WantsMemory fault)
   not_dumped batch c (Ok done) sink sink_now ran = tt
   not_dumped batch c (Err (sim_faults.BadStimulus line)) sink sink_now ran =
       let d = ran.says.says.1 in
-      inl (line, refl, bad_stimulus batch c line ran.bytes ran.ending d.trace d.taking d.says ran.came)
+      inl (line, refl, bad_stimulus batch c line ran.bytes ran.ending d.trace d.delivery d.says ran.came)
   not_dumped true c (Err (sim_faults.BadWitness line)) sink sink_now ran = absurd ran.says.says.1.says.0
   not_dumped false c (Err (sim_faults.BadWitness line)) sink sink_now ran = absurd ran.says.says.1.says
   not_dumped batch c (Err sim_faults.OutOfMemory) sink sink_now ran = inr (inl refl)

@@ -1,7 +1,7 @@
 -- What came of judging a witness file that was read to its end, and of making the dump of its run.
 use Rattle.std.proofs.Common.{◌≡◌, ◌⊎◌, ℕ, List, true, IfErr, IfOk, MatchResult, Result, Ok, Err}
 use Rattle.std.proofs.Common.{inl, inr, ap, length, refl}
-use Rattle.aig_io.specs.Devices.{Past, gave_all}
+use Rattle.aig_io.specs.Devices.{History, gave_all}
 use Rattle.aig_io.specs.Runs.{AtEnd, Read}
 use Rattle.aig_circuit.specs.declared.circuit.Circuit.{Circuit}
 use Rattle.aig_step.specs.declared.fault.SimFault.{SimFault}
@@ -12,7 +12,7 @@ use Rattle.aig_witness.specs.Witness.{Claim, IsVerdict, SaysClaim, wrong_line}
 use Rattle.aig_claims.specs.RunDump.{HasNoDump, IsRunDump}
 use Rattle.aig_dump.specs.InMemory.{IsBadWitness, JudgedRun}
 
-module _ (c : Circuit) (witness witness_now : Past) where
+module _ (c : Circuit) (witness witness_now : History) where
   pub judged_run : {T : Type 0} (verdict : T → Verdict) (run : T → List ℕ) (bytes : List ℕ) (r : Result T SimFault)
       → witness_now ≡ gave_all bytes witness
       → IfOk r (λ made. (claim : Claim) × SaysClaim c bytes claim × IsVerdict c claim (verdict made)

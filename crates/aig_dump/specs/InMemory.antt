@@ -18,7 +18,7 @@ abbrev pub IsBadStimulus : Circuit → (stimulus : List ℕ) → SimFault → Ty
 IsBadStimulus c stimulus fault =
     (line : ℕ) × (fault ≡ BadStimulus line) × (first_bad_line c stimulus true ≡ Some line)
 
--- This line of the witness file is the first wrong one, or the one that is missing behind it.
+-- This line of the witness file is the first wrong one, or the one that is missing after it.
 abbrev pub IsBadWitness : Circuit → (witness : List ℕ) → SimFault → Type 0
 IsBadWitness c witness fault =
     (line : ℕ) × (fault ≡ BadWitness line) × (first_bad_witness_line c witness true ≡ Some line)

@@ -1,7 +1,7 @@
 //! What a simulation writes: its trace, or the dump of that.
 ghost use Rattle.std.specs.Prelude.{◌≡◌, Err, if◌then◌else◌};
 ghost use Rattle.aig_io.specs.Devices.{CanFail};
-ghost use Rattle.aig_io.specs.Runs.{Ran};
+ghost use Rattle.aig_io.specs.Runs.{Transferred};
 ghost use Rattle.aig_step.specs.declared.fault.SimFault.TheVariants.{WriteFailed};
 ghost use Rattle.aig_dump.specs.Dumped.{DumpSays, TraceSaysAs};
 
@@ -22,12 +22,13 @@ pub fn write_trace<R: Source, W: Sink>(
     stimulus: &mut R,
     output: &mut W,
 ) -> Result<(), SimFault>
-    requires stimulus { CanFail (R.past stimulus.old) }
-    requires output { CanFail (W.past output.old) }
-    ensures stimulus { (R.past stimulus.new).origin ≡ (R.past stimulus.old).origin }
-    ensures output { (W.past output.new).origin ≡ (W.past output.old).origin }
-    ensures ran { Ran (TraceSaysAs batch found.now columns result)
-        (R.past stimulus.old) (R.past stimulus.new) (W.past output.old) (W.past output.new) }
+    requires stimulus { CanFail (R.history stimulus.old) }
+    requires output { CanFail (W.history output.old) }
+    ensures stimulus { (R.history stimulus.new).origin ≡ (R.history stimulus.old).origin }
+    ensures output { (W.history output.new).origin ≡ (W.history output.old).origin }
+    ensures transferred { Transferred (TraceSaysAs batch found.now columns result)
+        (R.history stimulus.old) (R.history stimulus.new) (W.history output.old)
+        (W.history output.new) }
 {
     if batch {
         simulate_batched(alloc, found, columns, stimulus, output)
@@ -55,11 +56,12 @@ pub fn write_dump<R: Source, W: Sink>(
     stimulus: &mut R,
     output: &mut W,
 ) -> Result<(), SimFault>
-    requires stimulus { CanFail (R.past stimulus.old) }
-    requires output { CanFail (W.past output.old) }
-    ensures stimulus { (R.past stimulus.new).origin ≡ (R.past stimulus.old).origin }
-    ensures ran { Ran (DumpSays batch found.now result)
-        (R.past stimulus.old) (R.past stimulus.new) (W.past output.old) (W.past output.new) }
+    requires stimulus { CanFail (R.history stimulus.old) }
+    requires output { CanFail (W.history output.old) }
+    ensures stimulus { (R.history stimulus.new).origin ≡ (R.history stimulus.old).origin }
+    ensures transferred { Transferred (DumpSays batch found.now result)
+        (R.history stimulus.old) (R.history stimulus.new) (W.history output.old)
+        (W.history output.new) }
 {
     let Ok(room) = WaveMemory::new(alloc, found) else {
         return Err(SimFault::OutOfMemory);

@@ -18,11 +18,11 @@ fn read_witness<R: Source>(
     found: &Checked,
     witness: &mut R,
 ) -> Result<Vec<u8>, SimFault>
-    requires { CanFail (R.past witness.old) }
-    ensures ok { IfOk result (λ bytes. R.past witness.new
-        ≡ gave_all bytes.items (R.past witness.old)) }
+    requires { CanFail (R.history witness.old) }
+    ensures ok { IfOk result (λ bytes. R.history witness.new
+        ≡ gave_all bytes.items (R.history witness.old)) }
     ensures err { IfErr result (λ fault. Read (HasNoDump found.now fault)
-        (R.past witness.old) (R.past witness.new)) }
+        (R.history witness.old) (R.history witness.new)) }
 {
     match read_all(alloc, witness) {
         Ok(bytes) => Ok(bytes),
@@ -37,11 +37,11 @@ pub fn read_and_dump<R: Source>(
     found: Checked,
     witness: &mut R,
 ) -> Result<(Verdict, Vec<u8>), SimFault>
-    requires { CanFail (R.past witness.old) }
+    requires { CanFail (R.history witness.old) }
     ensures read { Read (λ bytes ending. MatchResult result
         (λ made. (ending ≡ AtEnd) × JudgedRun found made.0 bytes made.1.items)
         (λ fault. HasNoDump found fault bytes ending))
-        (R.past witness.old) (R.past witness.new) }
+        (R.history witness.old) (R.history witness.new) }
 {
     match read_witness(alloc, &found, witness) {
         Ok(bytes) => {
@@ -59,11 +59,12 @@ pub fn read_and_dump<R: Source>(
 /// Sends the verdict and the dump of a run. It fails only where the sink fails, which then took a
 /// beginning of them.
 pub fn send_dump<W: Sink>(verdict: Verdict, run: &[u8], sink: &mut W) -> Result<(), WriteFault>
-    requires { CanFail (W.past sink.old) }
-    ensures ok { OnOk result (W.past sink.new
-        ≡ took (comment_line verdict ++ run.now) (W.past sink.old)) }
+    requires { CanFail (W.history sink.old) }
+    ensures ok { OnOk result (W.history sink.new
+        ≡ took (comment_line verdict ++ run.now) (W.history sink.old)) }
     ensures err { OnErr result
-        (TookBeginning (comment_line verdict ++ run.now) (W.past sink.old) (W.past sink.new)) }
+        (TookBeginning (comment_line verdict ++ run.now) (W.history sink.old)
+        (W.history sink.new)) }
 {
     let mut output = Output::new(sink);
     comment_line(verdict).put(&mut output);

@@ -20,13 +20,13 @@ pub struct NamedSink<'a, A: FileAccess> {
 
 impl<'a, A: FileAccess> Model for NamedSink<'a, A> {
     ghost use Rattle.std.specs.Prelude.{true};
-    ghost use Rattle.aig_io.specs.Devices.{Past};
-    ghost use Rattle.aig_files.specs.Named.{bytes_at, IsAt, HasCounted, past_at};
+    ghost use Rattle.aig_io.specs.Devices.{History};
+    ghost use Rattle.aig_files.specs.Named.{bytes_at, IsAt, HasCounted, history_at};
 
-    ghost Value = { Past };
+    ghost Value = { History };
 
     ghost view = { λ s.
-        past_at s.access.ghost_name s.name.now s.stage (A.files s.access.now) 0 s.failures };
+        history_at s.access.ghost_name s.name.now s.stage (A.files s.access.now) 0 s.failures };
 
     ghost invariant = { λ s. IsAt true s.name.now s.stage (A.files s.access.now)
         × HasCounted s.stage (bytes_at s.stage (A.files s.access.now)) 0 s.failures };
@@ -101,7 +101,7 @@ fn write_named<A: FileAccess>(
 }
 
 impl<A: FileAccess> Sink for NamedSink<'_, A> {
-    ghost past = { λ s. s };
+    ghost history = { λ s. s };
 
     fn send(&mut self, bytes: &[u8]) -> Result<usize, DeviceFault> {
         let answer = write_named(self.access, self.name, self.stage, bytes);

@@ -22,14 +22,14 @@ pub struct NamedSource<'a, A: FileAccess> {
 
 impl<'a, A: FileAccess> Model for NamedSource<'a, A> {
     ghost use Rattle.std.specs.Prelude.{◌≡◌, ◌+◌, ◌^◌, false, length};
-    ghost use Rattle.aig_io.specs.Devices.{Past};
+    ghost use Rattle.aig_io.specs.Devices.{History};
     ghost use Rattle.aig_io.specs.Notes.{sum_of};
-    ghost use Rattle.aig_files.specs.Named.{bytes_at, IsAt, HasCounted, past_at};
+    ghost use Rattle.aig_files.specs.Named.{bytes_at, IsAt, HasCounted, history_at};
 
-    ghost Value = { Past };
+    ghost Value = { History };
 
     ghost view = { λ s.
-        past_at s.access.ghost_name s.name.now s.stage (A.files s.access.now)
+        history_at s.access.ghost_name s.name.now s.stage (A.files s.access.now)
         (sum_of s.ends.notes) s.failures };
 
     ghost invariant = { λ s. IsAt false s.name.now s.stage (A.files s.access.now)
@@ -115,7 +115,7 @@ fn read_named<A: FileAccess>(
 }
 
 impl<A: FileAccess> Source for NamedSource<'_, A> {
-    ghost past = { λ s. s };
+    ghost history = { λ s. s };
 
     ghost bound = { λ s. 2 ^ 62 - length s.bytes };
 

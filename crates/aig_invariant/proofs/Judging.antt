@@ -32,7 +32,7 @@ not_end bs other = elim (bytes_eq bs one_end) as (λ t. bytes_eq bs one_end ≡ 
   | false ↦ λ is. refl
 ] refl
 
--- one character behind which this comes
+-- one character after which this comes
 abbrev behind_character : ℕ → Option Cube → Option Cube
 behind_character b rest = option_and_then (λ (v : Val). option_map (λ (vs : Cube). v ∷ vs) rest) (asked_value b)
 

@@ -68,11 +68,11 @@ fn read_bytes<R: Source>(
     found: &Checked,
     source: &mut R,
 ) -> Result<Vec<u8>, InvariantFault>
-    requires { CanFail (R.past source.old) }
-    ensures ok { IfOk result (λ bytes. R.past source.new
-        ≡ gave_all bytes.items (R.past source.old)) }
+    requires { CanFail (R.history source.old) }
+    ensures ok { IfOk result (λ bytes. R.history source.new
+        ≡ gave_all bytes.items (R.history source.old)) }
     ensures err { IfErr result (λ fault. Read (NotInvariant found.now fault)
-        (R.past source.old) (R.past source.new)) }
+        (R.history source.old) (R.history source.new)) }
 {
     match read_all(alloc, source) {
         Ok(bytes) => Ok(bytes),
@@ -90,8 +90,8 @@ pub fn with_invariant<R: Source>(
     found: Checked,
     source: &mut R,
 ) -> Result<Checked, InvariantFault>
-    requires { CanFail (R.past source.old) }
-    ensures { Read (InvariantSays found result) (R.past source.old) (R.past source.new) }
+    requires { CanFail (R.history source.old) }
+    ensures { Read (InvariantSays found result) (R.history source.old) (R.history source.new) }
 {
     match read_bytes(alloc, &found, source) {
         Ok(bytes) => {

@@ -35,7 +35,7 @@ fn are_values(row: &[u8]) -> bool
     true
 }
 
-/// The characters of a row, without the space and the 1 behind them.
+/// The characters of a row, without the space and the 1 after them.
 pub(crate) fn row_of(text: &[u8]) -> &[u8]
     ensures { result.now ≡ row_of text.now }
 {

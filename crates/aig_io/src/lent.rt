@@ -16,9 +16,9 @@ pub struct VecSink {
 }
 
 impl Model for VecSink {
-    ghost use Rattle.aig_io.specs.Devices.{Past, no_file};
+    ghost use Rattle.aig_io.specs.Devices.{History, no_file};
 
-    ghost Value = { Past };
+    ghost Value = { History };
 
     ghost view = { λ s.
         record { origin = no_file; bytes = s.bytes.items; ends = 0; failures = s.failures } };
@@ -54,7 +54,7 @@ impl VecSink {
 }
 
 impl Sink for VecSink {
-    ghost past = { λ s. s };
+    ghost history = { λ s. s };
 
     fn send(&mut self, bytes: &[u8]) -> Result<usize, DeviceFault> {
         if self.bytes.extend_from_slice(bytes).is_err() {
@@ -85,7 +85,7 @@ impl<'a> Model for SliceSource<'a> {
     ghost Value = { Lent };
 
     ghost view = { λ s. record {
-      past = record {
+      history = record {
         origin = lent s.bytes.now;
         bytes = take s.at s.bytes.now;
         ends = sum_of s.ends.notes;
@@ -101,7 +101,7 @@ impl<'a> Model for SliceSource<'a> {
 impl<'a> SliceSource<'a> {
     /// A source of these bytes. There are not more than 2^62 of them, which no memory holds.
     pub fn new(bytes: &'a [u8]) -> Result<Self, AllocError>
-        ensures { IfOk result (λ source. source.past ≡ unused (lent bytes.now)) }
+        ensures { IfOk result (λ source. source.history ≡ unused (lent bytes.now)) }
     {
         if bytes.len() > 1 << 62 {
             return Err(AllocError);
@@ -115,14 +115,14 @@ impl<'a> SliceSource<'a> {
 
     /// It gave a beginning of its bytes, and once it answered that it is at its end, all of them.
     pub fn gives_its_bytes(&self)
-        ensures { HasGiven self.now.past }
+        ensures { HasGiven self.now.history }
     {
         let _bytes = self.bytes;
     }
 }
 
 impl Source for SliceSource<'_> {
-    ghost past = { λ s. s.past };
+    ghost history = { λ s. s.history };
 
     ghost bound = { λ s. s.left };
 

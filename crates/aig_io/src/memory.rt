@@ -31,7 +31,7 @@ impl Model for MemorySource {
     ghost Value = { SourceInMemory };
 
     ghost view = { λ s. record {
-      past = record {
+      history = record {
         origin = no_file;
         bytes = take s.at s.bytes.items;
         ends = sum_of s.log.notes;
@@ -79,13 +79,13 @@ fn fails_now(calls_before: &mut Option<u64>) -> bool
 }
 
 impl Source for MemorySource {
-    ghost past = { λ s. s.past };
+    ghost history = { λ s. s.history };
 
     ghost bound = { λ s. length s.coming };
 
     fn fetch(&mut self, into: &mut [u8]) -> Result<usize, DeviceFault>
         requires room { 0 < length into.old }
-        requires countable { CanFail self.old.past }
+        requires countable { CanFail self.old.history }
         ensures chosen { IsTrue (is_ok result) ↔ (is_due self.old.fails_in ≡ false) }
         ensures count { IfOk result (λ n. n ≡ given self.old (length into.old)) }
         ensures bytes { IfOk result (λ n. take n into.new ≡ take n self.old.coming) }
@@ -131,7 +131,7 @@ impl Model for MemorySink {
     ghost Value = { SinkInMemory };
 
     ghost view = { λ s. record {
-      past = record { origin = no_file; bytes = s.taken.items; ends = 0; failures = s.failures };
+      history = record { origin = no_file; bytes = s.taken.items; ends = 0; failures = s.failures };
       room = s.room;
       piece = s.piece;
       longest = s.longest;
@@ -160,7 +160,7 @@ impl MemorySink {
 
     /// The bytes that it took.
     pub fn bytes(&self) -> &[u8]
-        ensures { result.now ≡ self.now.past.bytes }
+        ensures { result.now ≡ self.now.history.bytes }
     {
         self.taken.as_slice()
     }
@@ -174,12 +174,12 @@ impl MemorySink {
 }
 
 impl Sink for MemorySink {
-    ghost past = { λ s. s.past };
+    ghost history = { λ s. s.history };
 
     fn send(&mut self, bytes: &[u8]) -> Result<usize, DeviceFault>
         requires some { 0 < length bytes.now }
         requires short { length bytes.now ≤ block_size }
-        requires countable { CanFail self.old.past }
+        requires countable { CanFail self.old.history }
         ensures moves { IfOk result (λ n. 0 < n) }
         ensures chosen { IsTrue (is_ok result) ↔
             ((is_due self.old.fails_in ≡ false) × (0 < self.old.room)) }

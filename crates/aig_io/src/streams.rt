@@ -34,7 +34,7 @@ impl<R> ReadSource<R> {
 }
 
 impl<R: Read> Source for ReadSource<R> {
-    ghost past = { λ s. noted s.log.notes s.failures };
+    ghost history = { λ s. noted s.log.notes s.failures };
 
     ghost bound = { λ s. s.left };
 
@@ -89,7 +89,7 @@ impl<W> WriteSink<W> {
 }
 
 impl<W: Write> Sink for WriteSink<W> {
-    ghost past = { λ s. noted s.log.notes s.failures };
+    ghost history = { λ s. noted s.log.notes s.failures };
 
     fn send(&mut self, bytes: &[u8]) -> Result<usize, DeviceFault> {
         match self.writer.write(bytes) {

@@ -1,8 +1,8 @@
 -- What a call answers, once it is known what was made.
 use Rattle.std.proofs.Common.{◌≡◌, ◌⊎◌, List, ℕ, Result, Ok, Err, IfErr, IfOk, OnOk, inl, inr, subst, sym}
 use Rattle.aig_fault.specs.declared.fault.Fault.{Fault}
-use Rattle.aig_engines.specs.declared.stopped.Stopped.{Stopped}
-use Rattle.aig_engines.specs.declared.stopped.Stopped.TheVariants as stops
+use Rattle.aig_commands.specs.declared.stopped.Stopped.{Stopped}
+use Rattle.aig_commands.specs.declared.stopped.Stopped.TheVariants as stops
 use Rattle.aig_library.specs.Answers.{Refused, ShowAnswers, TextAnswers}
 use Rattle.aig_library.specs.Numbers as numbers
 use Rattle.aig_library.specs.Outcome.{IsPlaced, StopsInMemory, ending, out_of_memory, outcome_of}

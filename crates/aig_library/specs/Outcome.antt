@@ -4,15 +4,15 @@ use Rattle.aig_array_steps.specs.declared.one_step.StepFault.{StepFault}
 use Rattle.aig_array_steps.specs.declared.one_step.StepFault.TheVariants as step_faults
 use Rattle.aig_arrays.specs.declared.fault.ArrayFault.{ArrayFault}
 use Rattle.aig_arrays.specs.declared.fault.ArrayFault.TheVariants as array_faults
-use Rattle.aig_engines.specs.Stops.{kind_stops}
-use Rattle.aig_engines.specs.Stopping.{fault_at, refusal}
+use Rattle.aig_commands.specs.Stops.{kind_stops}
+use Rattle.aig_commands.specs.Stopping.{fault_at, refusal}
 use Rattle.aig_fault.specs.Words.{kind_number}
 use Rattle.aig_fault.specs.declared.fault.Fault.{Fault}
 use Rattle.aig_fault.specs.declared.fault.Place.{Place}
 use Rattle.aig_fault.specs.declared.fault.Place.TheVariants as places
 use Rattle.aig_fault.specs.declared.kind.Kind.TheVariants as kinds
-use Rattle.aig_engines.specs.declared.stopped.Stopped.{Stopped}
-use Rattle.aig_engines.specs.declared.stopped.Stopped.TheVariants as stops
+use Rattle.aig_commands.specs.declared.stopped.Stopped.{Stopped}
+use Rattle.aig_commands.specs.declared.stopped.Stopped.TheVariants as stops
 use Rattle.aig_text.specs.Reading.{kind_of}
 use Rattle.aig_library.specs.Numbers as numbers
 use Rattle.aig_library.specs.declared.outcome.Outcome.{Outcome}
@@ -68,7 +68,7 @@ step_outcome step_faults.NotOrdered = fault_outcome (fault_at kinds.NotOrdered p
 step_outcome (step_faults.TooShort length) = ending numbers.too_short 0 length
 step_outcome (step_faults.BadValue value) = fault_outcome (fault_at kinds.BadValue (places.Value value) 0)
 
--- The text is at the front of the output, and what stood behind it is as it was; or it has more bytes than there is
+-- The text is at the front of the output, and what stood after it is as it was; or it has more bytes than there is
 -- room for, and the output is as it was. The outcome tells how many bytes it has: the first is that of a text that was
 -- placed.
 abbrev pub IsPlacedAs : (ℕ → Outcome) → (text before after : List ℕ) → Outcome → Type 0

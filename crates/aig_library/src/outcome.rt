@@ -2,14 +2,14 @@
 ghost use Rattle.std.specs.Prelude.{◌≡◌, IfErr, IfOk, OnOk};
 ghost use Rattle.aig_fault.specs.declared.fault.Place.TheVariants.{Whole};
 ghost use Rattle.aig_text.specs.Reading.{kind_of};
-ghost use Rattle.aig_engines.specs.Stops.{kind_stops};
+ghost use Rattle.aig_commands.specs.Stops.{kind_stops};
 ghost use Rattle.aig_library.specs.Outcome.{array_stops, ending, fault_outcome, IsPlaced};
 ghost use Rattle.aig_library.specs.Outcome.{outcome_of, place_numbers, step_outcome};
 
 use aig_array_steps::StepFault;
 use aig_arrays::ArrayFault;
+use aig_commands::{Stopped, kind_stops, refused, refused_whole};
 use aig_core::CheckFault;
-use aig_engines::{Stopped, kind_stops, refused, refused_whole};
 use aig_fault::{Fault, Kind, Place};
 
 /// The text was written, or the witness is confirmed.

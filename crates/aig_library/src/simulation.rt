@@ -1,8 +1,8 @@
 //! Simulation from bytes to bytes.
 ghost use Rattle.std.specs.Prelude.{◌≡◌, ◌⊎◌, ◌↔◌, IfErr, IfOk, IsTrue, None, true};
-ghost use Rattle.aig_engines.specs.File.{IsFileOf};
-ghost use Rattle.aig_engines.specs.Reading.{IsUnreadable};
-ghost use Rattle.aig_engines.specs.Simulation.{IsWrittenText, columns_of};
+ghost use Rattle.aig_commands.specs.File.{IsFileOf};
+ghost use Rattle.aig_commands.specs.Reading.{IsUnreadable};
+ghost use Rattle.aig_commands.specs.Simulation.{IsWrittenText, columns_of};
 ghost use Rattle.aig_step.specs.Outcome.{first_bad_line};
 ghost use Rattle.aig_step.specs.TraceText.{IsTraceText};
 ghost use Rattle.aig_dump.specs.InMemory.{IsBadStimulus, WantsMemory};
@@ -13,9 +13,9 @@ ghost use Rattle.aig_library.specs.Outcome.{StopsInMemory};
 use crate::asked::{PROPERTIES, VCD, has, only_has};
 use crate::outcome::{BAD_OPTIONS, Outcome, answer, ending};
 use aig_batch::simulate_batched;
+use aig_commands::{Stopped, read_circuit};
 use aig_core::{Checked, Keep, LARGEST, SliceSource, VecSink};
 use aig_dump::dump;
-use aig_engines::{Stopped, read_circuit};
 use aig_step::{Columns, SimFault};
 use std::alloc::Global;
 

@@ -42,7 +42,7 @@ counted_line x = do
   first ← or_else (Malformed 1) (first_line_at front)
   if counts_match x first.0 then Ok first else Err Mismatch
 
--- the block behind the first line, and what follows it
+-- the block after the first line, and what follows it
 unfoldable pub rest_of_block : FirstLine → List ℕ → Result (MapBlock × List ℕ) MapFault
 rest_of_block first bytes = do
   inputs ← entries_at (variable_at first.max_var) 2 first.inputs bytes
@@ -60,7 +60,7 @@ rest_of_block first bytes = do
     rest,
   )
 
--- the block at the front of the circuit's comment, and the comment behind it
+-- the block at the front of the circuit's comment, and the comment after it
 unfoldable pub block_reading : Circuit → Result (MapBlock × List ℕ) MapFault
 block_reading x = do
   first ← counted_line x

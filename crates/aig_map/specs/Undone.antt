@@ -40,7 +40,7 @@ undone b comment x =
       comment = comment;
     }
 
--- the comment behind a block, where there was a comment section
+-- the comment after a block, where there was a comment section
 abbrev pub comment_behind : MapBlock → List ℕ → Option (List ℕ)
 comment_behind b rest = if b.has_comment then Some rest else None
 

@@ -214,7 +214,7 @@ fn rest_of_block<'a>(
     Ok((block, rest))
 }
 
-/// The block at the front of a circuit's comment, and the comment behind it.
+/// The block at the front of a circuit's comment, and the comment after it.
 #[tactic(auto, unfolding(crate::specs::MapReading::block_reading))]
 fn read_block(alloc: Global, image: &Circuit) -> Result<(MapBlock, &[u8]), MapFault>
     ensures { GivesOrMemory (λ x. (x.0, x.1.now)) result (block_reading image.now) }
@@ -240,7 +240,7 @@ fn take_comment(alloc: Global, image: &mut Circuit) -> Vec<u8>
 #[derive(Drop)]
 pub struct TakenBlock {
     pub block: MapBlock,
-    /// The comment behind the block.
+    /// The comment after the block.
     pub comment: Vec<u8>,
     /// The circuit without a comment.
     pub image: Circuit,

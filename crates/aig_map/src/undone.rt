@@ -47,8 +47,8 @@ fn fill_places(placed: &mut [Var], gates: &[MappedGate]) -> bool
     true
 }
 
-/// Puts the variable of each gate at its place, behind the first variables, so many. Returns
-/// whether no two gates have one place.
+/// Puts the variable of each gate at its place, after the first variables, so many. Returns whether
+/// no two gates have one place.
 fn place_gates(variables: &mut [Var], first: usize, gates: &[MappedGate]) -> bool
     requires within { first ≤ length variables.old }
     requires none { drop first variables.old ≡ replicate (length gates.now) 0 }

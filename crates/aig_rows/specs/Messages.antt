@@ -1,21 +1,13 @@
 -- The words in which a fault is reported (this project's profile).
-use Rattle.std.specs.Prelude.{◌++◌, ℕ, List, [], Option, None, Some, codes, decimal}
+use Rattle.std.specs.Prelude.{◌++◌, ℕ, List, [], codes, decimal}
 use Rattle.aig_circuit.specs.Messages.{cyclic_text, redefined_text, undefined_text}
+pub use Rattle.aig_fault.specs.Words.{message_text}
 pub use Rattle.aig_io.specs.Messages.{cannot_read_text, cannot_write_text, out_of_memory_text}
-use Rattle.aig_rows.specs.declared.message.Message.{Message}
 use Rattle.aig_rows.specs.declared.fault.Place.{Place}
 use Rattle.aig_rows.specs.declared.fault.Place.TheVariants.{Line, Gate, Whole}
 use Rattle.aig_rows.specs.declared.fault.ReadKind.{ReadKind}
 use Rattle.aig_rows.specs.declared.fault.ReadKind.TheVariants as kinds
 use Rattle.aig_rows.specs.declared.fault.ReadFault.{ReadFault}
-
--- the digits of a number, where there is one
-abbrev pub number_text : Option ℕ → List ℕ
-number_text None = []
-number_text (Some n) = decimal n
-
-abbrev pub message_text : Message → List ℕ
-message_text m = m.before.now ++ (number_text m.number ++ m.after.now)
 
 -- where a text is wrong
 abbrev pub place_text : Place → List ℕ

@@ -5,7 +5,7 @@ use Rattle.std.specs.Prelude.{Err, get_or, ⊤}
 use Rattle.aig_rows.specs.declared.row.Role.TheVariants as roles
 use Rattle.aig_rows.specs.Rows.{Role, Form}
 use Rattle.aig_rows.specs.declared.fault.ReadFault.{ReadFault}
-use Rattle.aig_rows.specs.Reading.{want_of_memory, Found}
+use Rattle.aig_rows.specs.Reading.{out_of_memory, Found}
 
 -- What a function returned, seen by view, is what reading gives.
 abbrev pub Gives : {X Y : Type 0} → (X → Y) → Option X → Option Y → Type 0
@@ -20,14 +20,14 @@ GivesOrFails view (Err e) read = read ≡ Err e
 -- The same, unless memory was refused.
 abbrev pub GivesOrMemory : {X Y : Type 0} → (X → Y) → Result X ReadFault → Result Y ReadFault → Type 0
 GivesOrMemory view (Ok x) read = read ≡ Ok (view x)
-GivesOrMemory view (Err e) read = (e ≡ want_of_memory) ⊎ (read ≡ Err e)
+GivesOrMemory view (Err e) read = (e ≡ out_of_memory) ⊎ (read ≡ Err e)
 
--- what the next row means, and what is ahead behind it
+-- what the next row means, and what is ahead after it
 abbrev pub row_meant : {A : Type 0} → (List ℕ → A) → Found (List ℕ) → Found A
 row_meant tell (Ok x) = Ok (tell x.0, x.1)
 row_meant tell (Err e) = Err e
 
--- what rows mean behind what was found before, and what is ahead behind them
+-- what rows mean after what was found before, and what is ahead after them
 abbrev pub rows_meant : {A : Type 0} → (List ℕ → A) → List A → Found (List (List ℕ)) → Found (List A)
 rows_meant tell found (Ok x) = Ok (found ++ map tell x.0, x.1)
 rows_meant tell found (Err e) = Err e

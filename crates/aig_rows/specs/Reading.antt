@@ -100,7 +100,7 @@ unfoldable pub row_of : Form → ℕ → ℕ → Line → Result (List ℕ) Read
 row_of form bound carried l =
     checked_row form bound carried (numbers_at l.ended form.least (length form.others) l.text)
 
--- what is found in the lines ahead, and what is ahead behind those
+-- a result and the remaining input
 abbrev pub Found : Type 0 → Type 0
 Found A = Result (A × Ahead) ReadFault
 
@@ -127,5 +127,5 @@ abbrev pub whole_fault : ReadKind → ReadFault
 whole_fault kind = record { place = places.Whole; kind = kind }
 
 -- memory was refused while the text was judged
-abbrev pub want_of_memory : ReadFault
-want_of_memory = whole_fault kinds.OutOfMemory
+abbrev pub out_of_memory : ReadFault
+out_of_memory = whole_fault kinds.OutOfMemory

@@ -1,13 +1,23 @@
 //! Why a text is refused, and where (this project's profile).
 ghost use Rattle.std.specs.Prelude.{◌≡◌, Some};
-ghost use Rattle.aig_rows.specs.Messages.{fault_text, kind_text, message_text, place_text};
-ghost use Rattle.aig_rows.specs.Reading.{want_of_memory};
+ghost use Rattle.aig_fault.specs.Words.{message_text};
+ghost use Rattle.aig_rows.specs.Messages.{fault_text, kind_text, place_text};
+ghost use Rattle.aig_rows.specs.Reading.{out_of_memory};
 
-use crate::message::{Message, OUT_OF_MEMORY};
 use aig_circuit::{Lit, Var};
+use aig_fault::Message;
 use std::alloc::{AllocError, AllocFailed};
 use std::error::Error;
 use std::fmt;
+
+/// What is said where memory was refused.
+pub const OUT_OF_MEMORY: &str = "out of memory";
+
+/// What is said where a source failed.
+pub const CANNOT_READ: &str = "cannot read";
+
+/// What is said where a sink failed.
+pub const CANNOT_WRITE: &str = "cannot write";
 
 /// Where a text is wrong.
 #[derive(Clone, Copy, Debug, PartialEq, Eq)]
@@ -143,7 +153,7 @@ impl fmt::Display for ReadFault {
 impl Error for ReadFault {}
 
 impl From<AllocError> for ReadFault {
-    ghost from_gives = { λ _ e. e ≡ want_of_memory };
+    ghost from_gives = { λ _ e. e ≡ out_of_memory };
 
     fn from(_refused: AllocError) -> ReadFault {
         ReadFault {
@@ -154,7 +164,7 @@ impl From<AllocError> for ReadFault {
 }
 
 impl<T: Drop> From<AllocFailed<T>> for ReadFault {
-    ghost from_gives = { λ _ e. e ≡ want_of_memory };
+    ghost from_gives = { λ _ e. e ≡ out_of_memory };
 
     fn from(_refused: AllocFailed<T>) -> ReadFault {
         ReadFault {

@@ -9,14 +9,13 @@
 
 mod fault;
 pub mod laws;
-mod message;
 mod number;
 mod row;
 mod rows;
 mod word;
 
-pub use crate::fault::{Place, ReadFault, ReadKind};
-pub use crate::message::{CANNOT_READ, CANNOT_WRITE, Message, OUT_OF_MEMORY};
+pub use crate::fault::{CANNOT_READ, CANNOT_WRITE, OUT_OF_MEMORY, Place, ReadFault, ReadKind};
 pub use crate::number::{canonical_number, ends_line, leading_number, more_numbers};
 pub use crate::row::{FromRow, NextState};
 pub use crate::rows::{Due, next_states, read_first_rows, read_rows};
+pub use aig_fault::Message;

@@ -112,8 +112,8 @@ pub struct NextState {
 }
 
 /// What one line of numbers means: an entry of a section. It is judged beside the largest index, or
-/// what sizes may add up to (`bound`), and beside what the lines before it leave (`carried`): of
-/// sizes their sum, and elsewhere the literal of the line's variable in a binary file.
+/// what sizes may add up to (`bound`), and beside `carried`, the value from the line before: of
+/// sizes the sum so far, and elsewhere the literal of the line's variable in a binary file.
 pub trait FromRow: Copy {
     /// What the line has to hold.
     ghost form: { Form };
@@ -130,7 +130,7 @@ pub trait FromRow: Copy {
             ≡ Ok (x.0, ahead (number + 1) (lines_of x.1.now))) }
         ensures shorter { IfSome result (λ x. length x.1.now < length bytes.now) };
 
-    /// Reads the next line, and moves behind it, unless it is not right.
+    /// Reads the next line, and moves past it, unless it is not right.
     fn read_row(at: &mut Cursor, bound: u32, carried: u64) -> Result<Self, ReadFault>
         requires bound { bound ≤ largest_index }
         requires carried { carried ≤ 2 ^ 35 }

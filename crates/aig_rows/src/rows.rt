@@ -6,7 +6,7 @@ ghost use Rattle.aig_rows.specs.Rows.{next_form, next_of};
 ghost use Rattle.aig_rows.specs.Outcomes.{GivesOrMemory, rows_meant};
 ghost use Rattle.aig_lines.specs.Lines.{Line, with_lines};
 ghost use Rattle.aig_rows.specs.Begun.{HaveRead};
-ghost use Rattle.aig_rows.specs.Reading.{rows_at, want_of_memory};
+ghost use Rattle.aig_rows.specs.Reading.{out_of_memory, rows_at};
 
 use crate::fault::{Place, ReadFault, ReadKind};
 use crate::row::{FromRow, NextState};
@@ -32,8 +32,8 @@ impl Due {
     }
 }
 
-/// Adds the entries of the lines ahead while rows are due, judged beside `bound` and what is
-/// carried, and moves behind these. Answers which rows are due then: none, or else no line is left.
+/// Reads rows until `due` is used up or the input ends, and adds their entries, each judged beside
+/// `bound` and what is carried. Returns what is due then.
 #[inline(never)]
 pub fn read_first_rows<T: FromRow>(
     found: &mut Listing<T>,
@@ -47,7 +47,7 @@ pub fn read_first_rows<T: FromRow>(
         HaveRead T.meant_by T.form bound due left found.old found.new at.old at.new) }
     ensures small { IfOk result (λ left. left.carried + 2 * left.count ≤ 2 ^ 34) }
     ensures all { IfOk result (λ left. 0 < left.count → at.new.lines ≡ []) }
-    ensures err { IfErr result (λ e. (e ≡ want_of_memory) ⊎ ((more : List Line)
+    ensures err { IfErr result (λ e. (e ≡ out_of_memory) ⊎ ((more : List Line)
         → rows_at T.form bound due.carried due.count (with_lines at.old more) ≡ Err e)) }
 {
     // Out of the cursor, so that both stay in registers; where a row is read slowly, one is lent.
@@ -79,7 +79,7 @@ pub fn read_first_rows<T: FromRow>(
 }
 
 /// Adds the entries of the next `count` lines, which are judged beside `bound` and what is carried
-/// to the first, and moves behind them.
+/// to the first, and moves past them.
 pub fn read_rows<T: FromRow>(
     found: &mut Listing<T>,
     count: u32,
@@ -116,7 +116,7 @@ pub fn read_rows<T: FromRow>(
 }
 
 /// What so many latches become and start at, as a binary file lists them, one on each line; the
-/// first latch has this literal. Goes behind these lines, unless one is not right.
+/// first latch has this literal. Goes past these lines, unless one is not right.
 pub fn next_states(
     alloc: Global,
     count: u32,

@@ -67,7 +67,7 @@ fn trace_groups(
     Ok(traces)
 }
 
-/// How many of so many runs are run one after another: a few behind the last full group.
+/// How many of so many runs are run one after another: a few after the last full group.
 fn count_alone(count: usize) -> usize
     ensures { result ≤ count }
 {

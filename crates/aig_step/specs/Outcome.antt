@@ -1,6 +1,6 @@
 -- What the answer of a simulation says, which sends the text of what came before it reads on.
 use Rattle.std.specs.Prelude.{◌≡◌, ℕ, List, [], Bool, true, false, Option, None, Some, Result, Ok, Err, length}
-use Rattle.aig_io.specs.Runs.{All, AtEnd, Broken, Ending, IsCut, IsUnbroken, NotSent, Open, Taking, is_at_end}
+use Rattle.aig_io.specs.Runs.{All, AtEnd, Broken, Delivery, Ending, IsCut, IsUnbroken, NotSent, Open, is_at_end}
 use Rattle.aig_circuit.specs.declared.circuit.Circuit.{Circuit}
 use Rattle.aig_step.specs.declared.fault.SimFault.{SimFault}
 use Rattle.aig_step.specs.declared.fault.SimFault.TheVariants.{OutOfMemory, BadStimulus, BadWitness, ReadFailed}
@@ -20,16 +20,16 @@ pub record IsTraceUpTo (c : Circuit) (columns : Columns) (bytes : List ℕ) (end
   pub is_text : IsTraceText c columns bytes ended text
 
 -- All came, no line is bad, and its trace was taken. Or memory was refused before a device was called; the trace was
--- taken of what came, which has a bad line, or behind which the source failed; or the sink failed on the way.
-abbrev pub TraceSays : Circuit → Columns → Result (Unit {0}) SimFault → List ℕ → Ending → List ℕ → Taking → Type 0
-TraceSays c columns (Ok done) bytes ending text taking =
-    (ending ≡ AtEnd) × (taking ≡ All) × IsTraceUpTo c columns bytes true None text
-TraceSays c columns (Err OutOfMemory) bytes ending text taking =
-    (bytes ≡ []) × (ending ≡ Open) × (taking ≡ NotSent)
-TraceSays c columns (Err (BadStimulus number)) bytes ending text taking =
-    IsUnbroken ending × (taking ≡ All) × IsTraceUpTo c columns bytes (is_at_end ending) (Some number) text
-TraceSays c columns (Err (BadWitness number)) bytes ending text taking = ⊥
-TraceSays c columns (Err ReadFailed) bytes ending text taking =
-    (ending ≡ Broken) × (taking ≡ All) × IsTraceUpTo c columns bytes false None text
-TraceSays c columns (Err WriteFailed) bytes ending text taking =
-    IsUnbroken ending × IsCut taking × IsTraceText c columns bytes (is_at_end ending) text
+-- taken of what came, which has a bad line, or after which the source failed; or the sink failed on the way.
+abbrev pub TraceSays : Circuit → Columns → Result (Unit {0}) SimFault → List ℕ → Ending → List ℕ → Delivery → Type 0
+TraceSays c columns (Ok done) bytes ending text delivery =
+    (ending ≡ AtEnd) × (delivery ≡ All) × IsTraceUpTo c columns bytes true None text
+TraceSays c columns (Err OutOfMemory) bytes ending text delivery =
+    (bytes ≡ []) × (ending ≡ Open) × (delivery ≡ NotSent)
+TraceSays c columns (Err (BadStimulus number)) bytes ending text delivery =
+    IsUnbroken ending × (delivery ≡ All) × IsTraceUpTo c columns bytes (is_at_end ending) (Some number) text
+TraceSays c columns (Err (BadWitness number)) bytes ending text delivery = ⊥
+TraceSays c columns (Err ReadFailed) bytes ending text delivery =
+    (ending ≡ Broken) × (delivery ≡ All) × IsTraceUpTo c columns bytes false None text
+TraceSays c columns (Err WriteFailed) bytes ending text delivery =
+    IsUnbroken ending × IsCut delivery × IsTraceText c columns bytes (is_at_end ending) text

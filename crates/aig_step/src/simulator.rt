@@ -52,7 +52,7 @@ pub struct Row<'a> {
     pub state: &'a [Val],
     /// The values of the outputs.
     pub outputs: &'a [Val],
-    /// The state behind the step.
+    /// The state after the step.
     pub next: &'a [Val],
     /// The values of bad states.
     pub bad: &'a [Val],

@@ -63,7 +63,7 @@ no_header_found word text rest limit ended same is h = header_found word text re
 
 -- Symbol lines are judged by what is kept of their positions as by the positions.
 
--- the symbol behind what is kept of it
+-- the symbol after what is kept of it
 record Behind (o : Option Symbol) (k : Symbol) : Type 0 where
   pub position : ℕ
   pub is : o ≡ Some (symbol k.kind position k.name)

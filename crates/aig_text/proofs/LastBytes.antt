@@ -9,7 +9,7 @@ use Rattle.aig_lines.proofs.Cutting.{pieces}
 use Rattle.aig_lines.proofs.Pieces.{bytes_joined}
 use Rattle.aig_rows.specs.declared.fault.ReadFault.{ReadFault}
 use Rattle.aig_rows.specs.Outcomes.{GivesOrMemory}
-use Rattle.aig_rows.specs.Reading.{want_of_memory}
+use Rattle.aig_rows.specs.Reading.{out_of_memory}
 use Rattle.aig_text.specs.declared.comment.Uncommented.{Uncommented}
 use Rattle.aig_text.specs.Reading.{HasRoomFor, with_comment, with_last_comment}
 
@@ -55,7 +55,7 @@ read_of_all bytes text rest (Err e) read cut h = h
 -- with its comment it is what reading gives
 pub with_its_comment : (bytes : List ℕ) (x : Uncommented) (r read : Result Circuit ReadFault)
     → read ≡ Ok (with_last_comment bytes x.comment_len x.circuit)
-    → IfOk r (λ c. c ≡ with_last_comment bytes x.comment_len x.circuit) → IfErr r (λ e. e ≡ want_of_memory)
+    → IfOk r (λ c. c ≡ with_last_comment bytes x.comment_len x.circuit) → IfErr r (λ e. e ≡ out_of_memory)
     → GivesOrMemory (λ c. c) r read
 with_its_comment bytes x (Ok c) read h ok err = h ∙ ap (λ (d : Circuit). Ok d) (sym ok)
 with_its_comment bytes x (Err e) read h ok err = inl err

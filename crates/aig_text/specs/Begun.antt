@@ -6,7 +6,7 @@ use Rattle.aig_circuit.specs.Wellformed.{largest_index}
 use Rattle.aig_core.specs.Names.{nothing_named}
 use Rattle.aig_rows.specs.declared.fault.ReadFault.{ReadFault}
 use Rattle.aig_lines.specs.Lines.{Line, Ahead, ahead}
-use Rattle.aig_rows.specs.Reading.{◌>>=◌, Found, rows_at, want_of_memory}
+use Rattle.aig_rows.specs.Reading.{◌>>=◌, Found, rows_at, out_of_memory}
 use Rattle.aig_rows.specs.declared.rows.Due.{Due}
 use Rattle.aig_rows.specs.Begun.{AreFirst}
 use Rattle.aig_text.specs.declared.section.Section.TheVariants.{Inputs, JusticeSizes}
@@ -36,7 +36,7 @@ pub record HaveReadOf (listed : Listed) (h : Header) (due left : Due) (before c 
   pub first : AreFirst listed.form (listed.bound h) due left at now rows
   pub circuit : c ≡ listed.with_rows h rows before
 
--- the circuit with the rows of the other sections, and what is ahead behind those
+-- the circuit with the rows of the other sections, and what is ahead after those
 abbrev pub sections_from : Header → Progress → Ahead → Found Circuit
 sections_from h p at = do
   found ← section_from (in_ascii (get_or sections p.section Inputs)) h p.due p.circuit at
@@ -57,7 +57,7 @@ pub record IsWithinHeader (h : Header) (p : Progress) : Type 0 where
   pub sizes : sum p.circuit.justice.sizes ≤ h.limit
   pub summed : get_or sections p.section Inputs ≡ JusticeSizes → p.due.carried ≡ sum p.circuit.justice.sizes
 
--- the circuit that the other lines tell, behind the sections; and behind the header
+-- the circuit that the other lines tell, after the sections; and after the header
 abbrev pub then_tail : Header → Circuit × Ahead → Result Circuit ReadFault
 then_tail h numbered = tail_at h nothing_named numbered.0 numbered.1.number numbered.1.lines
 
@@ -81,4 +81,4 @@ IsValid (Err fault) p = ⊤
 
 -- what was to be read is what is to be read, unless memory was refused
 abbrev pub ReadsOn : (before now : Result Circuit ReadFault) → Type 0
-ReadsOn before now = (now ≡ Err want_of_memory) ⊎ (before ≡ now)
+ReadsOn before now = (now ≡ Err out_of_memory) ⊎ (before ≡ now)

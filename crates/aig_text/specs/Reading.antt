@@ -23,7 +23,7 @@ use Rattle.aig_lines.specs.Lines.{Line, Ahead, ahead, lines_of, bytes_of}
 use Rattle.aig_text.specs.Scanning.{symbol_at, is_comment_line}
 use Rattle.aig_rows.specs.Scanning.{more_numbers_at}
 use Rattle.aig_text.specs.Sections.{ascii_word, Header, Section, sections, Listed, in_ascii}
-use Rattle.aig_rows.specs.Reading.{Found, at_line, line_found, rows_at, unless_wrong, want_of_memory, whole_fault}
+use Rattle.aig_rows.specs.Reading.{Found, at_line, line_found, out_of_memory, rows_at, unless_wrong, whole_fault}
 use Rattle.aig_rows.specs.Reading.{◌>>=◌}
 
 -- a word ends at a space or a carriage return, or where the line ends
@@ -179,4 +179,4 @@ first_ascii_fault limit text = fault_of (reading limit text)
 
 -- a fault that is reported is the first one, unless memory was refused
 abbrev pub IsFirstFault : ReadFault → Option ReadFault → Type 0
-IsFirstFault reported first = (reported ≡ want_of_memory) ⊎ (first ≡ Some reported)
+IsFirstFault reported first = (reported ≡ out_of_memory) ⊎ (first ≡ Some reported)

@@ -1,6 +1,6 @@
 //! The comment of a circuit, taken out of the last bytes of what was read.
 ghost use Rattle.std.specs.Prelude.{◌≡◌, ◌-◌, ◌≤◌, IfErr, IfOk, MatchResult, drop, length};
-ghost use Rattle.aig_rows.specs.Reading.{want_of_memory};
+ghost use Rattle.aig_rows.specs.Reading.{out_of_memory};
 ghost use Rattle.aig_text.specs.Reading.{HasRoomFor, with_comment, with_last_comment};
 
 use aig_core::{Circuit, Listing};
@@ -21,7 +21,7 @@ impl Uncommented {
         requires { HasRoomFor self.comment_len bytes.now }
         ensures ok { IfOk result
             (λ c. c ≡ with_last_comment bytes.now self.comment_len self.circuit) }
-        ensures err { IfErr result (λ e. e ≡ want_of_memory) }
+        ensures err { IfErr result (λ e. e ≡ out_of_memory) }
     {
         let Some(len) = self.comment_len else {
             return Ok(self.circuit);
@@ -35,7 +35,7 @@ impl Uncommented {
         requires { HasRoomFor self.comment_len bytes.items }
         ensures ok { IfOk result
             (λ c. c ≡ with_last_comment bytes.items self.comment_len self.circuit) }
-        ensures err { IfErr result (λ e. e ≡ want_of_memory) }
+        ensures err { IfErr result (λ e. e ≡ out_of_memory) }
     {
         let Some(len) = self.comment_len else {
             return Ok(self.circuit);
@@ -51,7 +51,7 @@ fn with_comment(
 ) -> Result<Circuit, ReadFault>
     ensures { MatchResult comment
         (λ bytes. result ≡ Ok (with_comment circuit bytes.items))
-        (λ _. result ≡ Err want_of_memory) }
+        (λ _. result ≡ Err out_of_memory) }
 {
     let mut circuit = circuit;
     match comment {

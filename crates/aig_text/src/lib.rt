@@ -1,8 +1,7 @@
 //! ASCII AIGER files: their header, sections and tail, the reader and the writer.
 //!
-//! Others call `read_ascii` and `read_ascii_keeping` (which keeps the order of the gates, where the
-//! check made one), `write_ascii`, and the parts that binary files have in common with ASCII files.
-//! They also reach by this name what lines of numbers are made of (`aig_rows`).
+//! Others call `read_ascii`, `write_ascii`, and the parts that binary files have in common with ASCII
+//! files. They also reach by this name what lines of numbers are made of (`aig_rows`).
 //!
 //! The definitions that matter most are `IsAsciiText`, `first_ascii_fault` and `ascii_text`.
 #![tactic(auto)]
@@ -23,7 +22,7 @@ pub use crate::header_line::{ASCII_WORD, HEADER_LEAST, HEADER_NUMBERS, Header};
 pub use crate::limits::Limits;
 pub use crate::parts::{first_word_is, header, tail};
 pub use crate::pieces::AsciiReader;
-pub use crate::reader::{check_read, empty_circuit, read_ascii, read_ascii_keeping};
+pub use crate::reader::{check_read, empty_circuit, read_ascii};
 pub use crate::section::{SECTIONS, Section, read_section};
 pub use crate::writer::{
     NumberedLine, WriteFault, header_numbers, put_header, put_lines, put_literal_sections,

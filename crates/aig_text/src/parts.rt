@@ -27,7 +27,7 @@ pub fn first_word_is(bytes: &[u8], word: &[u8]) -> bool
     }
 }
 
-/// Reads the header line, which has to begin with this word, and moves behind it, unless it is not
+/// Reads the header line, which has to begin with this word, and moves past it, unless it is not
 /// right.
 pub fn header(word: &[u8], at: &mut Cursor, limits: Limits) -> Result<Header, ReadFault>
     ensures header { GivesOrFails (λ header. (header, at.new)) result

@@ -7,7 +7,7 @@ ghost use Rattle.aig_circuit.specs.Wellformed.{largest_index};
 ghost use Rattle.aig_lines.specs.Lines.{Ahead, AreEnded, HasNoLineFeed, IsBehind, Line};
 ghost use Rattle.aig_lines.specs.Lines.{ahead, lines_of, with_lines};
 ghost use Rattle.aig_rows.specs.Outcomes.{GivesOrMemory};
-ghost use Rattle.aig_rows.specs.Reading.{want_of_memory};
+ghost use Rattle.aig_rows.specs.Reading.{out_of_memory};
 ghost use Rattle.aig_text.specs.Sections.{in_ascii, sections};
 ghost use Rattle.aig_text.specs.Begun.{IsDone, IsMissing, IsValid, IsWithinHeader};
 ghost use Rattle.aig_text.specs.Begun.{ReadsOn, header_then, rest_of};
@@ -72,7 +72,7 @@ impl Progress {
         self.section == SECTIONS.len() - 1 && self.due.count == 0
     }
 
-    /// Adds the entries of the lines ahead, as far as the sections go on, and moves behind them.
+    /// Adds the entries of the lines ahead, as far as the sections go on, and moves past them.
     pub(crate) fn read_lines(&mut self, header: &Header, at: &mut Cursor) -> Result<(), ReadFault>
         requires max_var { header.now.max_var ≤ largest_index }
         requires limit { header.now.limit ≤ largest_index }
@@ -83,7 +83,7 @@ impl Progress {
             ≡ sections_from header.now self.new (with_lines at.new more)) }
         ensures behind { OnOk result (IsBehind at.old at.new) }
         ensures all { OnOk result (IsDone self.new ⊎ IsMissing self.new at.new) }
-        ensures err { IfErr result (λ e. (e ≡ want_of_memory) ⊎ ((more : List Line)
+        ensures err { IfErr result (λ e. (e ≡ out_of_memory) ⊎ ((more : List Line)
             → sections_from header.now self.old (with_lines at.old more) ≡ Err e)) }
     {
         loop {
@@ -100,8 +100,8 @@ impl Progress {
         }
     }
 
-    /// The circuit with the entries of all sections, of which the other lines begin here. Goes
-    /// behind these lines, unless one is not right.
+    /// The circuit with the entries of all sections, of which the other lines begin here. Goes past
+    /// these lines, unless one is not right.
     pub(crate) fn finish(self, header: &Header, at: &mut Cursor) -> Result<Circuit, ReadFault>
         requires max_var { header.now.max_var ≤ largest_index }
         requires limit { header.now.limit ≤ largest_index }
@@ -135,7 +135,7 @@ pub struct AsciiReader {
 }
 
 impl AsciiReader {
-    /// It stands behind the header line, or at a fault of that.
+    /// It stands after the header line, or at a fault of that.
     fn new(alloc: Global, header: Result<Header, ReadFault>, number: u64) -> Self
         requires { IfOk header (λ h. (h.max_var ≤ largest_index) × (h.limit ≤ largest_index)) }
         ensures from { (ls : List Line) → rest_of result ls ≡ header_then header (ahead number ls) }

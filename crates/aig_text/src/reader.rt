@@ -9,16 +9,14 @@ ghost use Rattle.aig_text.specs.Reading.{tail_at, unless_faulty};
 ghost use Rattle.aig_circuit.specs.Form.{IsInForm};
 ghost use Rattle.aig_core.specs.Fault.{first_structural_fault};
 ghost use Rattle.aig_core.specs.Names.{nothing_named};
-ghost use Rattle.aig_rows.specs.Reading.{want_of_memory};
+ghost use Rattle.aig_rows.specs.Reading.{out_of_memory};
 ghost use Rattle.aig_text.specs.AsciiGrammar.{IsAsciiText};
 
 use crate::header_line::{ASCII_WORD, Header};
 use crate::limits::Limits;
 use crate::parts::{header, tail};
 use crate::pieces::Progress;
-use aig_core::{
-    CheckFault, Checked, Circuit, Justice, Keep, Listing, Steps, Symbols, check_keeping,
-};
+use aig_core::{CheckFault, Checked, Circuit, Justice, Keep, Listing, Steps, Symbols, check};
 use aig_lines::Cursor;
 use aig_rows::{Place, ReadFault, ReadKind};
 use std::alloc::Global;
@@ -92,7 +90,7 @@ pub fn check_read(alloc: Global, circuit: Circuit, keep: Keep) -> Result<Checked
     ensures { GivesOrMemory (λ c. c) result
         (unless_faulty circuit (first_structural_fault circuit)) }
 {
-    match check_keeping(alloc, circuit, keep, &mut Steps::new()) {
+    match check(alloc, circuit, keep, &mut Steps::new()) {
         Ok(checked) => Ok(checked),
         Err((circuit, fault)) => {
             drop(circuit); // for the proof
@@ -104,20 +102,9 @@ pub fn check_read(alloc: Global, circuit: Circuit, keep: Keep) -> Result<Checked
     }
 }
 
-/// Reads an ASCII file, within these limits. The error is the first fault of the text, or that
-/// memory ran out. No order of the gates is kept (`read_ascii_keeping`).
-pub fn read_ascii(alloc: Global, bytes: &[u8], limits: Limits) -> Result<Checked, ReadFault>
-    ensures ok { IfOk result (λ c. IsAsciiText bytes.now limits.max_var c) }
-    ensures only { (c : CircuitRecord) → IsAsciiText bytes.now limits.max_var c
-        → MatchResult result (λ d. d ≡ c) (λ e. e ≡ want_of_memory) }
-    ensures fault { IfErr result (λ e. IsFirstFault e
-        (first_ascii_fault limits.max_var bytes.now)) }
-{
-    read_ascii_keeping(alloc, bytes, limits, Keep::Circuit)
-}
-
-/// Reads an ASCII file, as `read_ascii` does, and keeps what is wanted of the check later.
-pub fn read_ascii_keeping(
+/// Reads an ASCII file, within these limits, and keeps what is wanted of the check later. The error
+/// is the first fault of the text, or that memory ran out.
+pub fn read_ascii(
     alloc: Global,
     bytes: &[u8],
     limits: Limits,
@@ -125,7 +112,7 @@ pub fn read_ascii_keeping(
 ) -> Result<Checked, ReadFault>
     ensures ok { IfOk result (λ c. IsAsciiText bytes.now limits.max_var c) }
     ensures only { (c : CircuitRecord) → IsAsciiText bytes.now limits.max_var c
-        → MatchResult result (λ d. d ≡ c) (λ e. e ≡ want_of_memory) }
+        → MatchResult result (λ d. d ≡ c) (λ e. e ≡ out_of_memory) }
     ensures fault { IfErr result (λ e. IsFirstFault e
         (first_ascii_fault limits.max_var bytes.now)) }
 {

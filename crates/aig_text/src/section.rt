@@ -6,7 +6,7 @@ ghost use Rattle.aig_text.specs.Sections.{in_ascii};
 ghost use Rattle.aig_rows.specs.declared.fault.ReadKind.TheVariants.{Truncated};
 ghost use Rattle.aig_lines.specs.Lines.{Line, with_lines};
 ghost use Rattle.aig_rows.specs.Outcomes.{GivesOrMemory};
-ghost use Rattle.aig_rows.specs.Reading.{fault_at, want_of_memory};
+ghost use Rattle.aig_rows.specs.Reading.{fault_at, out_of_memory};
 ghost use Rattle.aig_text.specs.Begun.{due_of, HaveReadOf, rows_due};
 ghost use Rattle.aig_text.specs.Reading.{section_at};
 
@@ -101,7 +101,7 @@ pub(crate) fn read_first_of_section(
         due left circuit.old circuit.new at.old at.new) }
     ensures small { IfOk result (λ left. left.carried + 2 * left.count ≤ 2 ^ 34) }
     ensures all { IfOk result (λ left. 0 < left.count → at.new.lines ≡ []) }
-    ensures err { IfErr result (λ e. (e ≡ want_of_memory) ⊎ ((more : List Line)
+    ensures err { IfErr result (λ e. (e ≡ out_of_memory) ⊎ ((more : List Line)
         → rows_due (in_ascii section) header.now due (with_lines at.old more) ≡ Err e)) }
 {
     let max_var = header.max_var;
@@ -122,7 +122,7 @@ pub(crate) fn read_first_of_section(
     }
 }
 
-/// Adds the entries of a section as an ASCII file lists them, and moves behind its lines.
+/// Adds the entries of a section as an ASCII file lists them, and moves past its lines.
 pub fn read_section(
     section: Section,
     header: &Header,

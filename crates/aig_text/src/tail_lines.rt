@@ -9,7 +9,7 @@ ghost use Rattle.aig_rows.specs.Outcomes.{Gives, GivesOrMemory};
 ghost use Rattle.aig_text.specs.Scanning.{is_comment_line, kind_at, symbol, symbol_at};
 ghost use Rattle.aig_text.specs.Reading.{checked_symbol, count_named, tail_at};
 ghost use Rattle.aig_text.specs.Reading.{HasRoomFor, with_last_comment, with_symbol};
-ghost use Rattle.aig_rows.specs.Reading.{at_line, want_of_memory};
+ghost use Rattle.aig_rows.specs.Reading.{at_line, out_of_memory};
 
 use crate::header_line::Header;
 use aig_core::{BorrowedSymbol, Circuit, Kind, NamedCounts, Names};
@@ -44,7 +44,7 @@ fn kind_of_letter(letter: u8) -> Option<Kind>
     }
 }
 
-/// What is kept of the number at the front, however it is spelled, and what stands behind the one
+/// What is kept of the number at the front, however it is spelled, and what stands after the one
 /// space that follows it.
 #[tactic(auto, unfolding(crate::specs::Parts::Kept::position_at))]
 fn spelled_position(text: &[u8]) -> Option<(u64, &[u8])>
@@ -167,7 +167,7 @@ fn put_symbol(
     requires small { symbol.now.position < 2 ^ 32 }
     requires bytes { bytes.now ≡ line_bytes (line_of line.text.now line.ended) }
     ensures ok { OnOk result (circuit.new ≡ with_symbol circuit.old symbol.now) }
-    ensures err { IfErr result (λ e. e ≡ want_of_memory) }
+    ensures err { IfErr result (λ e. e ≡ out_of_memory) }
 {
     if line.ended && !is_position_padded(line.text) {
         circuit.symbols.push_line(symbol, bytes)?;

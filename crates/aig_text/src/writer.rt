@@ -1,7 +1,7 @@
 //! The canonical ASCII text of a circuit, written to a sink in blocks.
 ghost use Rattle.std.specs.List.{flat_map};
 ghost use Rattle.std.specs.Prelude.{◌≡◌, ◌-◌, ◌<◌, ◌∷◌, ℕ, List, OnErr, OnOk, Some};
-ghost use Rattle.aig_io.specs.Output.{Put};
+ghost use Rattle.aig_io.specs.Output.{Appended};
 ghost use Rattle.aig_io.specs.Devices.{CanFail, took, TookBeginning};
 ghost use Rattle.aig_text.specs.AsciiText.{ascii_text, comment_text, header_text};
 ghost use Rattle.aig_text.specs.AsciiText.{line_text, more_numbers_text};
@@ -51,14 +51,14 @@ impl From<DeviceFault> for WriteFault {
 const FEW: usize = 8;
 
 fn put_spaced_number<W: Sink>(output: &mut Output<W>, number: u64)
-    ensures { Put output.old output.new (spaced_number number) }
+    ensures { Appended output.old output.new (spaced_number number) }
 {
     output.put(b" ");
     output.put_number(number);
 }
 
 fn put_spaced_numbers<W: Sink>(output: &mut Output<W>, numbers: &[u64])
-    ensures { Put output.old output.new (flat_map spaced_number numbers.now) }
+    ensures { Appended output.old output.new (flat_map spaced_number numbers.now) }
 {
     for number in numbers {
         put_spaced_number(output, *number);
@@ -66,7 +66,7 @@ fn put_spaced_numbers<W: Sink>(output: &mut Output<W>, numbers: &[u64])
 }
 
 fn put_more_numbers<W: Sink>(output: &mut Output<W>, numbers: &[u64])
-    ensures { Put output.old output.new (more_numbers_text numbers.now) }
+    ensures { Appended output.old output.new (more_numbers_text numbers.now) }
 {
     put_spaced_numbers(output, numbers);
     output.put(b"\n");
@@ -75,7 +75,7 @@ fn put_more_numbers<W: Sink>(output: &mut Output<W>, numbers: &[u64])
 /// Puts a numbered line: its first number and the others.
 #[inline(always)]
 pub fn put_numbers<W: Sink>(output: &mut Output<W>, first: u64, others: &[u64])
-    ensures { Put output.old output.new (numbers_text (first ∷ others.now)) }
+    ensures { Appended output.old output.new (numbers_text (first ∷ others.now)) }
 {
     if others.len() <= FEW {
         output.put_row(first, others);
@@ -101,7 +101,7 @@ fn shorten(numbers: &[u64], least: usize) -> &[u64]
 
 /// Puts the header line: its word and its numbers.
 pub fn put_header<W: Sink>(output: &mut Output<W>, word: &[u8], numbers: &[u64])
-    ensures { Put output.old output.new (header_text word.now numbers.now) }
+    ensures { Appended output.old output.new (header_text word.now numbers.now) }
 {
     output.put(word);
     put_more_numbers(output, shorten(numbers, HEADER_LEAST));
@@ -127,7 +127,7 @@ pub trait NumberedLine {
 
     /// Adds the line.
     fn put_line<W: Sink>(&self, output: &mut Output<W>)
-        ensures { Put output.old output.new (line self.now) };
+        ensures { Appended output.old output.new (line self.now) };
 }
 
 impl NumberedLine for Var {
@@ -185,7 +185,7 @@ impl NumberedLine for u32 {
 /// Puts the numbered lines of a section, or of a piece of one.
 #[inline(never)]
 pub fn put_lines<T: NumberedLine, W: Sink>(output: &mut Output<W>, items: &[T])
-    ensures { Put output.old output.new (flat_map T.line items.now) }
+    ensures { Appended output.old output.new (flat_map T.line items.now) }
 {
     for item in items {
         item.put_line(output);
@@ -193,13 +193,13 @@ pub fn put_lines<T: NumberedLine, W: Sink>(output: &mut Output<W>, items: &[T])
 }
 
 fn put_symbols<W: Sink>(output: &mut Output<W>, symbols: &Symbols)
-    ensures { Put output.old output.new (flat_map symbol_text symbols.now) }
+    ensures { Appended output.old output.new (flat_map symbol_text symbols.now) }
 {
     output.put(symbols.as_text());
 }
 
 fn put_comment<W: Sink>(output: &mut Output<W>, comment: &Option<Listing<u8>>)
-    ensures { Put output.old output.new (comment_text comment.now) }
+    ensures { Appended output.old output.new (comment_text comment.now) }
 {
     if let Some(bytes) = comment {
         output.put(b"c\n");
@@ -209,7 +209,7 @@ fn put_comment<W: Sink>(output: &mut Output<W>, comment: &Option<Listing<u8>>)
 
 /// Puts what follows the gates: the symbols, and the comment section where there is one.
 pub fn put_tail<W: Sink>(output: &mut Output<W>, circuit: &Circuit)
-    ensures { Put output.old output.new (tail_text circuit.now) }
+    ensures { Appended output.old output.new (tail_text circuit.now) }
 {
     put_symbols(output, &circuit.symbols);
     put_comment(output, &circuit.comment);
@@ -218,7 +218,7 @@ pub fn put_tail<W: Sink>(output: &mut Output<W>, circuit: &Circuit)
 /// The numbered lines of the sections between latches and gates, which ASCII and binary files list
 /// alike.
 pub fn put_literal_sections<W: Sink>(output: &mut Output<W>, circuit: &Circuit)
-    ensures { Put output.old output.new (flat_map line_text (literal_rows_of circuit.now)) }
+    ensures { Appended output.old output.new (flat_map line_text (literal_rows_of circuit.now)) }
 {
     put_lines(output, circuit.outputs.as_slice());
     put_lines(output, circuit.bad.as_slice());
@@ -229,7 +229,7 @@ pub fn put_literal_sections<W: Sink>(output: &mut Output<W>, circuit: &Circuit)
 }
 
 fn put_sections<W: Sink>(output: &mut Output<W>, circuit: &Circuit)
-    ensures { Put output.old output.new (flat_map line_text (rows_of circuit.now)) }
+    ensures { Appended output.old output.new (flat_map line_text (rows_of circuit.now)) }
 {
     put_lines(output, circuit.inputs.as_slice());
     put_lines(output, circuit.latches.as_slice());
@@ -255,7 +255,7 @@ pub fn header_numbers(circuit: &Circuit) -> [u64; HEADER_NUMBERS]
 }
 
 fn put_text<W: Sink>(output: &mut Output<W>, circuit: &Circuit)
-    ensures { Put output.old output.new (ascii_text circuit.now) }
+    ensures { Appended output.old output.new (ascii_text circuit.now) }
 {
     put_header(output, ASCII_WORD, &header_numbers(circuit));
     put_sections(output, circuit);
@@ -266,10 +266,11 @@ fn put_text<W: Sink>(output: &mut Output<W>, circuit: &Circuit)
 /// memory and fails only where the sink fails; the sink then took a beginning of the text, and is
 /// not called again.
 pub fn write_ascii<W: Sink>(circuit: &Checked, sink: &mut W) -> Result<(), WriteFault>
-    requires { CanFail (W.past sink.old) }
-    ensures ok { OnOk result (W.past sink.new ≡ took (ascii_text circuit.now) (W.past sink.old)) }
-    ensures err { OnErr result (TookBeginning (ascii_text circuit.now) (W.past sink.old)
-        (W.past sink.new)) }
+    requires { CanFail (W.history sink.old) }
+    ensures ok { OnOk result (W.history sink.new ≡ took (ascii_text circuit.now)
+        (W.history sink.old)) }
+    ensures err { OnErr result (TookBeginning (ascii_text circuit.now) (W.history sink.old)
+        (W.history sink.new)) }
 {
     let mut output = Output::new(sink);
     put_text(&mut output, circuit.circuit());

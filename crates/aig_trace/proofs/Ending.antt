@@ -2,11 +2,11 @@
 use Rattle.std.proofs.Common.{◌≡◌, ◌∙◌, ℕ, List, [], Bool, true, false, not, Option, Some, None, Result, Ok, Err, refl}
 use Rattle.std.proofs.Common.{sym, ap₂, subst}
 use Rattle.aig_circuit.specs.declared.circuit.Circuit.{Circuit}
-use Rattle.aig_io.specs.Devices.{Past}
+use Rattle.aig_io.specs.Devices.{History}
 use Rattle.aig_io.specs.Output.{Out}
-use Rattle.aig_io.specs.Runs.{All, AtEnd, Beginning, Broken, Ending, IsUnbroken, Taking, came, is_at_end}
+use Rattle.aig_io.specs.Runs.{All, AtEnd, Beginning, Broken, Delivery, Ending, IsUnbroken, came, is_at_end}
 use Rattle.aig_io.proofs.Puts.{all_sent, beginning_sent, put_nothing}
-use Rattle.aig_lines.specs.Fed.{Feeder}
+use Rattle.aig_lines.specs.Feeders.{Feeder}
 use Rattle.aig_meaning.specs.Meaning.{MeansTheSame}
 use Rattle.aig_step.specs.declared.fault.SimFault.{SimFault}
 use Rattle.aig_step.specs.declared.fault.SimFault.TheVariants.{OutOfMemory, BadStimulus, BadWitness, ReadFailed}
@@ -19,21 +19,21 @@ use Rattle.aig_trace_laws.proofs.Texts.{same_meaning_same_text}
 -- lines were taken, and the text for them was put
 module _ {W : Type 0} (c : Circuit) (columns : Columns) (bytes : List ℕ) (ending : Ending) (from to : Out W)
     (f : Feeder) (t : IsTraced c columns bytes (is_at_end ending) from to f) (unheld : from.held ≡ [])
-    (fine : from.failed ≡ false) (empty : to.held ≡ []) (source source_now : Past)
-    (past : source_now ≡ came bytes ending source) where
+    (fine : from.failed ≡ false) (empty : to.held ≡ []) (source source_now : History)
+    (history : source_now ≡ came bytes ending source) where
   sent_all : (r : Result (Unit {0}) SimFault) → to.failed ≡ false → TraceSays c columns r bytes ending t.text All
       → StreamEnds c columns r source source_now from to
   sent_all r well says = record {
-    ran = record {
+    transferred = record {
       bytes = bytes;
       ending = ending;
       says = record {
         text = t.text;
-        taking = All;
+        delivery = All;
         says = says;
         sent = all_sent from from to to t.text refl unheld t.put (put_nothing to) empty well;
       };
-      came = past;
+      came = history;
     };
     same = t.put.same;
   }
@@ -42,16 +42,16 @@ module _ {W : Type 0} (c : Circuit) (columns : Columns) (bytes : List ℕ) (endi
   sent_in_part unbroken broke =
       let part = beginning_sent from from to to t.text refl unheld fine t.put (put_nothing to) broke in
       record {
-        ran = record {
+        transferred = record {
           bytes = bytes;
           ending = ending;
           says = record {
             text = t.text;
-            taking = Beginning part.count;
+            delivery = Beginning part.count;
             says = (unbroken, tt, t.is_trace.is_text);
-            sent = part.past;
+            sent = part.history;
           };
-          came = past;
+          came = history;
         };
         same = t.put.same;
       }
@@ -95,14 +95,14 @@ module _ (c d : Circuit) (means : MeansTheSame c d) (columns : Columns) where
       record { first = sym same.0 ∙ is.first; is_text = (same.1 text).1 is.is_text }
 
   pub trace_says_too : (r : Result (Unit {0}) SimFault) (bytes : List ℕ) (ending : Ending) (text : List ℕ)
-      (taking : Taking) → TraceSays d columns r bytes ending text taking
-      → TraceSays c columns r bytes ending text taking
-  trace_says_too (Ok x) bytes ending text taking (end, all, is) = (end, all, trace_too bytes true None text is)
-  trace_says_too (Err OutOfMemory) bytes ending text taking says = says
-  trace_says_too (Err (BadStimulus number)) bytes ending text taking (unbroken, all, is) =
+      (delivery : Delivery) → TraceSays d columns r bytes ending text delivery
+      → TraceSays c columns r bytes ending text delivery
+  trace_says_too (Ok x) bytes ending text delivery (end, all, is) = (end, all, trace_too bytes true None text is)
+  trace_says_too (Err OutOfMemory) bytes ending text delivery says = says
+  trace_says_too (Err (BadStimulus number)) bytes ending text delivery (unbroken, all, is) =
       (unbroken, all, trace_too bytes (is_at_end ending) (Some number) text is)
-  trace_says_too (Err (BadWitness number)) bytes ending text taking never = never
-  trace_says_too (Err ReadFailed) bytes ending text taking (broken, all, is) =
+  trace_says_too (Err (BadWitness number)) bytes ending text delivery never = never
+  trace_says_too (Err ReadFailed) bytes ending text delivery (broken, all, is) =
       (broken, all, trace_too bytes false None text is)
-  trace_says_too (Err WriteFailed) bytes ending text taking (unbroken, cut, is) =
+  trace_says_too (Err WriteFailed) bytes ending text delivery (unbroken, cut, is) =
       (unbroken, cut, ((same_meaning_same_text c d means columns bytes (is_at_end ending)).1 text).1 is)

@@ -2,7 +2,7 @@
 ghost use Rattle.std.specs.Prelude.{◌≡◌, IfErr, IfOk};
 ghost use Rattle.aig_meaning.specs.Meaning.{MeansTheSame};
 ghost use Rattle.aig_step.specs.declared.fault.SimFault.TheVariants.{OutOfMemory as IsOutOfMemory};
-ghost use Rattle.aig_trace.specs.Parts.Tracing.{IsFresh, PutText};
+ghost use Rattle.aig_trace.specs.Parts.Tracing.{AppendedText, IsFresh};
 
 use crate::line_tracer::LineTracer;
 use crate::taker::Taker;
@@ -72,7 +72,7 @@ impl StimulusReader {
     /// going on then, if it has a step.
     pub fn put_trace_text<'a, W: Sink>(self, output: Output<'a, W>, bytes: &[u8]) -> Output<'a, W>
         requires { IsFresh self }
-        ensures { PutText self.tracing bytes.now output.entry result }
+        ensures { AppendedText self.tracing bytes.now output.entry result }
     {
         // Not by `into_line_tracer`: the block of the output would then be moved twice more.
         let StimulusReader { mut feeder, taker } = self;

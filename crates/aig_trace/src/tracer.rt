@@ -1,7 +1,7 @@
 //! Lines of a stimulus, and the lines of the trace for them.
 ghost use Rattle.std.specs.Prelude.{◌≡◌, ◌+◌, IfErr, IfOk, None, codes, false, length, true};
 ghost use Rattle.aig_circuit.specs.Wellformed.{IsWellFormed};
-ghost use Rattle.aig_io.specs.Output.{Put};
+ghost use Rattle.aig_io.specs.Output.{Appended};
 ghost use Rattle.aig_meaning.specs.Meaning.{MeansTheSame};
 ghost use Rattle.aig_step.specs.declared.fault.SimFault.TheVariants.{OutOfMemory as IsOutOfMemory};
 ghost use Rattle.aig_step.specs.Stimulus.{entry_in};
@@ -138,7 +138,7 @@ impl Tracer {
     /// Ends the run.
     pub(crate) fn stop<W: Sink>(&mut self, output: &mut Output<W>)
         ensures point { point_of self.new ≡ begin_of self.old.circuit }
-        ensures put { Put output.old output.new (codes ".\n") }
+        ensures put { Appended output.old output.new (codes ".\n") }
         ensures same { IsSameTracer self.old self.new }
     {
         self.stepper.reset();

@@ -9,7 +9,7 @@
 mod fault;
 mod frames;
 pub mod laws;
-mod standing;
+mod substitution;
 mod unroller;
 mod unrolling;
 mod writing;

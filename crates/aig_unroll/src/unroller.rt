@@ -1,7 +1,7 @@
 //! The unrolled circuit, written frame by frame: it is never held.
 ghost use Rattle.std.specs.Prelude.{◌≡◌, ◌<◌, ◌≤◌, length, IfErr, IfOk, OnErr, OnOk};
 ghost use Rattle.aig_circuit.specs.Wellformed.{IsWellFormed};
-ghost use Rattle.aig_io.specs.Output.{Put};
+ghost use Rattle.aig_io.specs.Output.{Appended};
 ghost use Rattle.aig_io.specs.Devices.{CanFail, took, TookBeginning};
 ghost use Rattle.aig_text.specs.AsciiText.{ascii_text};
 ghost use Rattle.aig_binary.specs.BinaryText.{binary_text};
@@ -116,7 +116,7 @@ impl Unrolling {
     }
 
     fn put_ascii<W: Sink>(self, output: &mut Output<W>)
-        ensures { Put output.old output.new (ascii_text self) }
+        ensures { Appended output.old output.new (ascii_text self) }
     {
         let Unrolling {
             mut copies,
@@ -133,7 +133,7 @@ impl Unrolling {
     }
 
     fn put_binary<W: Sink>(self, output: &mut Output<W>)
-        ensures { Put output.old output.new (binary_text self) }
+        ensures { Appended output.old output.new (binary_text self) }
     {
         let Unrolling {
             mut copies,
@@ -152,10 +152,11 @@ impl Unrolling {
     /// It takes no memory and fails only where the sink fails; the sink then took a beginning of
     /// the text, and is not called again.
     pub fn write_ascii<W: Sink>(self, sink: &mut W) -> Result<(), WriteFault>
-        requires { CanFail (W.past sink.old) }
-        ensures ok { OnOk result (W.past sink.new ≡ took (ascii_text self) (W.past sink.old)) }
-        ensures err { OnErr result (TookBeginning (ascii_text self) (W.past sink.old)
-            (W.past sink.new)) }
+        requires { CanFail (W.history sink.old) }
+        ensures ok { OnOk result (W.history sink.new
+            ≡ took (ascii_text self) (W.history sink.old)) }
+        ensures err { OnErr result (TookBeginning (ascii_text self) (W.history sink.old)
+            (W.history sink.new)) }
     {
         let mut output = Output::new(sink);
         self.put_ascii(&mut output);
@@ -168,10 +169,11 @@ impl Unrolling {
     /// It takes no memory and fails only where the sink fails; the sink then took a beginning of
     /// the text, and is not called again.
     pub fn write_binary<W: Sink>(self, sink: &mut W) -> Result<(), WriteFault>
-        requires { CanFail (W.past sink.old) }
-        ensures ok { OnOk result (W.past sink.new ≡ took (binary_text self) (W.past sink.old)) }
-        ensures err { OnErr result (TookBeginning (binary_text self) (W.past sink.old)
-            (W.past sink.new)) }
+        requires { CanFail (W.history sink.old) }
+        ensures ok { OnOk result (W.history sink.new
+            ≡ took (binary_text self) (W.history sink.old)) }
+        ensures err { OnErr result (TookBeginning (binary_text self) (W.history sink.old)
+            (W.history sink.new)) }
     {
         let mut output = Output::new(sink);
         self.put_binary(&mut output);
@@ -191,7 +193,7 @@ impl Unrolling {
     }
 
     fn put_cnf<W: Sink>(self, output: &mut Output<W>)
-        ensures { Put output.old output.new (cnf_text self) }
+        ensures { Appended output.old output.new (cnf_text self) }
     {
         let Unrolling {
             mut copies,
@@ -213,10 +215,10 @@ impl Unrolling {
     /// slices of at most 8,192 bytes. It takes no memory and fails only where the sink fails; the
     /// sink then took a beginning of the text, and is not called again.
     pub fn write_cnf<W: Sink>(self, sink: &mut W) -> Result<(), WriteFault>
-        requires { CanFail (W.past sink.old) }
-        ensures ok { OnOk result (W.past sink.new ≡ took (cnf_text self) (W.past sink.old)) }
-        ensures err { OnErr result (TookBeginning (cnf_text self) (W.past sink.old)
-            (W.past sink.new)) }
+        requires { CanFail (W.history sink.old) }
+        ensures ok { OnOk result (W.history sink.new ≡ took (cnf_text self) (W.history sink.old)) }
+        ensures err { OnErr result (TookBeginning (cnf_text self) (W.history sink.old)
+            (W.history sink.new)) }
     {
         let mut output = Output::new(sink);
         self.put_cnf(&mut output);

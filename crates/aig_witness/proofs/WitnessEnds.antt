@@ -7,9 +7,9 @@ use Rattle.aig_meaning.specs.Meaning.{MeansTheSame}
 use Rattle.aig_meaning.specs.Trace.{IsTrace}
 use Rattle.aig_meaning.proofs.Traces.{same_meaning_same_traces}
 use Rattle.aig_io.specs.declared.device.DeviceFault.{DeviceFault}
-use Rattle.aig_io.specs.Devices.{Past}
+use Rattle.aig_io.specs.Devices.{History}
 use Rattle.aig_io.specs.Runs.{AtEnd, Broken, Ending, Open, Read, is_at_end}
-use Rattle.aig_lines.specs.Fed.{FedSource, Feeder}
+use Rattle.aig_lines.specs.Feeders.{Feeder, FoldedSource}
 use Rattle.aig_lines.specs.Texts.{judged_lines}
 use Rattle.aig_step.specs.declared.fault.SimFault.{SimFault}
 use Rattle.aig_step.specs.declared.fault.SimFault.TheVariants as faults
@@ -19,9 +19,10 @@ use Rattle.aig_witness.specs.Confirming.{ConfirmSays, Judged}
 use Rattle.aig_witness.specs.Witness.{Claim, IsVerdict, IsVerdictOf, Nothing, Property, Said, SaysClaim, Shape, Steps}
 use Rattle.aig_witness.specs.Witness.{Version, Whole, first_bad_witness_line, missing_line, shape_of, witness_of}
 use Rattle.aig_witness.specs.Witness.{wrong_line}
-use Rattle.aig_witness.specs.Parts.Witnessing.{HasHeard, StandsWhen, Witnessing, hear_line, hearing, longest_line}
+use Rattle.aig_witness.specs.Parts.Witnessing.{HasWitnessState, StandsWhen, Witnessing, longest_line, witness_state}
+use Rattle.aig_witness.specs.Parts.Witnessing.{witness_step}
 use Rattle.aig_witness.specs.Parts.Witnessing.{verdict_of}
-use Rattle.aig_witness.proofs.Hearing.{none_wrong, one_wrong}
+use Rattle.aig_witness.proofs.WitnessState.{none_wrong, one_wrong}
 
 -- a line is missing where one is due
 one_missing : (lines : ℕ) (w : Witnessing) (said : Said) → StandsWhen w said → w.due ≢ due.Nothing
@@ -32,14 +33,15 @@ one_missing lines w (Property p) stands some = ap (λ (n : ℕ). Some n) (omega 
 one_missing lines w (Steps claim) stands some = ap (λ (n : ℕ). Some n) (omega arith)
 one_missing lines w (Whole claim) stands some = absurd (some stands.0)
 
-module _ (c : Circuit) (few : length c.bad ≤ LARGEST) (source source_now : Past) (f : Feeder) (w : Witnessing)
+module _ (c : Circuit) (few : length c.bad ≤ LARGEST) (source source_now : History) (f : Feeder) (w : Witnessing)
   where
     abbrev longest : ℕ
     longest = longest_line (shape_of c)
 
     -- what came of the source, for lines as long as this
     abbrev CameAt : ℕ → Result Bool DeviceFault → Type 0
-    CameAt limit result = FedSource hear_line HasHeard limit (hearing c Nothing) source source_now result f w
+    CameAt limit result = FoldedSource witness_step HasWitnessState limit (witness_state c Nothing) source source_now
+        result f w
 
     pub came_so : (limit : ℕ) (good known : Bool) → limit ≡ longest → good ≡ known → CameAt limit (Ok good)
         → CameAt longest (Ok known)
@@ -56,13 +58,13 @@ module _ (c : Circuit) (few : length c.bad ≤ LARGEST) (source source_now : Pas
       bytes = r.bytes;
       ending = AtEnd;
       says = (tt, one_wrong c few r.bytes true f w r.stands r.refused);
-      came = r.past;
+      came = r.history;
     }
     wrong_among (false, r) = record {
       bytes = r.bytes;
       ending = Open;
       says = (tt, one_wrong c few r.bytes false f w r.stands r.refused);
-      came = r.past;
+      came = r.history;
     }
 
     -- the source failed
@@ -74,7 +76,7 @@ module _ (c : Circuit) (few : length c.bad ≤ LARGEST) (source source_now : Pas
           bytes = r.bytes;
           ending = Broken;
           says = (refl, ap (wrong_line lines false) right.says);
-          came = r.past;
+          came = r.history;
         }
 
     -- the bytes have ended where a line is due
@@ -82,9 +84,9 @@ module _ (c : Circuit) (few : length c.bad ≤ LARGEST) (source source_now : Pas
     wrong_behind r some =
         let right = none_wrong c few r.bytes true f w r.stands r.refused in
         let lines = length (judged_lines r.bytes true) in
-        let first = ap (wrong_line lines true) right.says ∙ one_missing lines w right.said right.heard.1 some
+        let first = ap (wrong_line lines true) right.says ∙ one_missing lines w right.said right.has_state.1 some
         ∙ ap (λ (n : ℕ). Some n) (sym right.number) in
-        record { bytes = r.bytes; ending = AtEnd; says = (tt, first); came = r.past }
+        record { bytes = r.bytes; ending = AtEnd; says = (tt, first); came = r.history }
 
     -- they have ended where none is
     whole : (v : Verdict) (bytes : List ℕ) (said : Said) → StandsWhen w said → w.due ≡ due.Nothing → w.circuit ≡ c
@@ -108,8 +110,8 @@ module _ (c : Circuit) (few : length c.bad ≤ LARGEST) (source source_now : Pas
         → Answers (Ok v)
     judged v r none is =
         let right = none_wrong c few r.bytes true f w r.stands r.refused in
-        let judged = whole v r.bytes right.said right.heard.1 none right.heard.0 right.says is in
-        record { bytes = r.bytes; ending = AtEnd; says = (refl, judged); came = r.past }
+        let judged = whole v r.bytes right.said right.has_state.1 none right.has_state.0 right.says is in
+        record { bytes = r.bytes; ending = AtEnd; says = (refl, judged); came = r.history }
 
 -- circuits that mean the same, with as many bad states, have the same witness files
 module _ (c d : Circuit) (means : MeansTheSame c d) (bad : length d.bad ≡ length c.bad) where

@@ -3,7 +3,7 @@ ghost use Rattle.std.specs.Prelude.{◌≡◌, ◌≤◌, length};
 ghost use Rattle.aig_circuit.specs.declared.circuit.TheConstants.{LARGEST};
 ghost use Rattle.aig_io.specs.Devices.{CanFail};
 ghost use Rattle.aig_io.specs.Runs.{Read};
-ghost use Rattle.aig_lines.specs.Fed.{IsUnfed};
+ghost use Rattle.aig_lines.specs.Feeders.{IsInitial};
 ghost use Rattle.aig_witness.specs.Confirming.{ConfirmSays};
 ghost use Rattle.aig_witness.specs.Witness.{Nothing, shape_of};
 ghost use Rattle.aig_witness.specs.Parts.Witnessing.{StandsWhen, longest_line};
@@ -22,18 +22,18 @@ fn judge_all<R: Source>(
     checker: &mut Checker,
     source: &mut R,
 ) -> Result<Verdict, SimFault>
-    requires unfed { IsUnfed feeder.old }
+    requires initial { IsInitial feeder.old }
     requires limit { feeder.old.limit ≡ longest_line (shape_of checker.old.circuit) }
     requires begun { StandsWhen checker.old Nothing }
     requires few { length checker.old.circuit.bad ≤ LARGEST }
-    requires source { CanFail (R.past source.old) }
+    requires source { CanFail (R.history source.old) }
     ensures { Read (ConfirmSays checker.old.circuit result)
-        (R.past source.old) (R.past source.new) }
+        (R.history source.old) (R.history source.new) }
 {
     let Ok(good) = feed_source(feeder, checker, source) else {
         return Err(SimFault::ReadFailed);
     };
-    // Where a line is due behind the last, it is that which is missing.
+    // Where a line is due after the last, it is that which is missing.
     if !good || !checker.is_whole() {
         return Err(SimFault::BadWitness(feeder.number()));
     }
@@ -48,8 +48,9 @@ pub fn confirm<R: Source>(
     checked: &Checked,
     source: &mut R,
 ) -> Result<Verdict, SimFault>
-    requires { CanFail (R.past source.old) }
-    ensures read { Read (ConfirmSays checked.now result) (R.past source.old) (R.past source.new) }
+    requires { CanFail (R.history source.old) }
+    ensures read { Read (ConfirmSays checked.now result) (R.history source.old)
+        (R.history source.new) }
 {
     let mut checker = Checker::new(alloc, checked)?;
     let Ok(mut feeder) = LineFeeder::new(alloc, checker.longest_line()) else {

@@ -35,7 +35,7 @@ use Rattle.aig_binary.specs.BinaryReading.{filled, gates_at, with_definitions, b
 use Rattle.aig_binary.proofs.Grammar.Lines.{numbered_circuit, AreGates, gates_are, literals_are, sizes_within}
 use Rattle.aig_binary.proofs.Grammar.Lines.{counts_are, order_is, tells, apart}
 
--- lines that tell rows, with gates and the lines of a tail behind them
+-- lines that tell rows, with gates and the lines of a tail after them
 pub record TellsNumbers (h : Header) (ls : List Line) (c : Circuit) : Type 0 where
   pub numbered : Circuit
   pub gates : List Gate

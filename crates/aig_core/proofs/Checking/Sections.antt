@@ -1,7 +1,7 @@
 -- Repeats, unknown literals and faults over sections end to end, as the loops over each section tell them.
 use Rattle.std.proofs.Common.{◌≡◌, ◌+◌, ◌∷◌, ◌++◌, ◌∙◌, ◌==◌, ◌||◌, ◌<◌, ℕ, List, [], length, map, take, drop, fold}
 use Rattle.std.proofs.Common.{refl, sym, ap, ap₂, arith, true, false, cond, Option, None, Some, inl, ⊎_elim, nat_lt}
-use Rattle.std.proofs.Common.{get_or}
+use Rattle.std.proofs.Common.{get_or, subst}
 use Rattle.std.specs.List.{concat, sum, flat_map, list_any}
 use Rattle.std.specs.Option.{option_map, option_or}
 use Rattle.std.specs.Ordering.{nat_cmp}
@@ -224,7 +224,8 @@ known_by_needs c literal =
     grind (arith, common_steps, has_of_gates before c.gates v, link_told c.gates v, with_all_append)
 
 -- the first unknown operand from a gate on is one of its own, or else that from the next one on
-module _ (c : Circuit) (at : ℕ) (g : Gate) (below : at < length c.gates) (is : g ≡ get_or c.gates at g) where
+module _ (c : Circuit) {gates : List Gate} (own : gates ≡ c.gates) (at : ℕ) (g : Gate) (below : at < length gates)
+    (is : g ≡ get_or gates at g) where
   abbrev pub all_of : set.FinSet nat_cmp
   all_of = with_all set.empty (defined_variables c)
 
@@ -236,5 +237,6 @@ module _ (c : Circuit) (at : ℕ) (g : Gate) (below : at < length c.gates) (is :
       (cond (nat_lt 0 (needs_of c.gates g).right || is_known before_of g.right)
       (first_unknown all_of (flat_map operands (drop (at + 1) c.gates))) (Some g.right)) (Some g.left)
   unknown_from =
-      let more = drop_more c.gates at g below in
-      grind (arith, common_steps, more, is, known_by_needs c g.left, known_by_needs c g.right)
+      let more = drop_more c.gates at g (subst (λ (gs : List Gate). at < length gs) own below) in
+      let same = subst (λ (gs : List Gate). g ≡ get_or gs at g) own is in
+      grind (arith, common_steps, more, same, known_by_needs c g.left, known_by_needs c g.right)

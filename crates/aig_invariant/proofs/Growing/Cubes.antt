@@ -41,7 +41,7 @@ use Rattle.aig_invariant.proofs.Growing.Formed.{all_fit, gate_formed, gate_known
 
 -- ---- chains
 
--- the circuit with gates that chain these literals behind a chain so far
+-- the circuit with gates that chain these literals after a chain so far
 abbrev pub with_chain : ℕ → List ℕ → Circuit → Circuit
 with_chain chain literals c = record c {
   max_var = c.max_var + length literals;

@@ -29,7 +29,7 @@ line ns rest = numbers_text ns ++ rest
 abbrev IsSmall : ℕ → Type 0
 IsSmall n = n < 2 ^ 33
 
--- a number with others behind it in its line, and the last one of a line, are read
+-- a number with others after it in its line, and the last one of a line, are read
 pub number_is_read : (n m : ℕ) (ns rest : List ℕ) → IsSmall n
     → number_at (line (n ∷ m ∷ ns) rest) ≡ Some (n, line (m ∷ ns) rest)
 number_is_read n m ns rest small = search (rules, append_assoc, canonical_is_read)
@@ -37,7 +37,7 @@ number_is_read n m ns rest small = search (rules, append_assoc, canonical_is_rea
 pub last_is_read : (n : ℕ) (rest : List ℕ) → IsSmall n → last_number_at (line (n ∷ []) rest) ≡ Some (n, rest)
 last_is_read n rest small = search (rules, append_assoc, canonical_is_read)
 
--- so one of two digits is, by its own byte and the line feed behind it
+-- so one of two digits is, by its own byte and the line feed after it
 pub flag_is_read : (bytes : List ℕ) → 1 < length bytes → get_or bytes 1 0 ≡ 10 → 48 ≤ get_or bytes 0 0
     → get_or bytes 0 0 ≤ 49 → last_number_at bytes ≡ Some (get_or bytes 0 0 - 48, drop 2 bytes)
 flag_is_read [] long ends low high = absurd (omega (arith, long))
@@ -208,12 +208,12 @@ abbrev pub Read : Type 0 → Type 0
 Read T = Result (List T × List ℕ) MapFault
 
 module _ {T : Type 0} where
-  -- what is read behind what was found before
+  -- what is read after what was found before
   abbrev pub behind_found : List T → Read T → Read T
   behind_found found (Ok x) = Ok (found ++ x.0, x.1)
   behind_found found (Err e) = Err e
 
-  -- an entry goes behind what was found, or before what comes
+  -- an entry goes after what was found, or before what comes
   found_first : (found : List T) (x : T) (r : Read T)
       → behind_found (found ++ x ∷ []) r
       ≡ behind_found found (◌>>=◌ {B = List T × List ℕ} r (λ y. Ok (x ∷ y.0, y.1)))
@@ -221,7 +221,7 @@ module _ {T : Type 0} where
   found_first found x (Err e) = refl
 
   module _ (entry : List ℕ → Option (T × List ℕ)) (i count line : ℕ) (bytes : List ℕ) (found : List T) where
-    -- what is read from here on, behind what was found
+    -- what is read from here on, after what was found
     abbrev from_here : Read T
     from_here = behind_found found (entries_at entry (line + i) (count - i) bytes)
 

@@ -52,7 +52,7 @@ pub record IsBlockOf (b : MapBlock) (x : Circuit) (r : Recorded) (by_place : Lis
 abbrev pub without_comment : Circuit → Circuit
 without_comment x = record x { comment = None }
 
--- what is left of a well-formed circuit once this block was taken off its comment: the comment behind it, and the
+-- what is left of a well-formed circuit once this block was taken off its comment: the comment after it, and the
 -- circuit without a comment
 pub record IsLeftOf (x : Circuit) (b : MapBlock) (rest : List ℕ) (left : Circuit) : Type 0 where
   pub formed : IsWellFormed x

@@ -57,7 +57,7 @@ module _ (bound carried own : ℕ) where
       (may_stand bound carried own r n p.0, all_may_stand rs ns (omega arith) p.1)
   all_may_stand rs ns long h = absurd (omega arith)
 
-  none_wrong : (rs : List Role) (ns : List ℕ) → AllZip (MayStand bound carried own) rs ns
+  pub none_wrong : (rs : List Role) (ns : List ℕ) → AllZip (MayStand bound carried own) rs ns
       → AreRight bound carried own rs ns
   none_wrong [] [] h = record { defined = refl; within = refl; reset = refl; sized = refl }
   none_wrong (r ∷ rs) (n ∷ ns) h =
@@ -68,7 +68,7 @@ module _ (bound carried own : ℕ) where
 abbrev own_of : Form → ℕ → List ℕ → ℕ
 own_of form carried ns = own_literal form.first carried (get_or ns 0 0)
 
-unless_none : {A : Type 0} (x y : A) (o : Option _) → unless_wrong x o ≡ Ok y → (o ≡ None) × (x ≡ y)
+pub unless_none : {A : Type 0} (x y : A) (o : Option ReadKind) → unless_wrong x o ≡ Ok y → (o ≡ None) × (x ≡ y)
 unless_none x y None h = (refl, ok_same x y h)
 unless_none x y (Some k) h = cc
 
@@ -114,7 +114,7 @@ row_is_found form bound carried l ns h g =
       right.sized,
     ) refl
 
--- what is carried behind a row
+-- what is carried after a row
 abbrev pub carried_behind : Form → ℕ → List ℕ → ℕ
 carried_behind form carried ns = carried_on form.first carried (get_or ns 0 0)
 
@@ -146,7 +146,7 @@ abbrev then_rows : Form → ℕ → ℕ → ℕ → List ℕ × Ahead → Found 
 then_rows form bound carried count first =
     rows_at form bound (carried_behind form carried first.0) count first.1 >>= with_first first.0
 
--- what a line tells, and what is ahead behind it
+-- what a line tells, and what is ahead after it
 pub first_found : {A : Type 0} (missing : ReadKind) (tell : Line → Result A ReadKind) (n : ℕ) (l : Line)
     (ls : List Line) (p : A × Ahead)
     → line_found missing tell n (l ∷ ls) ≡ Ok p → (x : A) × (tell l ≡ Ok x) × ((x, ahead (n + 1) ls) ≡ p)

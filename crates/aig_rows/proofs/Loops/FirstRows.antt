@@ -10,14 +10,14 @@ use Rattle.aig_lines.specs.Lines.{Line, Ahead, IsBehind, ahead, lines_of, with_l
 use Rattle.aig_rows.specs.Rows.{Role, Form}
 use Rattle.aig_rows.specs.Outcomes.{row_meant, rows_meant}
 use Rattle.aig_rows.specs.Reading.{◌>>=◌, Found, carried_on, at_line, fault_at, line_found, row_of, row_at, rows_at}
-use Rattle.aig_rows.specs.Reading.{want_of_memory}
+use Rattle.aig_rows.specs.Reading.{out_of_memory}
 use Rattle.aig_rows.specs.declared.rows.Due.{Due}
 use Rattle.aig_rows.specs.Begun.{carried_over, AreFirst, HaveRead}
 use Rattle.aig_rows.proofs.Steps.{both_ok, ok_same}
 use Rattle.aig_lines.proofs.Cutting.{some_lines}
 use Rattle.aig_rows.proofs.Loops.Rows.{IsCarried, meant_row}
 
--- what the first line tells, where more lines come behind those
+-- what the first line tells, where more lines come after those
 module _ {A : Type 0} (missing : ReadKind) (tell : Line → Result A ReadKind) (n : ℕ) where
   told_by : (ls more : List Line) (r : Result A ReadFault) (p : A × Ahead)
       → ◌>>=◌ {B = A × Ahead} r (λ found. Ok (found, ahead (n + 1) ls)) ≡ Ok p
@@ -62,7 +62,7 @@ behind_more at mid now a b = record {
   number = omega (arith, a.number, b.number, length-append a.front b.front);
 }
 
--- rows behind those that were read
+-- rows after those that were read
 abbrev pub after_rows : List (List ℕ) → Found (List (List ℕ)) → Found (List (List ℕ))
 after_rows rows (Ok x) = Ok (rows ++ x.0, x.1)
 after_rows rows (Err e) = Err e
@@ -216,7 +216,7 @@ module _ (form : Form) (m : ℕ) where
       ∙ ap (λ (k : ℕ). after_rows rows (rows_at form m left.carried k (with_lines now more))) one
       ∙ ap (after_rows rows) (row_wrong left.carried (left.count - 1) (with_lines now more) e h)
 
--- what the rows mean stands behind what was found
+-- what the rows mean stands after what was found
 module _ {A : Type 0} (tell : List ℕ → A) (form : Form) (m : ℕ) where
   pub have_none : (due : Due) (before : List A) (at : Ahead) → HaveRead tell form m due due before before at at
   have_none due before at = record { rows = []; first = none_yet form m due at; meant = sym (append-nil before) }
@@ -279,9 +279,9 @@ module _ {A : Type 0} (tell : List ℕ → A) (form : Form) (m : ℕ) where
       (ap (λ (ls : List Line). row_at form m left.carried (ahead now.number ls)) (append-nil now.lines ∙ none)))
 
   pub wrong_alone : (due : Due) (from at : Ahead) (before : List A) (e : ReadFault) → from ≡ at
-      → (e ≡ want_of_memory)
+      → (e ≡ out_of_memory)
       ⊎ ((more : List Line) → rows_at form m due.carried due.count (with_lines from more) ≡ Err e)
-      → (e ≡ want_of_memory) ⊎ (rows_meant tell before (rows_at form m due.carried due.count at) ≡ Err e)
+      → (e ≡ out_of_memory) ⊎ (rows_meant tell before (rows_at form m due.carried due.count at) ≡ Err e)
   wrong_alone due from at before e same (inl h) = inl h
   wrong_alone due from at before e same (inr h) =
       inr (ap (λ (x : Ahead). rows_meant tell before (rows_at form m due.carried due.count x))

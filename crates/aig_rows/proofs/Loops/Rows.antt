@@ -14,7 +14,7 @@ use Rattle.aig_rows.specs.Reading.{row_at, rows_at}
 use Rattle.aig_rows.proofs.Steps.{both_ok, ok_at_line, ok_same}
 use Rattle.aig_rows.proofs.Kept.Checks.{first_is_right, right_parts}
 
--- what comes behind a row that is right
+-- what comes after a row that is right
 abbrev with_first : {X : Type 0} → X → List X × Ahead → Found (List X)
 with_first x others = Ok (x ∷ others.0, others.1)
 
@@ -85,7 +85,7 @@ module _ {A : Type 0} (tell : List ℕ → A) (form : Form) (m : ℕ) where
       ◌>>=◌ {B = List (List ℕ) × Ahead}
       (rows_at form m (carried_on form.first carried (get_or first.0 0 0)) count first.1) (with_first first.0)
 
-  -- what is carried on behind a row that means this
+  -- what is carried on after a row that means this
   abbrev pub IsCarried : ℕ → A → ℕ → Type 0
   IsCarried carried x next = (ns : List ℕ) → tell ns ≡ x → next ≡ carried_on form.first carried (get_or ns 0 0)
 

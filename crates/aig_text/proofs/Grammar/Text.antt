@@ -17,7 +17,7 @@ use Rattle.aig_lines.specs.Laws.{IsOneLine}
 use Rattle.aig_lines.proofs.Cutting.{pieces}
 use Rattle.aig_rows.specs.declared.fault.ReadFault.{ReadFault}
 use Rattle.aig_rows.specs.declared.fault.ReadKind.TheVariants as kinds
-use Rattle.aig_rows.specs.Reading.{◌>>=◌, want_of_memory}
+use Rattle.aig_rows.specs.Reading.{◌>>=◌, out_of_memory}
 use Rattle.aig_rows.specs.Outcomes.{GivesOrMemory}
 use Rattle.aig_rows.proofs.Steps.{both_ok, ok_same}
 use Rattle.aig_rows.proofs.Grammar.Rows.{first_found}
@@ -197,7 +197,7 @@ reading_of limit text c h = rw h refl
 
 -- the fault of a line is the first fault
 pub line_fault : (limit : ℕ) (text : List ℕ) (e : ReadFault)
-    → (e ≡ want_of_memory) ⊎ (circuit_at limit (lines_of text) ≡ Err e) → IsFirstFault e (first_ascii_fault limit text)
+    → (e ≡ out_of_memory) ⊎ (circuit_at limit (lines_of text) ≡ Err e) → IsFirstFault e (first_ascii_fault limit text)
 unfolding reading
 line_fault limit text e (inl m) = inl m
 line_fault limit text e (inr h) = inr (rw h refl)
@@ -205,7 +205,7 @@ line_fault limit text e (inr h) = inr (rw h refl)
 -- a text that is the file of a circuit is refused only for want of memory
 pub memory_only : (limit : ℕ) (text : List ℕ) (c : Circuit) (e : ReadFault)
     → IsFirstFault e (first_ascii_fault limit text)
-    → IsAsciiText text limit c → e ≡ want_of_memory
+    → IsAsciiText text limit c → e ≡ out_of_memory
 memory_only limit text c e (inl m) a = m
 memory_only limit text c e (inr h) a =
     let none : first_ascii_fault limit text ≡ None = ap fault_of (accepted_is_read limit text c a) in cc
@@ -219,7 +219,7 @@ one_circuit limit text c d h a = let same : reading limit text ≡ Ok c = accept
 pub record Tells (limit : ℕ) (text : List ℕ) (r : Result Circuit ReadFault) : Type 0 where
   pub ok : IfOk r (λ c. IsAsciiText text limit c)
   pub only :
-      (c : Circuit) → IsAsciiText text limit c → MatchResult r (λ d. d ≡ c) (λ e. e ≡ want_of_memory)
+      (c : Circuit) → IsAsciiText text limit c → MatchResult r (λ d. d ≡ c) (λ e. e ≡ out_of_memory)
   pub fault : IfErr r (λ e. IsFirstFault e (first_ascii_fault limit text))
 
 read_tells : (limit : ℕ) (text : List ℕ) (r : Result Circuit ReadFault)

@@ -12,7 +12,7 @@ use Rattle.aig_text.specs.Begun.{rest_of, sections_from}
 use Rattle.aig_text.proofs.LastBytes.{IsReadOf, bytes_behind, read_of_all}
 use Rattle.aig_text.proofs.Loops.Text.{tailed}
 
--- behind the sections
+-- after the sections
 pub tail_read : (r : AsciiReader) (h : Header) (bytes : List ℕ) (c : Circuit) (at now : Ahead)
     (found : Result Uncommented ReadFault) → r.header ≡ Ok h → at ≡ ahead r.number (lines_of bytes)
     → sections_from h r.progress at ≡ Ok (c, now) → IsBehind at now

@@ -13,7 +13,7 @@ use Rattle.aig_lines.specs.Lines.{HasNoLineFeed}
 use Rattle.aig_lines.proofs.Cutting.{pieces, some_lines}
 use Rattle.aig_lines.proofs.Taken.{IsTaken, left_fits, lines_cut, taken}
 use Rattle.aig_rows.specs.declared.fault.ReadFault.{ReadFault}
-use Rattle.aig_rows.specs.Reading.{◌>>=◌, at_line, want_of_memory, Found}
+use Rattle.aig_rows.specs.Reading.{◌>>=◌, at_line, out_of_memory, Found}
 use Rattle.aig_rows.specs.Outcomes.{GivesOrFails}
 use Rattle.aig_rows.specs.declared.fault.ReadKind.TheVariants as kinds
 use Rattle.aig_rows.proofs.Loops.FirstRows.{found_joined, refused_joined, found_behind}
@@ -37,8 +37,8 @@ module _ (h : Header) (before : Names) (c : Circuit) (n : ℕ) where
 
   pub wrong_symbol : (bytes rest : List ℕ) (l : Line) (e : ReadFault) → lines_of bytes ≡ l ∷ lines_of rest
       → is_comment_line l ≡ false
-      → (e ≡ want_of_memory) ⊎ (at_line n (checked_symbol h before (symbol_at l.text)) ≡ Err e)
-      → (e ≡ want_of_memory) ⊎ (tail_at h before c n (lines_of bytes) ≡ Err e)
+      → (e ≡ out_of_memory) ⊎ (at_line n (checked_symbol h before (symbol_at l.text)) ≡ Err e)
+      → (e ≡ out_of_memory) ⊎ (tail_at h before c n (lines_of bytes) ≡ Err e)
   unfolding tail_at
   wrong_symbol bytes rest l e are other (inl m) = inl m
   wrong_symbol bytes rest l e are other (inr r) = inr (rw (are, other, r) refl)
@@ -75,8 +75,8 @@ no_header limit ls e h = rw h refl
 
 pub no_sections : (limit : ℕ) (ls : List Line) (at : Ahead) (h : Header) (e : ReadFault)
     → header_at ascii_word limit (ahead 1 ls) ≡ Ok (h, at)
-    → (e ≡ want_of_memory) ⊎ (sections_at in_ascii h sections (empty_circuit h.max_var) at ≡ Err e)
-    → (e ≡ want_of_memory) ⊎ (circuit_at limit ls ≡ Err e)
+    → (e ≡ out_of_memory) ⊎ (sections_at in_ascii h sections (empty_circuit h.max_var) at ≡ Err e)
+    → (e ≡ out_of_memory) ⊎ (circuit_at limit ls ≡ Err e)
 unfolding circuit_at
 no_sections limit ls at h e is (inl m) = inl m
 no_sections limit ls at h e is (inr r) = inr (rw (is, r) refl)
@@ -173,7 +173,7 @@ rest_is r h ls is = rw is refl
 
 pub wrong_on : (r : AsciiReader) (h : Header) (bytes lines rest more : List ℕ) (at : Ahead) (e : ReadFault)
     → r.header ≡ Ok h → bytes ≡ lines ++ rest → AreEnded (lines_of lines) → at ≡ ahead r.number (lines_of lines)
-    → (e ≡ want_of_memory) ⊎ ((others : List Line) → sections_from h r.progress (with_lines at others) ≡ Err e)
+    → (e ≡ out_of_memory) ⊎ ((others : List Line) → sections_from h r.progress (with_lines at others) ≡ Err e)
     → ReadsOn (rest_of r (lines_of (bytes ++ more))) (Err e)
 wrong_on r h bytes lines rest more at e is cut ended from (inl m) = inl (ap (λ (f : ReadFault). Err f) m)
 wrong_on r h bytes lines rest more at e is cut ended from (inr wrong) =

@@ -1,5 +1,5 @@
 use Rattle.std.proofs.Common.{◌∙◌, inr, sym}
-use Rattle.aig_arrays.specs.Told.{header_of}
+use Rattle.aig_arrays.specs.Decoded.{header_of}
 use Rattle.aig_arrays.proofs.Whole.{symbol_none, symbol_right, symbol_wrong}
 use Rattle.aig_arrays.proofs.symbols.read_symbol.Goals as goal
 

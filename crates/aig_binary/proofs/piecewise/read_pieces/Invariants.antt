@@ -11,10 +11,10 @@ invariant-loop-more g l =
     record {
       reads :
           ReadsFrom (p.rest l.fn.reader) (p.rest l.reader) l.fn.window l.window l.more
-          (d.past l.fn.source) (d.past l.source);
+          (d.history l.fn.source) (d.history l.source);
       valid : p.is_valid l.reader;
       counted : p.next_line l.reader + length l.window + d.bound l.source ≤ 2 ^ 63;
-      countable : CanFail (d.past l.source);
+      countable : CanFail (d.history l.source);
     }
 
 abbrev pub decreases-loop-more : goal.decreases-loop-more

@@ -1,5 +1,5 @@
 use Rattle.std.proofs.Common.{◌∙◌, IfOk, rules, sym}
-use Rattle.aig_engines.specs.Simulation.{IsWrittenText}
+use Rattle.aig_commands.specs.Simulation.{IsWrittenText}
 use Rattle.aig_library.specs.Asked.{simulation}
 use Rattle.aig_library.proofs.Dumps.{written_dump, written_trace}
 use Rattle.aig_library.proofs.simulation.trace_or_dump.Goals as goal

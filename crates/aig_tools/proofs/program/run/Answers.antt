@@ -27,7 +27,8 @@ pub returns-in-Steps-clause-ends : goal.returns-in-Steps-clause-ends
 returns-in-Steps-clause-ends g c =
     c.loop-job.invariant.rest _ _
     (as_is c.args.names.now _ _ _ _ _ c.in-Steps.is
-    (answers_steps c.in-Steps.task c.in-Steps.model c.answer_steps-done.result _ _ _ _ c.answer_steps-done.ensures.ran
+    (answers_steps c.in-Steps.task c.in-Steps.model c.answer_steps-done.result _ _ _ _
+    c.answer_steps-done.ensures.transferred
     c.conclude-in-Steps.ensures.concludes))
 
 pub returns-in-Write-clause-ends : goal.returns-in-Write-clause-ends

@@ -1,6 +1,6 @@
 use Rattle.std.proofs.Common.{ℕ}
 use Rattle.aig_tools.specs.Ends.{Ends}
-use Rattle.aig_engines.specs.Jobs.{CanDo, sources_left}
+use Rattle.aig_commands.specs.Jobs.{CanDo, sources_left}
 use Rattle.aig_tools.specs.Worlds.{IsReady, World}
 use Rattle.aig_tools.proofs.program.run.Given as goal
 

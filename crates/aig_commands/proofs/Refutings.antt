@@ -1,0 +1,69 @@
+-- Where the clauses of an unrolled circuit are refuted, nothing is confirmed.
+use Rattle.std.proofs.Common.{◌≡◌, ℕ, List, Result, Ok, Err, refl, subst}
+use Rattle.aig_circuit.specs.declared.circuit.Circuit.{Circuit}
+use Rattle.aig_circuit.specs.Wellformed.{IsWellFormed}
+use Rattle.aig_io.specs.Devices.{History}
+use Rattle.aig_io.specs.Runs.{Ending, Read}
+use Rattle.aig_io.proofs.Runs.{read_weaker}
+use Rattle.aig_refute.specs.Refuted.{EndsFor, RefutationSays}
+use Rattle.aig_refute.specs.declared.fault.RefutationFault.TheVariants as refutation_faults
+use Rattle.aig_refute.specs.declared.fault.RefutationFault.{RefutationFault}
+use Rattle.aig_replay.proofs.BadAlone.{refuted_means_none}
+use Rattle.aig_unroll.specs.Unrolled.{IsUnrolled}
+use Rattle.aig_witness.specs.declared.verdict.Verdict.TheVariants.{Confirmed}
+use Rattle.aig_witness.specs.Witness.{IsVerdict}
+use Rattle.aig_binary.proofs.Files.{one_circuit}
+use Rattle.aig_command.specs.declared.request.Reach.{Reach}
+use Rattle.aig_commands.specs.File.{IsFileOf}
+use Rattle.aig_commands.specs.Laws.{RefutationsMeanNone}
+use Rattle.aig_commands.specs.Reading.{NotRead, ReadSays}
+use Rattle.aig_commands.specs.Refuting.{IsNoneText, IsRefutationRefused, IsUnsatisfiable, none_text}
+use Rattle.aig_commands.specs.Stops.{refutation_stops}
+use Rattle.aig_commands.proofs.Readings.{CameWhole, made_after}
+use Rattle.aig_commands.proofs.TripsExist.{well_formed_file}
+
+-- a refutation was read, and it is not right
+not_refuted : (reason : RefutationFault) (bytes : List ℕ) (ending : Ending) → EndsFor reason ending
+    → NotRead IsRefutationRefused (refutation_stops reason) bytes ending
+not_refuted refutation_faults.OutOfMemory bytes ending ends = ends
+not_refuted refutation_faults.ReadFailed bytes ending ends = ends
+not_refuted reason bytes ending ends = (reason, refl, ends)
+
+pub refutation_refused : (d : Circuit) (r : Result (Unit {0}) RefutationFault) (reason : RefutationFault)
+    (before after : History) → r ≡ Err reason → Read (RefutationSays d r) before after
+    → Read (NotRead IsRefutationRefused (refutation_stops reason)) before after
+refutation_refused d r reason before after is read =
+    read_weaker _ _ before after (not_refuted reason) (subst (λ s. Read (RefutationSays d s) before after) is read)
+
+-- a refutation was read, and it is right
+pub unsatisfiable : (selected d : Circuit) (frames : ℕ) (r : Result (Unit {0}) RefutationFault) (before after : History)
+    → r ≡ Ok tt → IsWellFormed d → IsUnrolled selected frames d → Read (RefutationSays d r) before after
+    → Read (ReadSays {A = Unit {0}} (λ _ _. IsUnsatisfiable selected frames) IsRefutationRefused (Ok tt)) before after
+unsatisfiable selected d frames (Err fault) before after right formed is read = cc
+unsatisfiable selected d frames (Ok done) before after right formed is read =
+    read_weaker _ _ before after (λ _ _ says. (says.0, (d, formed, is, says.1))) read
+
+-- where no assignment lets a bad state be 1, no claim is confirmed
+is_none : (request : Reach) (selected : Circuit) → IsUnsatisfiable selected request.frames
+    → IsNoneText request selected (none_text request.frames)
+is_none request selected (d, formed, is, none) = record {
+  none = λ c good there same.
+      refuted_means_none c d request.bad request.frames good there formed
+      (subst (λ (k : Circuit). IsUnrolled k request.frames d) same is) none;
+  written_as = refl;
+}
+
+pub none_read : (request : Reach) (selected : Circuit) (before after : History)
+    → Read (CameWhole (λ _. IsUnsatisfiable selected request.frames)) before after
+    → Read (CameWhole (λ _. IsNoneText request selected (none_text request.frames))) before after
+none_read request selected before after = made_after _ before after _ (λ _ none. is_none request selected none)
+
+pub refutations_mean_none : RefutationsMeanNone
+refutations_mean_none request judging selected model text witness step limit of_model is low confirmed of_selected =
+    let p = of_model.has_clauses in
+    let good = well_formed_file model request.max_var p.found p.read in
+    let read : IsFileOf model request.max_var confirmed.found =
+    subst (λ n. IsFileOf model n confirmed.found) limit confirmed.read in
+    let same = one_circuit model request.max_var confirmed.found p.found read p.read in
+    is.none p.found good p.is_unrolled.has_bad of_model.selected_is confirmed.claim step low of_selected
+    (subst (λ (k : Circuit). IsVerdict k confirmed.claim (Confirmed step)) same confirmed.is_verdict)
