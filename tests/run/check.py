@@ -3,7 +3,8 @@
 states; and that no tool that lies, fails, sleeps or is missing, no full disk and no interrupt gives a wrong line or
 leaves anything.
 
-    tests/run/check.py PROGRAM [NAME]     all rows, or those that have this in their names
+    tests/run/check.py PROGRAM [NAME]         all rows, or those that have this in their names
+    tests/run/check.py PROGRAM --part K N     every Nth row from number K on
 
 The variable CHECK names another aiger_check.py than that of this folder's repository. Rows that need Yosys, ABC or a
 solver count as skipped where it is not installed.
@@ -34,11 +35,14 @@ def why_wrong(row, program):
     return None
 
 
-def main(program, name=""):
+def main(program, *words):
+    part = counts.part_of(words)
+    name = "" if part else "".join(words)
     program = counts.need_program(program)
     if not os.access(checked.CHECK, os.R_OK):
         counts.finish([f"wanted a file {checked.CHECK}; came none"], 0)
     rows = [it for module in MODULES for it in module.rows() if name in it[0]]
+    rows = [it for at, it in enumerate(rows) if part is None or part(at)]
     counts.need(rows, name)
     wrong, passed, skipped = [], 0, {}
     with concurrent.futures.ThreadPoolExecutor(os.cpu_count()) as pool:
