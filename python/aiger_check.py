@@ -1,15 +1,18 @@
 #!/usr/bin/env python3
 """aiger-check: from Verilog, or from an AIGER model, to an answer for each assertion.
 
-Yosys writes the design as an AIGER model. For each assertion ABC looks for an invariant, and a SAT solver for a run that
-breaks it. What they say is not believed: each answer that is printed is one that the program ``aiger`` gave of the
-model, by a witness, a refutation or an invariant.
+Yosys writes the design as an AIGER model. For each assertion ABC looks for an invariant, and a SAT solver for a run
+that breaks it. What they say is not believed: each answer that is printed is one that the program ``aiger`` gave of
+the model, by a witness, a refutation or an invariant.
 """
 
 import argparse
 import contextlib
 import enum
+import errno
+import functools
 import hashlib
+import importlib
 import json
 import os
 import re
@@ -23,9 +26,9 @@ import threading
 import time
 from array import array
 from concurrent.futures import ThreadPoolExecutor
-from dataclasses import dataclass, field
+from dataclasses import dataclass
 from pathlib import Path
-from typing import Any, Dict, Iterable, Iterator, List, NamedTuple, Optional, Sequence, Set, TextIO, Tuple
+from typing import Any, Dict, Iterable, Iterator, List, NamedTuple, Optional, Sequence, Set, Tuple
 
 VERSION = "1.2.0"
 PROGRAM = "aiger-check"
@@ -100,6 +103,15 @@ class Stopped(Exception):
     """The run was asked to end."""
 
 
+@functools.lru_cache(maxsize=None)
+def aigtools() -> Any:
+    """The module of circuits as arrays, which is loaded where it is needed: --help does not want its library."""
+    try:
+        return importlib.import_module("aigtools")
+    except (ImportError, OSError) as why:
+        raise Trouble(f"aigtools cannot be loaded: {why}") from why
+
+
 class Answer(enum.Enum):
     """What is said of an assertion."""
 
@@ -121,6 +133,7 @@ class Assertion:
     name: str
     place: str
     bad: int
+    cell: str = ""
 
     def __str__(self) -> str:
         return f"{visible(self.name)} ({visible(self.place)})"
@@ -202,9 +215,12 @@ class Children:
         begun = time.monotonic()
         with contextlib.ExitStack() as stack:
             sink = stack.enter_context(open(output, "wb")) if output else subprocess.PIPE
-            child = self.start(
-                arguments, cwd=folder, stdin=subprocess.DEVNULL, stdout=sink, stderr=subprocess.PIPE
-            )
+            try:
+                child = self.start(
+                    arguments, cwd=folder, stdin=subprocess.DEVNULL, stdout=sink, stderr=subprocess.PIPE
+                )
+            except Trouble as why:
+                return Finished(127, "", str(why), 0.0, False)
             late = False
             try:
                 told, errors = child.communicate(timeout=limit)
@@ -221,7 +237,7 @@ class Children:
         return Finished(child.returncode, *words, time.monotonic() - begun, late)
 
 
-def found(*names: str) -> Optional[str]:
+def path_of(*names: str) -> Optional[str]:
     """The path of the first of these programs that there is."""
     for name in names:
         path = shutil.which(name)
@@ -242,11 +258,6 @@ class Aiger:
     def run(self, command: str, *arguments: Any, folder: Path, output: Optional[Path] = None) -> Finished:
         words = [self.program, command, *map(str, arguments)]
         return self.children.run(words, folder, self.limit, output)
-
-    def says(self, line: str, command: str, *arguments: Any, folder: Path) -> bool:
-        """Whether it says exactly this line."""
-        told = self.run(command, *arguments, folder=folder)
-        return told.status == 0 and told.output == f"{line}\n"
 
     def to_binary(self, source: Path, destination: Path) -> Optional[str]:
         """Writes a model in binary, or tells why not."""
@@ -275,6 +286,7 @@ class Said(enum.Enum):
 
 
 SOLVERS = ("cadical", "kissat", "cryptominisat5", "minisat", "picosat")
+NO_REFUTATION = ("minisat", "picosat")
 
 
 def solver_kind(program: str) -> Optional[str]:
@@ -294,10 +306,10 @@ class Solver:
     @property
     def refutes(self) -> bool:
         """Whether it writes a refutation that is read here."""
-        return self.kind not in ("minisat", "picosat")
+        return self.kind not in NO_REFUTATION
 
     def solve(self, clauses: Path, limit: float) -> Tuple[Said, Finished]:
-        """Asks for an answer to clauses: it is the file beside them that ends in .answer, a refutation that in .drat."""
+        """Asks for an answer to clauses: it comes beside them, in .answer, and a refutation in .drat."""
         answer, proof = clauses.with_suffix(".answer"), clauses.with_suffix(".drat")
         for path in (answer, proof):
             path.unlink(missing_ok=True)
@@ -342,8 +354,34 @@ def drat_of_frat(frat: Path, drat: Path) -> None:
 # ---------------------------------------------------------------- the model for ABC
 
 
+class Model:
+    """An AIGER model: its binary file, where inputs are numbered first, then latches, then gates; and its circuit."""
+
+    def __init__(self, path: Path) -> None:
+        self.path = path
+        self.circuit = aigtools().read(path.read_bytes())
+        self.latches = list(self.circuit.latches)
+
+    def cone(self, roots: Iterable[int]) -> bytearray:
+        """A mark for each variable on which these literals depend, over any number of steps."""
+        inputs, words = len(self.circuit.inputs), self.circuit.gates.words
+        before_gates = inputs + len(self.latches)
+        needed, waiting = bytearray(self.circuit.max_var + 1), [root >> 1 for root in roots]
+        while waiting:
+            variable = waiting.pop()
+            if needed[variable]:
+                continue
+            needed[variable] = 1
+            if variable > before_gates:
+                at = 3 * (variable - before_gates)
+                waiting += (words[at - 2] >> 1, words[at - 1] >> 1)
+            elif variable > inputs:
+                waiting.append(self.latches[variable - inputs - 1].next >> 1)
+        return needed
+
+
 class Gates:
-    """AND gates over variables that are numbered as they are asked for."""
+    """AND gates, whose variables are numbered as they are made."""
 
     def __init__(self, variable: int) -> None:
         self.variable, self.words = variable, array("I")
@@ -364,108 +402,95 @@ class Gates:
 
 
 class Column(NamedTuple):
-    """What a latch of ABC's model is: a latch of the model, which may be negated, or one that was added."""
+    """What a latch for ABC is: a latch of the model, perhaps negated, or one that was added and is to have a value."""
 
     latch: Optional[int]
     negated: int = 0
     wanted: int = 0
 
 
+BEGUN = Column(None, wanted=1)
+FAILED = Column(None, wanted=0)
+
+
 class ForAbc:
     """A bad state of a model as a circuit for ABC: what it depends on, with one output, without constraints, and with
     latches that all start at 0.
 
-    A latch that starts at 1 is stored negated. If one is uninitialised, another latch in front is 1 behind the first
-    step, which gives all others what they start at, by an input more where that is open. Constraints are folded into
-    the bad state, by one more latch, which is 1 once a constraint has failed.
+    A latch that starts at 1 is stored negated. If one is uninitialised, a latch is added that is 1 behind the first
+    step, and this step gives all others what they start at, by an input more where that is open. Constraints are
+    folded into the output, by a latch that is 1 once one of them has failed.
     """
 
-    def __init__(self, circuit: Any, bad: int) -> None:
-        self.circuit = circuit
-        roots = [circuit.bad[bad], *circuit.constraints]
-        self.needed = self.cone(roots)
-        self.inputs = [at for at, literal in enumerate(circuit.inputs) if self.needed[literal >> 1]]
-        self.latches = [at for at, latch in enumerate(circuit.latches) if self.needed[latch.literal >> 1]]
-        resets = [circuit.latches[at].reset for at in self.latches]
-        self.open = [at for at, reset in zip(self.latches, resets) if reset > 1]
+    def __init__(self, model: Model, bad: int) -> None:
+        self.model, circuit = model, model.circuit
+        needed = model.cone([circuit.bad[bad], *circuit.constraints])
+        self.inputs = [at for at, literal in enumerate(circuit.inputs) if needed[literal >> 1]]
+        self.latches = [at for at, latch in enumerate(model.latches) if needed[latch.literal >> 1]]
+        self.open = [at for at in self.latches if model.latches[at].reset > 1]
+        # ABC takes no circuit without latches
         self.begins = bool(self.open) or not self.latches
-        self.columns: List[Column] = []
-        self.made = self.make(circuit.bad[bad])
+        self.columns = [BEGUN] * self.begins + [FAILED] * bool(circuit.constraints)
+        for at in self.latches:
+            self.columns.append(Column(at, int(model.latches[at].reset == 1 and not self.begins)))
+        self.circuit = self.make(needed, bad)
 
-    def cone(self, roots: Iterable[int]) -> bytearray:
-        """A mark for each variable on which these literals depend, over any number of steps."""
-        circuit = self.circuit
-        before = {latch.literal >> 1: (latch.next >> 1,) for latch in circuit.latches}
-        words = circuit.gates.words
-        before.update(
-            (literal >> 1, (left >> 1, right >> 1))
-            for literal, left, right in zip(words[::3], words[1::3], words[2::3])
-        )
-        needed, waiting = bytearray(circuit.max_var + 1), [root >> 1 for root in roots]
-        while waiting:
-            variable = waiting.pop()
-            if not needed[variable]:
-                needed[variable] = 1
-                waiting.extend(before.get(variable, ()))
-        return needed
-
-    def make(self, bad: int) -> Any:
-        import aigtools
-
-        circuit, now = self.circuit, {0: 0}
-        variable = 1
-        for at in self.inputs:
+    def make(self, needed: bytearray, bad: int) -> Any:
+        circuit = self.model.circuit
+        now = array("I", bytes(4 * len(needed)))
+        for variable, at in enumerate(self.inputs, 1):
             now[circuit.inputs[at] >> 1] = 2 * variable
-            variable += 1
-        free = {at: 2 * (variable + index) for index, at in enumerate(self.open)}
-        variable += len(free)
-        inputs = range(2, 2 * variable, 2)
-        begun = failed = None
-        if self.begins:
-            begun, variable = 2 * variable, variable + 1
-            self.columns.append(Column(None, wanted=1))
-        if circuit.constraints:
-            failed, variable = 2 * variable, variable + 1
-            self.columns.append(Column(None, wanted=0))
-        latches = [circuit.latches[at] for at in self.latches]
-        for at, latch in zip(self.latches, latches):
-            negated = int(latch.reset == 1 and not self.begins)
-            now[latch.literal >> 1] = 2 * variable ^ negated
-            self.columns.append(Column(at, negated))
-            variable += 1
-        gates = Gates(variable)
-        literal_of = lambda literal: now[literal >> 1] ^ literal & 1
+        inputs = len(self.inputs) + len(self.open)
+        for variable, column in enumerate(self.columns, inputs + 1):
+            if column.latch is not None:
+                now[self.model.latches[column.latch].literal >> 1] = 2 * variable ^ column.negated
+        gates = Gates(inputs + len(self.columns) + 1)
         for literal, left, right in circuit.gates:
-            if self.needed[literal >> 1]:
-                now[literal >> 1] = gates.both(literal_of(left), literal_of(right))
-        held = 1
-        for literal in circuit.constraints:
-            held = gates.both(held, literal_of(literal))
-        made = []
-        reached = literal_of(bad)
-        if begun is not None:
-            made.append((begun, 1, 0))
-            reached = gates.both(reached, begun)
-        if failed is not None:
-            fails = gates.both(held ^ 1, begun if begun is not None else 1)
-            made.append((failed, gates.either(failed, fails), 0))
-            reached = gates.both(reached, gates.both(held, failed ^ 1))
-        for at, latch, column in zip(self.latches, latches, self.columns[len(made) :]):
-            later = literal_of(latch.next)
-            if begun is not None:
-                start = latch.reset if latch.reset < 2 else free[at]
-                later = gates.either(gates.both(begun, later), gates.both(begun ^ 1, start))
-            made.append((now[latch.literal >> 1] & ~1, later ^ column.negated, 0))
-        return aigtools.Circuit(
-            max_var=gates.variable - 1, inputs=inputs, latches=made, outputs=[reached], gates=aigtools.Entries(aigtools.Gate, gates.words)
+            if needed[literal >> 1]:
+                now[literal >> 1] = gates.both(now[left >> 1] ^ left & 1, now[right >> 1] ^ right & 1)
+        output, latches = self.states(now, gates, circuit.bad[bad], 2 * inputs + 2)
+        return aigtools().Circuit(
+            max_var=gates.variable - 1,
+            inputs=range(2, 2 * inputs + 2, 2),
+            latches=latches,
+            outputs=[output],
+            gates=aigtools().Entries(aigtools().Gate, gates.words),
         )
+
+    def states(self, now: array, gates: Gates, bad: int, first: int) -> Tuple[int, List[Tuple[int, int, int]]]:
+        """The output and the latches, by the literal that each variable has now."""
+        begun = first if self.begins else 1
+        failed = first + 2 * self.columns.index(FAILED) if FAILED in self.columns else 0
+        held = 1
+        for literal in self.model.circuit.constraints:
+            held = gates.both(held, now[literal >> 1] ^ literal & 1)
+        output = gates.both(now[bad >> 1] ^ bad & 1, gates.both(begun, gates.both(held, failed ^ 1)))
+        latches = []
+        for at, column in enumerate(self.columns):
+            if column is BEGUN:
+                later = 1
+            elif column is FAILED:
+                later = gates.either(failed, gates.both(begun, held ^ 1))
+            else:
+                literal = self.model.latches[column.latch].next
+                later = now[literal >> 1] ^ literal & 1 ^ column.negated
+                if self.begins:
+                    start = gates.both(begun ^ 1, self.start(column.latch))
+                    later = gates.either(gates.both(begun, later), start)
+            latches.append((first + 2 * at, later, 0))
+        return output, latches
+
+    def start(self, latch: int) -> int:
+        """The literal of what a latch starts at."""
+        reset = self.model.latches[latch].reset
+        return reset if reset < 2 else 2 * (len(self.inputs) + self.open.index(latch) + 1)
 
     def invariant(self, rows: Iterable[str]) -> List[str]:
-        """Rows of the model: those are left out that ask for the first step, or for a constraint that has failed,
+        """Rows for the model: those are left out that ask for the first step, or for a constraint that has failed,
         since then nothing is asked of the model."""
         made = []
         for row in rows:
-            line = ["-"] * len(self.circuit.latches)
+            line = ["-"] * len(self.model.latches)
             for value, column in zip(row, self.columns):
                 if column.latch is not None:
                     line[column.latch] = value if value == "-" else str(int(value) ^ column.negated)
@@ -476,23 +501,28 @@ class ForAbc:
         return made
 
     def witness(self, bad: int, lines: Sequence[str]) -> Optional[str]:
-        """A witness of the model by a counterexample of ABC: lines with the first state, and with the inputs of each
-        step."""
-        steps = lines[1:]
-        width = len(self.made.inputs)
+        """A witness for the model, by a counterexample of ABC: a line for the first state, and one for each step."""
+        steps, width = lines[1:], len(self.circuit.inputs)
         if not steps or any(len(step) != width or set(step) - set("01") for step in steps):
             return None
         first = dict(zip(self.open, steps[0][len(self.inputs) :]))
-        state = "".join(
-            str(latch.reset) if latch.reset < 2 else first.get(at, "0") for at, latch in enumerate(self.circuit.latches)
-        )
-        made = ["1", f"b{bad}", state]
+        resets = [str(latch.reset) if latch.reset < 2 else "0" for latch in self.model.latches]
+        state = [first.get(at, reset) for at, reset in enumerate(resets)]
+        made = ["1", f"b{bad}", "".join(state)]
         for step in steps[1:] if self.begins else steps:
-            line = ["0"] * len(self.circuit.inputs)
+            line = ["0"] * len(self.model.circuit.inputs)
             for at, value in zip(self.inputs, step):
                 line[at] = value
             made.append("".join(line))
         return "\n".join([*made, ".", ""])
+
+
+class Shown(NamedTuple):
+    """What ABC shows: rows of an invariant, or the text of a witness; or the reason why it shows nothing."""
+
+    rows: Optional[List[str]] = None
+    witness: Optional[str] = None
+    reason: str = ""
 
 
 @dataclass(frozen=True)
@@ -502,23 +532,34 @@ class Abc:
     program: str
     children: Children
 
-    def pdr(self, model: ForAbc, bad: int, folder: Path, seconds: float) -> Tuple[Optional[List[str]], Optional[str], str]:
-        """Rows of an invariant, or a witness, or the reason why there is none."""
-        (folder / "abc.aig").write_bytes(model.made.write())
+    def run(self, command: str, circuit: ForAbc, folder: Path, seconds: float) -> Finished:
+        """Reads the circuit, gives a command, and writes the counterexample if there is one."""
+        (folder / "abc.aig").write_bytes(circuit.circuit.write())
         for name in ("abc.pla", "abc.cex"):
             (folder / name).unlink(missing_ok=True)
-        commands = f"read_aiger abc.aig; pdr -d -e -T {max(1, round(seconds))} -I abc.pla; write_cex -a abc.cex"
-        told = self.children.run([self.program, "-q", commands], folder, seconds + 1)
-        words = told.output
-        if re.search(r"^Property proved", words, re.MULTILINE):
-            rows = read_rows(folder / "abc.pla", len(model.columns))
-            return (None, None, "ABC's invariant cannot be read") if rows is None else (model.invariant(rows), None, "")
-        if re.search(r"^Output 0 of miter .* was asserted in frame \d+", words, re.MULTILINE):
-            lines = read_counterexample(folder / "abc.cex")
-            return None, lines and model.witness(bad, lines), "ABC's counterexample cannot be read"
-        if told.late or told.seconds >= seconds or told.status == 0:
-            return None, None, f"no invariant in {seconds:g} s"
-        return None, None, "ABC failed"
+        commands = f"read_aiger abc.aig; {command} -T {max(1, round(seconds))}; write_cex -a abc.cex"
+        return self.children.run([self.program, "-q", commands], folder, seconds + 1)
+
+    def pdr(self, circuit: ForAbc, bad: int, folder: Path, seconds: float) -> Shown:
+        """An invariant, or a run of any length."""
+        told = self.run("pdr -d -e -I abc.pla", circuit, folder, seconds)
+        if re.search(r"^Property proved", told.output, re.MULTILINE):
+            rows = read_rows(folder / "abc.pla", len(circuit.columns))
+            return Shown(reason="ABC's invariant cannot be read") if rows is None else Shown(circuit.invariant(rows))
+        if self.is_broken(told):
+            witness = circuit.witness(bad, read_counterexample(folder / "abc.cex"))
+            return Shown(witness=witness, reason="ABC's counterexample cannot be read")
+        if told.late or told.status == 0 and told.seconds >= seconds - 1:
+            return Shown(reason=f"no invariant in {seconds:g} s")
+        return Shown(reason="ABC finds no invariant" if told.status == 0 else "ABC failed")
+
+    def shortest(self, circuit: ForAbc, bad: int, folder: Path, seconds: float, frames: int) -> Optional[str]:
+        """A witness that is the shortest, of so many steps at most."""
+        told = self.run(f"bmc3 -F {frames + circuit.begins}", circuit, folder, seconds)
+        return circuit.witness(bad, read_counterexample(folder / "abc.cex")) if self.is_broken(told) else None
+
+    def is_broken(self, told: Finished) -> bool:
+        return bool(re.search(r"^Output 0 of miter .* was asserted in frame \d+", told.output, re.MULTILINE))
 
 
 def read_rows(path: Path, width: int) -> Optional[List[str]]:
@@ -527,18 +568,17 @@ def read_rows(path: Path, width: int) -> Optional[List[str]]:
         lines = path.read_text(errors="replace").splitlines()
     except OSError:
         return None
-    rows = [line.split() for line in lines if line[:1] in ("0", "1", "-")]
-    right = all(len(row) == 2 and row[1] == "1" and len(row[0]) == width and not set(row[0]) - set("01-") for row in rows)
-    return [row[0] for row in rows] if right else None
+    rows = [line for line in lines if line[:1] in ("0", "1", "-")]
+    right = all(re.fullmatch(f"[01-]{{{width}}} 1", row) for row in rows)
+    return [row[:width] for row in rows] if right else None
 
 
-def read_counterexample(path: Path) -> Optional[List[str]]:
+def read_counterexample(path: Path) -> List[str]:
     """The lines of a counterexample that ABC wrote."""
     try:
-        text = path.read_text(errors="replace")
+        return path.read_text(errors="replace").partition("#")[0].split("\n")
     except OSError:
-        return None
-    return text.partition("#")[0].split("\n")
+        return []
 
 
 # ---------------------------------------------------------------- one assertion
@@ -563,15 +603,7 @@ class Tools:
     limits: Limits
 
 
-@dataclass(frozen=True)
-class Model:
-    """An AIGER model: its file in binary, and its circuit."""
-
-    path: Path
-    circuit: Any
-
-
-def growing(most: int) -> List[int]:
+def steps_up_to(most: int) -> List[int]:
     """1, 2, 4, .. and at last the most."""
     steps = [1]
     while steps[-1] < most:
@@ -579,7 +611,7 @@ def growing(most: int) -> List[int]:
     return steps
 
 
-#: So many steps are searched before ABC is asked, since most bugs are near.
+#: So many steps are searched before ABC is asked, since many bugs are near.
 FEW = 4
 
 
@@ -592,178 +624,172 @@ class Search:
         self.refuted = 0
         self.reasons: List[str] = []
         self.notes: List[str] = []
-        self.options = ["--bad", assertion.bad]
 
     def verdict(self) -> Verdict:
         self.folder.mkdir()
-        steps = growing(self.tools.limits.frames)
-        few = [count for count in steps if count <= FEW]
-        for_abc = ForAbc(self.model.circuit, self.assertion.bad)
+        self.for_abc = ForAbc(self.model, self.assertion.bad)
+        steps = steps_up_to(self.tools.limits.frames)
+        few = sum(count <= FEW for count in steps)
         return (
-            self.without_latches(for_abc)
-            or self.bounded(few)
-            or self.by_abc(for_abc)
-            or self.bounded(steps[len(few) :])
+            self.without_latches()
+            or self.bounded(steps[:few])
+            or self.by_abc()
+            or self.bounded(steps[few:])
             or self.none_within()
             or Verdict(Answer.UNKNOWN, reason=", ".join(self.reasons))
         )
 
-    # What the solver says
-
-    def solved(self, clauses: Path) -> Said:
-        """What the solver says of clauses; where it says nothing, the reason is noted."""
-        solver = self.tools.solver
-        said, told = solver.solve(clauses, self.left)
-        self.left = max(0.0, self.left - told.seconds)
-        if said is Said.NOTHING:
-            limit = f"{self.tools.limits.limit:g} s"
-            self.fails(f"no answer in {limit}" if told.late else f"{solver.kind} failed")
-        return said
-
     def fails(self, reason: str) -> None:
+        """Notes why there is no answer."""
         if reason not in self.reasons:
             self.reasons.append(reason)
 
-    def clauses(self, name: str, *options: Any) -> Optional[Path]:
-        path = self.folder / f"{name}.cnf"
-        told = self.tools.aiger.run(
-            "aigunroll", *options, *self.options, "--cnf", self.model.path, path, folder=self.folder
-        )
-        if told.status == 0:
-            return path
-        self.fails(aiger_failure(told))
-        return None
+    def unroll(self, *options: Any) -> Finished:
+        return self.tools.aiger.run("aigunroll", *options, "--bad", self.assertion.bad, folder=self.folder)
 
-    def is_refuted(self, claim: str, refutation: Path, *options: Any) -> bool:
-        """Whether aiger says this by a refutation."""
-        return self.tools.aiger.says(
-            claim, "aigunroll", *options, *self.options, "--refutation", refutation, self.model.path, folder=self.folder
-        )
+    def ask(self, name: str, what: str, *options: Any) -> Said:
+        """What the solver says of the clauses that aiger writes by these options; if nothing, the reason is noted."""
+        solver, limit, clauses = self.tools.solver, self.tools.limits.limit, self.folder / f"{name}.cnf"
+        if self.left <= 0:
+            self.fails(f"no answer for {what} in {limit:g} s")
+            return Said.NOTHING
+        told = self.unroll(*options, "--cnf", self.model.path, clauses)
+        if told.status != 0:
+            self.fails(aiger_failure(told).replace(f"{self.folder}/", ""))
+            return Said.NOTHING
+        said, told = solver.solve(clauses, self.left)
+        self.left -= told.seconds
+        clauses.unlink(missing_ok=True)
+        if said is Said.NOTHING:
+            self.fails(f"no answer for {what} in {limit:g} s" if told.late else f"{solver.kind} failed for {what}")
+        return said
+
+    def is_shown(self, claim: str, name: str, *options: Any) -> bool:
+        """Whether aiger says this by the solver's refutation; if not, the reason is noted."""
+        solver = self.tools.solver
+        if not solver.refutes:
+            self.fails(f"{solver.kind} writes no refutation, as cadical does")
+            return False
+        told = self.unroll(*options, "--refutation", self.folder / f"{name}.drat", self.model.path)
+        if told.status == 0 and told.output == f"{claim}\n":
+            return True
+        late = f"the refutation of {solver.kind} was not checked in {told.seconds:.0f} s"
+        self.fails(late if told.late else f"the refutation of {solver.kind} is not right")
+        return False
 
     # Runs of a bounded length
 
     def bounded(self, steps: Sequence[int]) -> Optional[Verdict]:
-        """Looks for a run of so many steps, and of so many.. that breaks the assertion."""
-        if not self.tools.solver:
-            return None
-        for count in steps:
-            if self.refuted < count and not self.reasons_end:
-                said, witness = self.within(count)
-                if witness:
-                    return self.reached(witness)
-                if said is not Said.UNSATISFIABLE:
-                    return None
-                self.refuted = count
+        """Looks for a run that breaks the assertion, of at most so many steps, then of more."""
+        for count in steps if self.tools.solver else ():
+            said, witness = self.within(count)
+            if witness:
+                return self.shortest(witness)
+            if said is not Said.UNSATISFIABLE:
+                break
         return None
-
-    @property
-    def reasons_end(self) -> bool:
-        return self.left <= 0
 
     def within(self, count: int) -> Tuple[Said, Optional[Path]]:
         """What the solver says of runs of at most so many steps, and the witness that follows from its answer."""
         self.progress.tell(self.assertion, f"{count} steps")
-        clauses = self.clauses(f"within{count}", "--frames", count)
-        if not clauses:
-            return Said.NOTHING, None
-        before = list(self.reasons)
-        said = self.solved(clauses)
-        if said is Said.NOTHING and self.left <= 0:
-            self.reasons = [*before, f"no answer for {count} steps in {self.tools.limits.limit:g} s"]
-        clauses.unlink(missing_ok=True)
+        name, what = f"within{count}", f"{count} steps"
+        said = self.ask(name, what, "--frames", count)
+        if said is Said.UNSATISFIABLE:
+            if self.refuted:
+                (self.folder / f"within{self.refuted}.drat").unlink(missing_ok=True)
+            self.refuted = count
         if said is not Said.SATISFIABLE:
             return said, None
-        witness = self.folder / f"within{count}.aiw"
-        told = self.tools.aiger.run(
-            "aigunroll", "--frames", count, *self.options, "--answer", clauses.with_suffix(".answer"),
-            self.model.path, witness, folder=self.folder,
-        )
-        if told.status == 0 and self.tools.aiger.confirmed(self.model.path, witness) is not None:
+        answer, witness = self.folder / f"{name}.answer", self.folder / f"{name}.aiw"
+        told = self.unroll("--frames", count, "--answer", answer, self.model.path, witness)
+        if told.status == 0 and self.step(witness) is not None:
             return said, witness
-        self.fails(f"the answer of {self.tools.solver.kind} for {count} steps is wrong")
+        self.fails(f"the answer of {self.tools.solver.kind} for {what} is wrong")
         return Said.NOTHING, None
 
-    def reached(self, witness: Path) -> Verdict:
+    def step(self, witness: Path) -> Optional[int]:
+        return self.tools.aiger.confirmed(self.model.path, witness)
+
+    def shortest(self, witness: Path) -> Verdict:
         """The shortest run that breaks the assertion, by a witness of one that does."""
-        step = self.tools.aiger.confirmed(self.model.path, witness)
+        step = self.step(witness)
+        self.left = min(self.left, self.tools.limits.time)
         while self.tools.solver and self.refuted < step:
-            count = (self.refuted + step) // 2 + 1
-            said, shorter = self.within(count)
+            said, shorter = self.within((self.refuted + step) // 2 + 1)
             if shorter:
-                witness, step = shorter, self.tools.aiger.confirmed(self.model.path, shorter)
-            elif said is Said.UNSATISFIABLE:
-                self.refuted = count
-            else:
+                witness, step = shorter, self.step(shorter)
+            elif said is not Said.UNSATISFIABLE:
                 break
-        if self.refuted < step or step and not self.is_shown(step):
-            self.notes.append(f"{self.assertion}: that no shorter run reaches it is not proved")
+        if step and not (self.refuted == step and self.is_none_within(step)):
+            self.notes.append(f"{self.assertion}: that no shorter run breaks it is not proved")
         return Verdict(Answer.REACHED, steps=step, witness=witness)
 
-    def is_shown(self, count: int) -> bool:
-        """Whether the last refutation shows that there is no run of so many steps."""
-        refutation = self.folder / f"within{count}.drat"
-        return refutation.exists() and self.is_refuted(f"none within {count}", refutation, "--frames", count)
+    def is_none_within(self, count: int) -> bool:
+        return self.is_shown(f"none within {count}", f"within{count}", "--frames", count)
 
     def none_within(self) -> Optional[Verdict]:
-        count, solver = self.tools.limits.frames, self.tools.solver
-        if self.refuted < count:
-            return None
-        if not solver.refutes:
-            self.fails(f"{solver.kind} writes no refutation, as cadical does")
-        elif self.is_shown(count):
+        count = self.tools.limits.frames
+        if self.refuted == count and self.is_none_within(count):
             return Verdict(Answer.NONE_WITHIN, steps=count, refutation=self.folder / f"within{count}.drat")
-        else:
-            self.fails(f"the refutation of {solver.kind} for {count} steps is not right")
         return None
 
     # Runs of any length
 
-    def without_latches(self, for_abc: ForAbc) -> Optional[Verdict]:
-        """The assertion never fails, if it depends on no latch and no step breaks it."""
-        return None if for_abc.latches else self.by_invariant([])
+    def without_latches(self) -> Optional[Verdict]:
+        """An assertion that depends on no latch never fails if no step breaks it, which needs no invariant."""
+        return self.by_invariant([]) if self.tools.solver and not self.for_abc.latches else None
 
-    def by_abc(self, for_abc: ForAbc) -> Optional[Verdict]:
+    def by_abc(self) -> Optional[Verdict]:
         """What ABC's pdr shows: an invariant, or a run."""
-        abc = self.tools.abc
+        abc, limits, bad = self.tools.abc, self.tools.limits, self.assertion.bad
         if not abc:
             return None
         self.progress.tell(self.assertion, "pdr")
-        rows, text, reason = abc.pdr(for_abc, self.assertion.bad, self.folder, self.tools.limits.time)
-        if rows is not None:
-            return self.by_invariant(rows)
-        if text:
-            witness = self.folder / "abc.aiw"
-            witness.write_text(text)
-            if self.tools.aiger.confirmed(self.model.path, witness) is not None:
-                return self.reached(witness)
-            reason = "ABC's counterexample is wrong"
-        self.fails(reason)
-        return None
+        shown = abc.pdr(self.for_abc, bad, self.folder, limits.time)
+        if shown.rows is not None:
+            reasons = len(self.reasons)
+            verdict = self.by_invariant(shown.rows)
+            if not verdict and len(self.reasons) == reasons:
+                self.fails("ABC's invariant is not right")
+            return verdict
+        witness = self.written(shown.witness)
+        if not witness:
+            self.fails("ABC's counterexample is wrong" if shown.witness else shown.reason)
+            return None
+        if not self.tools.solver:
+            shorter = abc.shortest(self.for_abc, bad, self.folder, limits.time, self.step(witness) + 1)
+            witness = self.written(shorter) or witness
+        return self.shortest(witness)
+
+    def written(self, text: Optional[str]) -> Optional[Path]:
+        """The file of ABC's witness, if it is one."""
+        if not text:
+            return None
+        path = self.folder / f"abc{len(text)}.aiw"
+        path.write_text(text)
+        return path if self.step(path) is not None else None
 
     def by_invariant(self, rows: Sequence[str]) -> Optional[Verdict]:
         """Whether the invariant, which is not believed, shows that no run breaks the assertion."""
-        solver = self.tools.solver
-        if not solver or not solver.refutes:
-            named = f"{solver.kind} writes no refutation, as cadical does" if solver else "there is no SAT solver"
-            self.fails(f"an invariant is not proved: {named}")
+        if not self.tools.solver:
+            self.fails("there is no SAT solver to prove an invariant")
             return None
         invariant = self.folder / "never.pla"
         invariant.write_text("".join(f"{row} 1\n" for row in rows))
-        clauses = self.clauses("never", "--invariant", invariant)
-        if not clauses or self.solved(clauses) is not Said.UNSATISFIABLE:
-            self.fails("ABC's invariant is not right")
+        options = ("--invariant", invariant)
+        if self.ask("never", "an invariant", *options) is not Said.UNSATISFIABLE:
             return None
-        refutation = clauses.with_suffix(".drat")
-        if self.is_refuted("never", refutation, "--invariant", invariant):
-            return Verdict(Answer.NEVER, refutation=refutation, invariant=invariant)
-        self.fails(f"the refutation of {solver.kind} is not right")
-        return None
+        if not self.is_shown("never", "never", *options):
+            return None
+        return Verdict(Answer.NEVER, refutation=self.folder / "never.drat", invariant=invariant)
 
 
 def aiger_failure(told: Finished) -> str:
+    """Why aiger gave no answer."""
     if told.late:
         return f"aiger gave no answer in {told.seconds:.0f} s"
-    return f"aiger failed: {told.errors.strip().splitlines()[-1] if told.errors.strip() else told.status}"
+    words = told.errors.strip().splitlines()
+    return words[-1] if words else f"aiger ended with status {told.status}"
 
 
 class Progress:
@@ -784,10 +810,9 @@ class Progress:
             self.width = len(line)
 
     def clear(self) -> None:
-        if self.shown and self.width:
+        if self.width:
             self.put("")
-            sys.stderr.write("\r")
-            sys.stderr.flush()
+            self.put("")
 
 
 # ---------------------------------------------------------------- Yosys
@@ -802,7 +827,7 @@ class Sources:
     The folder is that of a descriptor, as the path of a temporary folder may be odd too.
     """
 
-    def __init__(self, files: Sequence[str], include: Sequence[str], folder: Path) -> None:
+    def __init__(self, files: Sequence[str], include: Sequence[str], defines: Sequence[str], folder: Path) -> None:
         self.folder = folder
         self.descriptor = os.open(folder, os.O_RDONLY | os.O_DIRECTORY)
         self.alias = f"/proc/self/fd/{self.descriptor}"
@@ -811,9 +836,19 @@ class Sources:
         self.names: Dict[str, str] = {}
         self.files = [self.plain(at, name) for at, name in enumerate(files)]
         self.include = [self.link(f"include{at}", name) for at, name in enumerate(include)]
+        if defines:
+            self.files.insert(0, self.define(defines))
 
     def close(self) -> None:
         os.close(self.descriptor)
+
+    def define(self, defines: Sequence[str]) -> str:
+        """A file of macros, since a value may have what a command of Yosys cannot."""
+        path = f"{self.alias}/defines.vh"
+        lines = [f"`define {name} {value}\n" for name, _, value in (define.partition("=") for define in defines)]
+        (self.folder / "defines.vh").write_bytes("".join(lines).encode(errors="surrogateescape"))
+        self.names[path] = "-D"
+        return path
 
     def link(self, name: str, folder: str) -> str:
         """A plain path of the user's folder."""
@@ -833,8 +868,7 @@ class Sources:
         self.names[path] = name
         return path
 
-    def told(self, path: str) -> str:
-        """The user's name of a file."""
+    def users_name(self, path: str) -> str:
         if path in self.names:
             return self.names[path]
         for place, folder in self.folders.items():
@@ -842,14 +876,21 @@ class Sources:
                 return os.path.join(folder, path[len(place) + 1 :])
         return path
 
-    def reworded(self, text: str) -> str:
-        """What Yosys says, with the user's names."""
-        return re.sub(rf"{re.escape(self.alias)}/[^\s:'`\"]+", lambda match: self.told(match[0]), text)
+    def with_users_names(self, text: str) -> str:
+        return re.sub(rf"{re.escape(self.alias)}/[^\s:'`\"]+", lambda match: self.users_name(match[0]), text)
 
     def order(self, path: str) -> Tuple[int, str]:
         """Where a file stands among those that were given; others follow."""
-        name = self.told(path)
+        name = self.users_name(path)
         return (self.given.index(name) if name in self.given else len(self.given), name)
+
+    def lines(self, path: str) -> List[str]:
+        """The lines of a file, of which Yosys told."""
+        place = self.folder / path[len(self.alias) + 1 :] if path.startswith(f"{self.alias}/") else Path(path)
+        try:
+            return place.read_text(errors="replace").split("\n")
+        except OSError:
+            return []
 
 
 class Yosys:
@@ -864,6 +905,7 @@ class Yosys:
             stdout=subprocess.DEVNULL,
             stderr=subprocess.PIPE,
             pass_fds=(sources.descriptor,),
+            # Yosys would take ABC for the path of its own ABC
             env={name: value for name, value in os.environ.items() if name != "ABC"},
         )
 
@@ -892,64 +934,105 @@ class Yosys:
             said.append(words)
         if self.children.stopped:
             raise Stopped
-        raise Trouble(self.failure(said))
+        raise Trouble(visible(self.failure(said)))
 
     def failure(self, said: Sequence[str]) -> str:
+        """Why Yosys ended."""
         for line in said:
             match = re.match(r"(?:(.*?):(\d+): )?ERROR: (.*)", line)
             if match:
-                place = f"{self.sources.told(match[1])}:{match[2]}: " if match[1] else ""
-                return place + self.sources.reworded(match[3])
+                place = f"{self.sources.users_name(match[1])}:{match[2]}: " if match[1] else ""
+                return place + self.sources.with_users_names(match[3])
         self.child.wait()
-        return f"Yosys ended with status {self.child.returncode}" + (f": {said[-1]}" if said else "")
+        last = f": {said[-1]}" if said else ""
+        return f"Yosys ended with status {self.child.returncode}{last}"
+
+    def warnings(self) -> List[str]:
+        """What Yosys warned of, with the user's names."""
+        kept = (line.partition("Warning: ")[2] for line in self.said if "logic loop" not in line)
+        return [visible(self.sources.with_users_names(line)) for line in kept if line]
 
     def netlist(self, name: str) -> Dict[str, Any]:
-        """The design as Yosys has it now: its modules."""
+        """The modules of the design as it is now."""
         self.do(f"write_json {self.sources.alias}/{name}.json")
         with open(self.sources.folder / f"{name}.json", encoding="utf-8", errors="replace") as file:
             return json.load(file)["modules"]
 
 
+def bare(name: str) -> str:
+    """A name of Yosys without the backslash that it has where it could be one of Yosys's own."""
+    return name[1:] if name.startswith("\\") else name
+
+
+def quoted(name: str) -> str:
+    """A name of a netlist as a word of a command."""
+    return name if name[:1] in "\\$" else f"\\{name}"
+
+
 class Property(NamedTuple):
-    """A property of the Verilog: the path of its cell, what it is, its file, line and column, and its name."""
+    """A property of the Verilog: the names on the way to its cell, what it is, and where its name and its text are."""
 
     path: Tuple[str, ...]
     kind: str
+    name: str
     file: str
     line: int
     column: int
-    name: str
+
+    @property
+    def cell(self) -> str:
+        """The name of its cell once the design is flat."""
+        return ".".join(self.path)
 
 
 UNNAMED = "aiger_check_unnamed_"
 PROPERTIES = ("$assert", "$assume", "$cover", "$live", "$fair")
+LEFT_OUT = {"$cover": "a cover", "$live": "liveness", "$fair": "fairness"}
 
 
-def properties(modules: Dict[str, Any], top: str) -> Iterator[Property]:
+def properties(modules: Dict[str, Any], top: str, sources: Sources) -> Iterator[Property]:
     """All properties of a design before it is flattened, instance by instance."""
     waiting: List[Tuple[str, Tuple[str, ...]]] = [(top, ())]
     while waiting:
         module, path = waiting.pop()
         inside = []
         for name, cell in modules[module]["cells"].items():
-            kind = cell["type"]
+            kind, here = cell["type"], (*path, bare(name))
             if kind in PROPERTIES:
-                file, line, column = source_of(cell)
-                label = kind[1:] if name.startswith((UNNAMED, "$")) else name
-                yield Property((*path, name), kind, file, line, column, ".".join((*path, label)))
+                labelled = not name.startswith((UNNAMED, "$"))
+                shown = ".".join(here if labelled else (*path, kind[1:]))
+                yield Property(here, kind, shown, *place_of(cell, labelled, sources))
             elif kind in modules:
-                inside.append((kind, (*path, name)))
+                inside.append((kind, here))
         waiting.extend(reversed(inside))
 
 
-def source_of(cell: Dict[str, Any]) -> Tuple[str, int, int]:
-    """File, line and column of a cell."""
-    match = re.match(r"(.*?):(\d+)(?:\.(\d+))?", cell.get("attributes", {}).get("src", "").split("|")[0])
-    return (match[1], int(match[2]), int(match[3] or 0)) if match else ("", 0, 0)
+KEYWORD = re.compile(r"\b(assert|assume|cover|restrict)\b")
+
+
+def place_of(cell: Dict[str, Any], labelled: bool, sources: Sources) -> Tuple[str, int, int]:
+    """File, line and column of a property. Without a label Yosys has it begin where the statement before it ends."""
+    source = cell.get("attributes", {}).get("src", "").split("|")[0]
+    match = re.fullmatch(r"(.*):(\d+)\.(\d+)-(\d+)\.(\d+)", source)
+    if not match:
+        return source, 0, 0
+    file, first, column, last = match[1], int(match[2]), int(match[3]), int(match[4])
+    if labelled or first == last:
+        return file, first, column
+    lines = sources.lines(file)[first - 1 : last]
+    for at, line in enumerate(lines):
+        if KEYWORD.search((line if at else line[column - 1 :]).partition("//")[0]):
+            return file, first + at, 0 if at else column
+    return file, last, 0
 
 
 def top_of(modules: Dict[str, Any]) -> str:
     return next(name for name, module in modules.items() if int(module["attributes"].get("top", "0"), 2))
+
+
+REGISTERS = {"$dff", "$dffe", "$adff", "$adffe", "$aldff", "$aldffe", "$dffsr", "$dffsre", "$sdff", "$sdffe", "$sdffce"}
+REGISTER_GATE = re.compile(r"\$_(?:DFF|DFFE|SDFF|SDFFE|SDFFCE|ALDFF|ALDFFE|DFFSR|DFFSRE)_([NP]).*")
+LATCH = re.compile(r"\$(?:a?dlatch|dlatchsr|sr)|\$_(?:DLATCH|DLATCHSR|SR)_.*")
 
 
 class Clocks:
@@ -958,74 +1041,69 @@ class Clocks:
     def __init__(self, module: Dict[str, Any]) -> None:
         self.module = module
         self.edges: Set[Tuple[Any, bool]] = set()
-        self.used: Set[Any] = set()
+        self.data: Set[Any] = set()
         self.latches = self.free = False
         for cell in module["cells"].values():
             self.look_at(cell)
 
     def look_at(self, cell: Dict[str, Any]) -> None:
-        kind, directions = cell["type"], cell.get("port_directions", {})
-        clock_ports = set()
-        if re.fullmatch(r"\$(a|d|al|s)?(dff|dffe|dffce|dffsr|dffsre)|\$(al|a|s)dff(c?e)?", kind):
+        kind, bits_of, clock_ports = cell["type"], cell["connections"], set()
+        gate = REGISTER_GATE.fullmatch(kind)
+        if kind in REGISTERS:
             clock_ports = {"CLK"}
-            self.add(cell["connections"]["CLK"], cell["parameters"]["CLK_POLARITY"][-1:] == "1")
-        elif re.match(r"\$_(DFF|DFFE|SDFF|SDFFE|SDFFCE|ALDFF|ALDFFE|DFFSR|DFFSRE)_[NP]", kind):
+            self.edges.update((bit, cell["parameters"]["CLK_POLARITY"][-1:] == "1") for bit in bits_of["CLK"])
+        elif gate:
             clock_ports = {"C"}
-            self.add(cell["connections"]["C"], kind.split("_")[2][0] == "P")
+            self.edges.update((bit, gate[1] == "P") for bit in bits_of["C"])
         elif kind.startswith("$mem"):
             clock_ports = {"WR_CLK", "RD_CLK"}
-            self.memory(cell)
-        elif kind in ("$ff", "$_FF_"):
-            self.free = True
-        elif "latch" in kind.lower() or kind == "$sr" or kind.startswith("$_SR_"):
-            self.latches = True
-        for port, bits in cell["connections"].items():
-            if port not in clock_ports and directions.get(port) != "output":
-                self.used.update(bits)
+            self.look_at_memory(cell)
+        self.free = self.free or kind in ("$ff", "$_FF_")
+        self.latches = self.latches or bool(LATCH.fullmatch(kind))
+        for port, bits in bits_of.items():
+            if port not in clock_ports and cell.get("port_directions", {}).get(port) != "output":
+                self.data.update(bits)
 
-    def add(self, bits: Sequence[Any], rising: bool) -> None:
-        self.edges.update((bit, rising) for bit in bits)
-
-    def memory(self, cell: Dict[str, Any]) -> None:
+    def look_at_memory(self, cell: Dict[str, Any]) -> None:
         for port in ("WR", "RD"):
-            parameters = [cell["parameters"].get(f"{port}_CLK_{what}", "") for what in ("ENABLE", "POLARITY")]
-            bits = cell["connections"].get(f"{port}_CLK", [])
-            for bit, enabled, rising in zip(bits, *(reversed(text) for text in parameters)):
-                if enabled == "1":
-                    self.edges.add((bit, rising == "1"))
+            names = (f"{port}_CLK_ENABLE", f"{port}_CLK_POLARITY")
+            enabled, rising = (cell["parameters"].get(name, "")[::-1] for name in names)
+            for bit, is_enabled, rises in zip(cell["connections"].get(f"{port}_CLK", []), enabled, rising):
+                if is_enabled == "1":
+                    self.edges.add((bit, rises == "1"))
 
     def name(self, bit: Any) -> str:
         """The shortest name of a bit."""
         names = []
         for name, net in self.module["netnames"].items():
             if bit in net["bits"] and not net.get("hide_name"):
-                names.append(name if len(net["bits"]) == 1 else f"{name}[{net['bits'].index(bit)}]")
-        return min(names, key=lambda name: (name.count("."), len(name), name), default=str(bit))
+                names.append(bare(name) if len(net["bits"]) == 1 else f"{bare(name)}[{net['bits'].index(bit)}]")
+        return min(names, key=lambda name: (name.count("."), len(name), name), default="a constant or an inner net")
 
-    def inputs(self) -> Set[Any]:
-        ports = self.module["ports"].values()
-        return {bit for port in ports if port["direction"] == "input" for bit in port["bits"]}
+    def port(self) -> Optional[str]:
+        """The input that is the clock, by itself."""
+        ports = self.module["ports"].items()
+        clocks = [[bit] for bit, _ in self.edges]
+        return next((name for name, port in ports if port["direction"] == "input" and port["bits"] in clocks), None)
 
     def reason(self) -> Optional[str]:
         """Why the steps are not those of one clock."""
         bits = {bit for bit, _ in self.edges}
-        names = ", ".join(sorted(self.name(bit) for bit in bits))
+        names = ", ".join(sorted({self.name(bit) for bit in bits}))
+        inputs = {bit for port in self.module["ports"].values() if port["direction"] == "input" for bit in port["bits"]}
         if self.latches:
             return "there are latches"
         if self.free:
-            return f"there is the global clock beside {names}" if bits else "the global clock is used"
+            return f"the global clock is used beside {names}" if bits else "the global clock is used"
         if len(bits) > 1:
             return f"there are several clocks ({names})"
-        if not bits:
-            return None
         if len(self.edges) > 1:
             return f"both edges of {names} are used"
-        bit, rising = next(iter(self.edges))
-        if not rising:
+        if not all(rising for _, rising in self.edges):
             return f"the falling edge of {names} is used"
-        if bit in self.used:
+        if bits & self.data:
             return f"the clock {names} is used as data"
-        if bit not in self.inputs():
+        if bits - inputs:
             return f"the clock {names} is no input"
         return None
 
@@ -1033,109 +1111,161 @@ class Clocks:
 class Front:
     """Writes a Verilog design as an AIGER model by Yosys, and tells which bad state is which assertion."""
 
-    READ = "read_verilog -sv -formal"
     #: Without -keepdc Yosys might choose first values of uninitialised registers.
-    TIDY = ("opt_expr -keepdc", "opt_clean")
+    FLAT = (
+        "setattr -mod -unset keep_hierarchy",
+        "flatten",
+        "opt_expr -keepdc",
+        "opt_clean",
+        "check",
+        "delete -output",
+        "tribuf -logic",
+        "opt -noff -keepdc",
+        "memory_collect",
+        "opt -noff -keepdc -fast",
+    )
+    ONE_CLOCK = ("memory_map -keepdc", "async2sync")
+    GLOBAL_CLOCK = ("memory_map -keepdc", "clk2fflogic", "memory_map -formal")
     GATES = (
         "techmap",
         "opt -noff -keepdc -fast",
         "dffunmap",
         "simplemap",
-        "delete -output",
         "setundef -undriven -anyseq",
         "opt_clean",
         "aigmap",
         "opt_clean",
     )
 
-    def __init__(self, yosys: Yosys, top: str, defines: Sequence[str]) -> None:
-        self.yosys, self.top, self.defines = yosys, top, defines
-        self.sources = yosys.sources
+    def __init__(self, yosys: Yosys, top: str) -> None:
+        self.yosys, self.top, self.sources = yosys, top, yosys.sources
         self.notes: List[str] = []
+        self.clock: Optional[str] = None
+        self.replays = False
 
     def translate(self) -> List[Assertion]:
         """Writes model.aig into the folder of the sources, and gives its assertions."""
+        yosys, alias = self.yosys, self.sources.alias
         self.read()
-        self.yosys.do("flatten", *self.TIDY, "opt -noff -keepdc", "memory_collect", "opt -noff -keepdc -fast")
-        modules = self.yosys.netlist("flat")
-        reason = Clocks(modules[top_of(modules)]).reason()
+        self.refuse_conflicts(yosys.do("check"))
+        self.refuse_conflicts(yosys.do(*self.FLAT))
+        flat = yosys.netlist("flat")
+        clocks = Clocks(flat[top_of(flat)])
+        reason = clocks.reason()
         if reason:
             self.notes.append(f"{reason}: a step is one of a global clock, by Yosys's clk2fflogic")
-        self.yosys.do(*self.clocked(bool(reason)), "setundef -undriven -anyseq", "opt -noff -keepdc -fast")
-        self.yosys.do(f"write_rtlil {self.sources.alias}/prepared.il")
-        self.yosys.do(*self.GATES, f"write_aiger -symbols -map {self.sources.alias}/model.map {self.sources.alias}/model.aig")
+        else:
+            self.clock = clocks.port()
+        kinds = {cell["type"] for cell in flat[top_of(flat)]["cells"].values()}
+        self.replays = self.clock is not None and "$initstate" not in kinds
+        yosys.do(*(self.GLOBAL_CLOCK if reason else self.ONE_CLOCK))
+        yosys.do("setundef -undriven -anyseq", "opt -noff -keepdc -fast", f"write_rtlil {alias}/prepared.il")
+        yosys.do(*self.GATES)
+        self.refuse_loops(yosys.do("check"))
+        yosys.do(f"write_aiger -symbols -map {alias}/model.map {alias}/model.aig")
         return self.assertions()
-
-    def clocked(self, globally: bool) -> List[str]:
-        return ["memory_map", "clk2fflogic", "memory_map"] if globally else ["memory_map", "async2sync"]
 
     def read(self) -> None:
         """Reads the files, and looks at the properties before they are flattened."""
-        options = [f"-D{define}" for define in self.defines] + [f"-I{folder}" for folder in self.sources.include]
-        self.yosys.do(" ".join([self.READ, *options, *self.sources.files]))
-        self.yosys.do(f"hierarchy -check -top {self.top}", "proc")
-        selected = " ".join(f"t:{kind}" for kind in PROPERTIES)
-        self.yosys.do(f"rename -enumerate -pattern {UNNAMED}% {selected}", "setattr -set keep 1 t:$assert t:$assume")
+        include = [f"-I{folder}" for folder in self.sources.include]
+        self.yosys.do(
+            " ".join(["read_verilog -sv -formal", *include, *self.sources.files]),
+            f"hierarchy -check -top {quoted(self.top)}",
+            "proc",
+            f"rename -enumerate -pattern {UNNAMED}% {' '.join(f't:{kind}' for kind in PROPERTIES)}",
+            # Yosys would merge what is equal
+            "setattr -set keep 1 t:$assert t:$assume",
+        )
         modules = self.yosys.netlist("read")
-        self.properties = list(properties(modules, top_of(modules)))
-        for left_out in self.properties:
-            if left_out.kind in ("$cover", "$live", "$fair"):
-                self.notes.append(f"{self.shown(left_out)} is left out: it is {WORDS[left_out.kind]}")
+        self.properties = list(properties(modules, top_of(modules), self.sources))
+        for it in self.properties:
+            if it.kind in LEFT_OUT:
+                named = visible(f"{self.top}.{it.name} ({self.place(it)})")
+                self.notes.append(f"{named} is left out: it is {LEFT_OUT[it.kind]}")
         self.yosys.do("delete t:$cover t:$live t:$fair")
 
-    def shown(self, property: Property) -> str:
-        return f"{self.top}.{property.name} ({self.place(property)})"
+    def refuse_conflicts(self, said: Sequence[str]) -> None:
+        for line in said:
+            match = re.search(r"multiple conflicting drivers for (.*):", line)
+            if match:
+                raise Trouble(f"{visible(match[1].replace('.' + chr(92), '.'))} has several drivers")
+
+    def refuse_loops(self, said: Sequence[str]) -> None:
+        self.refuse_conflicts(said)
+        if any("found logic loop" in line for line in said):
+            wires = sorted({match[1] for match in (re.match(r"\s+wire \\(.*)", line) for line in said) if match})
+            raise Trouble(visible(f"there is a loop of gates without a register: {', '.join(wires) or self.top}"))
 
     def place(self, property: Property) -> str:
-        return f"{self.sources.told(property.file)}:{property.line}"
+        return f"{self.sources.users_name(property.file)}:{property.line}"
 
     def assertions(self) -> List[Assertion]:
         """The assertions in the order of the source, each with its bad state."""
-        cells = self.bad_states()
+        bad = self.bad_states()
         asked = [it for it in self.properties if it.kind == "$assert"]
-        by_path = {".".join(it.path): it for it in asked}
-        if set(cells) != set(by_path) or len(by_path) != len(asked):
+        if sorted(bad) != sorted(it.cell for it in asked):
             raise Trouble("which bad state is which assertion cannot be told")
-        order = {name: at for at, name in enumerate(by_path)}
-        places = {name: (self.sources.order(it.file), it.line, it.column, order[name]) for name, it in by_path.items()}
-        return [
-            Assertion(f"{self.top}.{by_path[name].name}", self.place(by_path[name]), cells[name])
-            for name in sorted(cells, key=places.__getitem__)
-        ]
+        # a stable sort: instances stay as they stand in the design
+        asked.sort(key=lambda it: (self.sources.order(it.file), it.line, it.column))
+        return [Assertion(f"{self.top}.{it.name}", self.place(it), bad[it.cell], it.cell) for it in asked]
 
     def bad_states(self) -> Dict[str, int]:
         """The bad state of each assertion, by the name of its cell: in a second model of the same netlist the value of
         each is an input by a name of its own, so nothing depends on Yosys's order."""
-        import aigtools
-
         modules = self.yosys.netlist("final")
-        cells = [name for name, cell in modules[top_of(modules)]["cells"].items() if cell["type"] == "$assert"]
+        top = top_of(modules)
+        cells = [name for name, cell in modules[top]["cells"].items() if cell["type"] == "$assert"]
         if not cells:
             return {}
         value = f"aiger_check_{secrets.token_hex(4)}_"
-        commands = []
+        commands = [f"cd {quoted(top)}"]
         for at, name in enumerate(cells):
-            cell = name if name.startswith("$") else f"\\{name}"
-            commands += [f"add -input {value}{at} 1", f"connect -nomap -port {cell} A {value}{at}"]
-            commands.append(f"connect -nomap -port {cell} EN 1'1")
-        self.yosys.do(f"cd {self.top}", *commands, f"write_aiger -symbols {self.sources.alias}/told.aig")
-        circuit = aigtools.read((self.sources.folder / "told.aig").read_bytes())
-        first = aigtools.read((self.sources.folder / "model.aig").read_bytes())
-        inputs = {circuit.inputs[it.position]: it.name for it in circuit.symbols if it.kind == "i"}
-        gates = {gate.literal: (gate.left, gate.right) for gate in circuit.gates}
-        bad = {}
-        for position, literal in enumerate(circuit.bad):
-            operands = set(gates.get(literal, (literal,))) - {1}
-            name = inputs.get(min(operands) ^ 1, b"").decode(errors="replace") if len(operands) == 1 else ""
-            if not name.startswith(value):
-                raise Trouble("which bad state is which assertion cannot be told")
-            bad[cells[int(name[len(value) :])]] = position
-        if not len(bad) == len(cells) == len(circuit.bad) == len(first.bad):
+            commands.append(f"add -input {value}{at} 1")
+            commands += [f"connect -nomap -port {quoted(name)} {port}" for port in (f"A {value}{at}", "EN 1'1")]
+        self.yosys.do(*commands, f"write_aiger -symbols {self.sources.alias}/told.aig")
+        told, model = (aigtools().read((self.sources.folder / name).read_bytes()) for name in ("told.aig", "model.aig"))
+        which = [told_input(told, literal) for literal in told.bad]
+        wanted = {f"{value}{at}".encode(): bare(name) for at, name in enumerate(cells)}
+        if sorted(which) != sorted(wanted) or len(model.bad) != len(cells):
             raise Trouble("which bad state is which assertion cannot be told")
-        return bad
+        return {wanted[name]: position for position, name in enumerate(which)}
 
 
-WORDS = {"$cover": "a cover", "$live": "liveness", "$fair": "fairness"}
+def told_input(circuit: Any, literal: int) -> bytes:
+    """The name of the input whose negation a literal is, or nothing."""
+    gates = {gate.literal: {gate.left, gate.right} - {1} for gate in circuit.gates}
+    names = {circuit.inputs[it.position]: it.name for it in circuit.symbols if it.kind == "i"}
+    operands = gates.get(literal, {literal})
+    return names.get(min(operands) ^ 1, b"") if len(operands) == 1 else b""
+
+
+@dataclass(frozen=True)
+class Replay:
+    """Replays a counterexample on the design by Yosys's own simulator, as a check of the way from it to the model.
+
+    Of the global clock and of the first step the simulator knows less than the model, so that an assertion does not
+    fail there says something only where neither is used.
+    """
+
+    program: str
+    children: Children
+    folder: Path
+    top: str
+    clock: Optional[str]
+    is_sure: bool
+
+    def shows(self, assertion: Assertion, witness: Path) -> Optional[bool]:
+        """Whether the assertion fails there, or None where this cannot be replayed."""
+        path = witness.with_name("replay.aiw")
+        path.write_text(re.sub(r"(?m)^$", "0", witness.read_text().rstrip("\n")) + "\n")
+        clock = f"-clock {quoted(self.clock)[1:]}" if self.clock else "-multiclock"
+        place = os.path.relpath(path, self.folder)
+        commands = f"read_rtlil prepared.il; sim -q -r {place} -map model.map {clock}"
+        told = self.children.run([self.program, "-q", "-p", commands], self.folder, 60)
+        fails = f"Warning: Assert {self.top}.{assertion.cell} ("
+        if any(line.startswith(fails) for line in told.errors.splitlines()):
+            return True
+        return False if told.status == 0 and self.is_sure else None
 
 
 # ---------------------------------------------------------------- what is given
@@ -1147,25 +1277,25 @@ class Usage(Exception):
 
 class Parser(argparse.ArgumentParser):
     def error(self, message: str) -> None:
-        raise Usage(message)
+        raise Usage(visible(message))
 
 
-def at_least(least: int) -> Any:
+def at_least(least: int, most: int = 1000000) -> Any:
     def number(text: str) -> int:
-        if not re.fullmatch(r"[0-9]+", text) or int(text) < least:
-            raise argparse.ArgumentTypeError(f"not a number from {least} on: {text!r}")
+        if not re.fullmatch(r"[0-9]{1,9}", text) or not least <= int(text) <= most:
+            raise argparse.ArgumentTypeError(f"not a number from {least} to {most}: {text!r}")
         return int(text)
 
     return number
 
 
 def seconds(text: str) -> float:
-    if not re.fullmatch(r"[0-9]*\.?[0-9]+", text) or float(text) <= 0:
+    if not re.fullmatch(r"[0-9]{1,9}(\.[0-9]+)?", text) or float(text) <= 0:
         raise argparse.ArgumentTypeError(f"not a number of seconds: {text!r}")
     return float(text)
 
 
-def parsed(arguments: Sequence[str]) -> argparse.Namespace:
+def parse_arguments(arguments: Sequence[str]) -> argparse.Namespace:
     parser = Parser(prog=PROGRAM, add_help=False, allow_abbrev=False)
     parser.add_argument("--top")
     parser.add_argument("-D", dest="defines", action="append", default=[], metavar="NAME[=VALUE]")
@@ -1173,7 +1303,7 @@ def parsed(arguments: Sequence[str]) -> argparse.Namespace:
     parser.add_argument("--frames", type=at_least(1), default=50)
     parser.add_argument("--time", type=seconds, default=30.0)
     parser.add_argument("--limit", type=seconds, default=300.0)
-    parser.add_argument("--jobs", type=at_least(1), default=len(os.sched_getaffinity(0)))
+    parser.add_argument("--jobs", type=at_least(1, 1000), default=len(os.sched_getaffinity(0)))
     parser.add_argument("-s", "--solver")
     parser.add_argument("--keep")
     for name in ("--json", "--quiet"):
@@ -1181,44 +1311,50 @@ def parsed(arguments: Sequence[str]) -> argparse.Namespace:
     parser.add_argument("-h", "--help", action="store_true")
     parser.add_argument("-V", "--version", action="store_true")
     parser.add_argument("files", nargs="*")
-    return parser.parse_intermixed_args(arguments)
+    # argparse would take what follows -- for options too
+    end = arguments.index("--") if "--" in arguments else len(arguments)
+    given = parser.parse_intermixed_args(arguments[:end])
+    given.files += arguments[end + 1 :]
+    return given
 
 
 SUFFIXES = (".v", ".sv", ".vh", ".svh")
 
 
-def checked(given: argparse.Namespace) -> argparse.Namespace:
+def is_verilog(name: str) -> bool:
+    return name.lower().endswith(SUFFIXES)
+
+
+def check_arguments(given: argparse.Namespace) -> argparse.Namespace:
     """The command line, where it can be meant."""
     if not given.files:
         raise Usage("no file is given")
-    given.verilog = any(name.lower().endswith(SUFFIXES) for name in given.files)
+    if given.keep == "":
+        raise Usage("--keep needs the name of a folder")
+    given.verilog = any(is_verilog(name) for name in given.files)
     if given.verilog:
-        if given.top is None:
-            raise Usage("--top NAME is needed with Verilog files")
-        odd = next((name for name in given.files if not name.lower().endswith(SUFFIXES)), None)
-        if odd:
-            raise Usage(f"not a Verilog file (.v, .sv, .vh or .svh): {visible(odd)}")
-        if re.search(r"[\s;\"'#]", given.top) or not given.top:
-            raise Usage(f"not the name of a module: {visible(given.top)!r}")
-        for define in given.defines:
-            if not re.fullmatch(r"[A-Za-z_][A-Za-z0-9_$]*(=[^\s;#]*)?", define):
-                raise Usage(f"not NAME or NAME=VALUE: -D {visible(define)}")
+        check_verilog_arguments(given)
     elif len(given.files) > 1:
         raise Usage("one AIGER model at a time; Verilog files end in .v, .sv, .vh or .svh")
     elif given.top is not None or given.defines or given.include:
         raise Usage("--top, -D and -I are for Verilog files: .v, .sv, .vh or .svh")
-    if given.frames > 1000000:
-        raise Usage("--frames is at most 1000000")
     return given
 
 
-def readable(names: Iterable[str]) -> None:
-    for name in names:
-        try:
-            with open(name, "rb") as file:
-                file.read(1)
-        except OSError as why:
-            raise Trouble(f"{visible(name)}: {why.strerror}") from why
+def check_verilog_arguments(given: argparse.Namespace) -> None:
+    if given.top is None:
+        raise Usage("--top NAME is needed with Verilog files")
+    other = next((name for name in given.files if not is_verilog(name)), None)
+    if other is not None:
+        raise Usage(f"not a Verilog file (.v, .sv, .vh or .svh): {visible(other)}")
+    if not re.fullmatch(r"[^\s;\"'#\\$][^\s;\"#]*", given.top):
+        raise Usage(f"not the name of a module: {visible(given.top)}")
+    for define in given.defines:
+        if not re.fullmatch(r"[A-Za-z_][A-Za-z0-9_$]*(=[^\n\r]*)?", define):
+            raise Usage(f"not NAME or NAME=VALUE: -D {visible(define)}")
+    for name in given.files:
+        with open(name, "rb") as file:
+            file.read(1)
 
 
 # ---------------------------------------------------------------- what is kept
@@ -1227,32 +1363,27 @@ def readable(names: Iterable[str]) -> None:
 class Keeper:
     """Puts what shows the answers into the user's folder, each file at once."""
 
-    def __init__(self, folder: Path, model: Path, tools: Tools) -> None:
-        self.folder, self.tools = folder, tools
+    def __init__(self, folder: Path, model: Path, aiger: Aiger) -> None:
+        self.folder, self.path, self.aiger = folder, model, aiger
         self.names: Set[str] = set()
-        try:
-            folder.mkdir(parents=True, exist_ok=True)
-        except OSError as why:
-            raise Trouble(f"{visible(str(folder))}: {why.strerror}") from why
-        image = model.read_bytes()
-        self.digest = hashlib.sha256(image).hexdigest()
+        folder.mkdir(parents=True, exist_ok=True)
+        self.digest = hashlib.sha256(model.read_bytes()).hexdigest()
         self.model = f"model-{self.digest[:16]}.aig"
-        self.path = model
-        self.put(self.model, image)
+        self.put(self.model, model.read_bytes())
 
     def put(self, name: str, data: bytes, mode: int = 0o666) -> Path:
         """Writes a file beside its place, and renames it into that."""
-        fresh = self.folder / f".{PROGRAM}-{secrets.token_hex(8)}"
+        place, fresh = self.folder / name, self.folder / f".{PROGRAM}-{secrets.token_hex(8)}"
         try:
             try:
                 with open(os.open(fresh, os.O_WRONLY | os.O_CREAT | os.O_EXCL, mode), "wb") as file:
                     file.write(data)
-                os.replace(fresh, self.folder / name)
+                os.replace(fresh, place)
             finally:
                 fresh.unlink(missing_ok=True)
         except OSError as why:
-            raise Trouble(f"{visible(str(self.folder / name))}: {why.strerror}") from why
-        return self.folder / name
+            raise Trouble(f"{visible(str(place))}: {why.strerror}") from why
+        return place
 
     def name(self, assertion: Assertion) -> str:
         """A name for the files of an assertion, which no other has."""
@@ -1267,14 +1398,13 @@ class Keeper:
     def keep(self, assertion: Assertion, verdict: Verdict) -> None:
         name = self.name(assertion)
         if verdict.witness:
-            verdict.kept = self.put(f"{name}.aiw", verdict.witness.read_bytes())
             waves = verdict.witness.with_suffix(".vcd")
-            told = self.tools.aiger.run(
-                "aigsim", "--witness", "--vcd", self.path, verdict.witness, folder=waves.parent, output=waves
-            )
+            words = ("--witness", "--vcd", self.path, verdict.witness)
+            told = self.aiger.run("aigsim", *words, folder=waves.parent, output=waves)
             if told.status != 0:
                 raise Trouble(aiger_failure(told))
             self.put(f"{name}.vcd", waves.read_bytes())
+            verdict.kept = self.put(f"{name}.aiw", verdict.witness.read_bytes())
         if verdict.refutation:
             self.put(f"{name}.drat", verdict.refutation.read_bytes())
             if verdict.invariant:
@@ -1284,17 +1414,17 @@ class Keeper:
     def script(self, name: str, assertion: Assertion, verdict: Verdict) -> str:
         """Checks the answer again, by aiger alone."""
         how = f"--invariant {name}.pla" if verdict.invariant else f"--frames {verdict.steps}"
-        return "\n".join(
-            [
-                "#!/bin/sh",
-                f"# {assertion}: {verdict}. This ends with 0 exactly if aiger says so again of this model.",
-                'cd "$(dirname "$0")" || exit 2',
-                f'echo "{self.digest}  {self.model}" | sha256sum --check --quiet || exit 1',
-                f'answer=$("${{AIGER:-aiger}}" aigunroll {how} --bad {assertion.bad} --refutation {name}.drat {self.model})',
-                f'[ "$answer" = "{verdict}" ]',
-                "",
-            ]
-        )
+        options = f"{how} --bad {assertion.bad} --refutation {name}.drat"
+        lines = [
+            "#!/bin/sh",
+            f"# {assertion}: {verdict}",
+            "# Ends with 0 exactly if aiger says so again, of the model with this digest.",
+            'cd "$(dirname "$0")" || exit 2',
+            f'echo "{self.digest}  {self.model}" | sha256sum --check --quiet || exit 1',
+            f'answer=$("${{AIGER:-aiger}}" aigunroll {options} {self.model}) || exit 1',
+            f'[ "$answer" = "{verdict}" ]',
+        ]
+        return "\n".join([*lines, ""])
 
 
 # ---------------------------------------------------------------- the run
@@ -1307,115 +1437,149 @@ class Run:
         self.given, self.folder, self.children = given, folder, children
         self.progress = Progress(sys.stderr.isatty() and not given.quiet)
         self.noted: Set[str] = set()
+        self.replay: Optional[Replay] = None
         self.verdicts: List[Tuple[Assertion, Verdict]] = []
 
     def note(self, words: str) -> None:
-        if words not in self.noted:
+        if words not in self.noted and not self.given.quiet:
             self.noted.add(words)
-            if not self.given.quiet:
-                self.progress.clear()
-                say(words)
-
-    def tools(self) -> Tools:
-        given, environment = self.given, os.environ
-        named = environment.get("AIGER") or "aiger"
-        aiger = found(named)
-        if not aiger:
-            raise Trouble(f"not found: {visible(named)}")
-        wanted = given.solver or environment.get("SOLVER") or "cadical"
-        kind = solver_kind(wanted)
-        if not kind:
-            raise Usage(f"not a solver that is known ({', '.join(SOLVERS)}): {visible(wanted)}")
-        solver = found(wanted)
-        if not solver:
-            self.note(f"not found: {visible(wanted)}; so no answer is by a SAT solver")
-        elif kind in ("minisat", "picosat"):
-            self.note(f"{kind} writes no refutation, so nothing is shown to be never, or none within a bound")
-        names = [environment["ABC"]] if environment.get("ABC") else ["berkeley-abc", "abc"]
-        abc = found(*names)
-        if not abc:
-            self.note(f"not found: {visible(names[0])}; so no invariant is looked for")
-        if not solver and not abc:
-            raise Trouble("neither a SAT solver nor ABC was found")
-        return Tools(
-            Aiger(aiger, self.children, max(given.limit, 60.0)),
-            Solver(kind, solver, self.children) if solver else None,
-            Abc(abc, self.children) if abc else None,
-            Limits(given.frames, given.time, given.limit),
-        )
+            self.progress.clear()
+            say(words)
 
     def status(self) -> int:
         """Checks all assertions, and gives the status of the program."""
-        readable(self.given.files)
         tools = self.tools()
-        model, assertions = self.of_verilog(tools) if self.given.verilog else self.of_aiger(tools)
-        keeper = Keeper(Path(self.given.keep), model.path, tools) if self.given.keep is not None else None
+        model, assertions = self.of_verilog() if self.given.verilog else self.of_aiger(tools.aiger)
+        self.note_contradiction(model, tools)
+        keeper = Keeper(Path(self.given.keep), model.path, tools.aiger) if self.given.keep is not None else None
+        searches = [
+            Search(assertion, model, tools, self.folder / str(at), self.progress)
+            for at, assertion in enumerate(assertions)
+        ]
         with ThreadPoolExecutor(self.given.jobs) as pool:
-            searches = [
-                Search(assertion, model, tools, self.folder / str(at), self.progress)
-                for at, assertion in enumerate(assertions)
-            ]
-            for search, verdict in zip(searches, pool.map(self.searched, searches)):
-                for words in search.notes:
-                    self.note(words)
-                if keeper:
-                    keeper.keep(search.assertion, verdict)
-                self.verdicts.append((search.assertion, verdict))
-                self.progress.clear()
-                if not self.given.json:
-                    show(f"{search.assertion}: {verdict}")
+            try:
+                for search, verdict in zip(searches, pool.map(self.answer, searches)):
+                    self.tell(search, verdict, keeper)
+            except BaseException:
+                self.children.stop()
+                raise
         show(json.dumps({"assertions": [*self.records()]}) if self.given.json else self.summary())
-        return self.final_status()
+        answers = {verdict.answer for _, verdict in self.verdicts}
+        if Answer.REACHED in answers:
+            return 1
+        return 2 if not answers or Answer.UNKNOWN in answers else 0
 
-    def searched(self, search: Search) -> Verdict:
-        try:
-            return search.verdict()
-        except (Trouble, Stopped):
-            self.children.stop()
-            raise
+    def answer(self, search: Search) -> Verdict:
+        """The answer for an assertion; a counterexample is replayed."""
+        verdict = search.verdict()
+        if verdict.witness and self.replay and not self.given.quiet:
+            shown = self.replay.shows(search.assertion, verdict.witness)
+            if shown is not None:
+                words = "fails in Yosys's replay too" if shown else "does not fail in Yosys's replay"
+                search.notes.append(f"{search.assertion} {words}")
+        return verdict
 
-    def of_verilog(self, tools: Tools) -> Tuple[Model, List[Assertion]]:
-        named = os.environ.get("YOSYS") or "yosys"
-        program = found(named)
+    def tell(self, search: Search, verdict: Verdict, keeper: Optional[Keeper]) -> None:
+        for words in search.notes:
+            self.note(words)
+        if keeper:
+            keeper.keep(search.assertion, verdict)
+        shutil.rmtree(search.folder, ignore_errors=True)
+        self.verdicts.append((search.assertion, verdict))
+        self.progress.clear()
+        if not self.given.json:
+            show(f"{search.assertion}: {verdict}")
+
+    def tools(self) -> Tools:
+        """The programs; what is missing is told."""
+        given = self.given
+        aiger, solver, abc = self.program("AIGER", "aiger"), self.solver(), self.abc()
+        if not aiger:
+            raise Trouble(f"not found: {visible(os.environ.get('AIGER') or 'aiger')}")
+        if not solver and not abc:
+            raise Trouble("neither a SAT solver nor ABC was found")
+        limits = Limits(given.frames, given.time, given.limit)
+        return Tools(Aiger(aiger, self.children, max(given.limit, 60.0)), solver, abc, limits)
+
+    def program(self, variable: str, *names: str) -> Optional[str]:
+        named = os.environ.get(variable)
+        return path_of(*([named] if named else names))
+
+    def solver(self) -> Optional[Solver]:
+        wanted = self.given.solver or os.environ.get("SOLVER") or "cadical"
+        kind = solver_kind(wanted)
+        if not kind:
+            raise Usage(f"not a solver that is known ({', '.join(SOLVERS)}): {visible(wanted)}")
+        program = path_of(wanted)
         if not program:
-            raise Trouble(f"not found: {visible(named)}")
+            self.note(f"not found: {visible(wanted)}; without a SAT solver ABC's counterexamples alone are answers")
+            return None
+        if kind in NO_REFUTATION:
+            self.note(f"{kind} writes no refutation, as cadical does: no answer is never, or none within a bound")
+        return Solver(kind, program, self.children)
+
+    def abc(self) -> Optional[Abc]:
+        program = self.program("ABC", "berkeley-abc", "abc")
+        if not program:
+            wanted = os.environ.get("ABC") or "berkeley-abc"
+            self.note(f"not found: {visible(wanted)}; without ABC there is no invariant, and runs are bounded")
+        return Abc(program, self.children) if program else None
+
+    def of_verilog(self) -> Tuple[Model, List[Assertion]]:
+        """The model that Yosys writes."""
+        program = self.program("YOSYS", "yosys")
+        if not program:
+            raise Trouble(f"not found: {visible(os.environ.get('YOSYS') or 'yosys')}")
         place = self.folder / "verilog"
         place.mkdir()
-        sources = Sources(self.given.files, self.given.include, place)
+        sources = Sources(self.given.files, self.given.include, self.given.defines, place)
         try:
             with Yosys(program, self.children, sources) as yosys:
-                front = Front(yosys, self.given.top, self.given.defines)
+                front = Front(yosys, self.given.top)
                 assertions = front.translate()
         finally:
             sources.close()
-        for line in yosys.said:
-            if "Warning: " in line:
-                self.note(f"Yosys: {visible(sources.reworded(line))}")
-        for words in front.notes:
+        for words in (*(f"Yosys: {line}" for line in yosys.warnings()), *front.notes):
             self.note(words)
         if not assertions:
-            self.note("there is no assertion")
-        return self.model(place / "model.aig"), assertions
+            self.must_say("there is no assertion")
+        self.replay = Replay(program, self.children, place, self.given.top, front.clock, front.replays)
+        return Model(place / "model.aig"), assertions
 
-    def of_aiger(self, tools: Tools) -> Tuple[Model, List[Assertion]]:
+    def of_aiger(self, aiger: Aiger) -> Tuple[Model, List[Assertion]]:
+        """The model that is given, in binary and without justice and fairness, of which nothing is said here."""
         name = self.given.files[0]
         given, path = self.folder / "given", self.folder / "model.aig"
-        shutil.copyfile(name, given)
-        failure = tools.aiger.to_binary(given, path)
+        with open(name, "rb") as file:
+            given.write_bytes(file.read())
+        failure = aiger.to_binary(given, path)
         if failure:
-            raise Trouble(re.sub(r"^line (\d+): ", r"\1: ", f"{failure}").join([f"{visible(name)}:", ""]))
-        model = self.model(path)
-        circuit = model.circuit
-        names = {it.position: it.name.decode(errors="surrogateescape") for it in circuit.symbols if it.kind == "b"}
+            raise Trouble(visible(f"{name}:{re.sub(r'^line ([0-9]+): ', r'{0}: ', failure)}"))
+        circuit = aigtools().read(path.read_bytes())
+        if circuit.justice_sizes or circuit.fairness:
+            self.note(f"{visible(name)}: justice properties and fairness constraints are left out")
+            path.write_bytes(without_justice(circuit).write())
         if not circuit.bad:
-            hint = "; its outputs are: see aiger aigtoaig --outputs-as-bad" if circuit.outputs else ""
-            self.note(f"{visible(name)}: there is no bad state{hint}")
-        return model, [Assertion(names.get(at, f"b{at}"), name, at) for at in range(len(circuit.bad))]
+            hint = "; of its outputs aiger aigtoaig --outputs-as-bad makes some" if circuit.outputs else ""
+            self.must_say(f"{visible(name)}: there is no bad state{hint}")
+        names = {it.position: it.name.decode(errors="surrogateescape") for it in circuit.symbols if it.kind == "b"}
+        return Model(path), [Assertion(names.get(at, f"b{at}"), name, at) for at in range(len(circuit.bad))]
 
-    def model(self, path: Path) -> Model:
-        import aigtools
+    def must_say(self, words: str) -> None:
+        """What is told even with --quiet, since the status is 2."""
+        say(words)
 
-        return Model(path, aigtools.read(path.read_bytes()))
+    def note_contradiction(self, model: Model, tools: Tools) -> None:
+        """Tells if no first step keeps all constraints: then nothing is ever reached."""
+        circuit = model.circuit
+        if not circuit.constraints or not circuit.bad or not tools.solver or self.given.quiet:
+            return
+        parts = {name: getattr(circuit, name) for name in ("max_var", "inputs", "latches", "constraints", "gates")}
+        path, clauses = self.folder / "first.aig", self.folder / "first.cnf"
+        path.write_bytes(aigtools().Circuit(bad=[1], **parts).write())
+        told = tools.aiger.run("aigunroll", "--frames", 1, "--cnf", path, clauses, folder=self.folder)
+        if told.status == 0 and tools.solver.solve(clauses, tools.limits.time)[0] is Said.UNSATISFIABLE:
+            self.note("the assumptions contradict one another in the first step, so no run breaks anything")
 
     def records(self) -> Iterator[Dict[str, Any]]:
         for assertion, verdict in self.verdicts:
@@ -1433,11 +1597,11 @@ class Run:
         head = f"{len(answers)} assertion{'' if len(answers) == 1 else 's'}"
         return f"{head}: {', '.join(counts)}" if counts else head
 
-    def final_status(self) -> int:
-        answers = {verdict.answer for _, verdict in self.verdicts}
-        if Answer.REACHED in answers:
-            return 1
-        return 2 if not answers or Answer.UNKNOWN in answers else 0
+
+def without_justice(circuit: Any) -> Any:
+    circuit.justice_sizes = circuit.justice_literals = circuit.fairness = ()
+    circuit.symbols = [it for it in circuit.symbols if it.kind not in "jf"]
+    return circuit
 
 
 def say(words: str) -> None:
@@ -1445,7 +1609,14 @@ def say(words: str) -> None:
 
 
 def show(line: str) -> None:
-    print(line, flush=True)
+    """Writes a line to the standard output; if that fails, nobody has the answers."""
+    try:
+        if not sys.stdout:
+            raise OSError(errno.EBADF, os.strerror(errno.EBADF))
+        print(line, flush=True)
+    except OSError as why:
+        sys.stdout = open(os.devnull, "w")
+        raise Trouble(f"standard output: {why.strerror}") from why
 
 
 SIGNALS = (signal.SIGINT, signal.SIGTERM, signal.SIGHUP)
@@ -1464,29 +1635,43 @@ def end_by(number: int, _: Any) -> None:
 
 
 def work(given: argparse.Namespace) -> int:
-    """Runs in a thread of its own, so that a signal breaks off nothing but the wait for it."""
+    """Runs in a thread of its own, so that a signal breaks off nothing but the wait for it, and leaves nothing."""
     children = Children()
-    folder = Path(tempfile.mkdtemp(prefix=f"{PROGRAM}-"))
+    signal.pthread_sigmask(signal.SIG_BLOCK, SIGNALS)
+    folder = Path(tempfile.mkdtemp(prefix=f"{PROGRAM}-")).resolve()
     with ThreadPoolExecutor(1) as alone:
         try:
-            for number in SIGNALS:
-                signal.signal(number, end_by)
-            return alone.submit(Run(given, folder, children).status).result()
+            running = alone.submit(Run(given, folder, children).status)
+            signal.pthread_sigmask(signal.SIG_UNBLOCK, SIGNALS)
+            return running.result()
         finally:
-            for number in SIGNALS:
-                signal.signal(number, signal.SIG_IGN)
+            signal.pthread_sigmask(signal.SIG_BLOCK, SIGNALS)
             children.stop()
             alone.shutdown()
             shutil.rmtree(folder, ignore_errors=True)
 
 
+def open_descriptors() -> None:
+    """Opens the null device for what is closed of the first three, so that no other file takes its place."""
+    while True:
+        descriptor = os.open(os.devnull, os.O_RDWR)
+        if descriptor > 2:
+            os.close(descriptor)
+            return
+
+
 def main(arguments: Sequence[str]) -> int:
+    open_descriptors()
+    sys.stderr = sys.stderr or open(os.devnull, "w")
     try:
-        given = parsed(arguments)
+        for number in SIGNALS:
+            if signal.getsignal(number) is not signal.SIG_IGN:
+                signal.signal(number, end_by)
+        given = parse_arguments(arguments)
         if given.help or given.version:
-            sys.stdout.write(HELP if given.help else f"{PROGRAM} {VERSION}\n")
+            show(HELP.rstrip("\n") if given.help else f"{PROGRAM} {VERSION}")
             return 0
-        return work(checked(given))
+        return work(check_arguments(given))
     except Usage as why:
         say(f"{why}\nTry '{PROGRAM} --help'.")
     except Trouble as why:
@@ -1494,7 +1679,11 @@ def main(arguments: Sequence[str]) -> int:
     except Ended as why:
         return 128 + why.number
     except OSError as why:
-        say(f"{visible(str(why.filename))}: {why.strerror}" if why.filename else str(why.strerror))
+        say(f"{visible(os.fsdecode(why.filename))}: {why.strerror}" if why.filename else str(why.strerror))
+    except MemoryError:
+        say("out of memory")
+    except Exception as why:  # whatever it is, status 1 would say that an assertion is broken
+        say(f"internal error: {type(why).__name__}: {visible(str(why))}")
     return 2
 
 
