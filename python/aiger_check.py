@@ -312,7 +312,7 @@ class Solver:
         """Asks for an answer to clauses: it comes beside them, in .answer, and a refutation in .drat."""
         answer, proof = clauses.with_suffix(".answer"), clauses.with_suffix(".drat")
         for path in (answer, proof):
-            path.unlink(missing_ok=True)
+            discard(path)
         arguments = {
             "cadical": ["-q", clauses.name, proof.name],
             "kissat": ["-q", clauses.name, proof.name],
@@ -327,6 +327,14 @@ class Solver:
             drat_of_frat(clauses.with_name("proof.frat"), proof)
         said = next((said for said in Said if said.value == told.status), Said.NOTHING)
         return (Said.NOTHING if told.late else said), told
+
+
+def discard(path: Path) -> None:
+    """Removes what a program has made there, whatever it is."""
+    if path.is_dir() and not path.is_symlink():
+        shutil.rmtree(path, ignore_errors=True)
+    else:
+        path.unlink(missing_ok=True)
 
 
 def minisat_answer(result: Path) -> bytes:
@@ -536,7 +544,7 @@ class Abc:
         """Reads the circuit, gives a command, and writes the counterexample if there is one."""
         (folder / "abc.aig").write_bytes(circuit.circuit.write())
         for name in ("abc.pla", "abc.cex"):
-            (folder / name).unlink(missing_ok=True)
+            discard(folder / name)
         commands = f"read_aiger abc.aig; {command} -T {max(1, round(seconds))}; write_cex -a abc.cex"
         return self.children.run([self.program, "-q", commands], folder, seconds + 1)
 
@@ -696,7 +704,7 @@ class Search:
         said = self.ask(name, what, "--frames", count)
         if said is Said.UNSATISFIABLE:
             if self.refuted:
-                (self.folder / f"within{self.refuted}.drat").unlink(missing_ok=True)
+                discard(self.folder / f"within{self.refuted}.drat")
             self.refuted = count
         if said is not Said.SATISFIABLE:
             return said, None
@@ -1031,6 +1039,7 @@ def top_of(modules: Dict[str, Any]) -> str:
 
 
 REGISTERS = {"$dff", "$dffe", "$adff", "$adffe", "$aldff", "$aldffe", "$dffsr", "$dffsre", "$sdff", "$sdffe", "$sdffce"}
+ASYNCHRONOUS = re.compile(r"\$(?:adffe?|aldffe?|dffsre?)|\$_(?:DFFE?_[NP][NP][01][NP]?|ALDFFE?_.*|DFFSRE?_.*)_?")
 REGISTER_GATE = re.compile(r"\$_(?:DFF|DFFE|SDFF|SDFFE|SDFFCE|ALDFF|ALDFFE|DFFSR|DFFSRE)_([NP]).*")
 LATCH = re.compile(r"\$(?:a?dlatch|dlatchsr|sr)|\$_(?:DLATCH|DLATCHSR|SR)_.*")
 
