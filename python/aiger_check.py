@@ -417,31 +417,81 @@ class Column(NamedTuple):
     wanted: int = 0
 
 
+class Part:
+    """A bad state of a model with what it depends on, over any number of steps, and with the constraints."""
+
+    def __init__(self, model: Model, bad: int) -> None:
+        self.model, self.bad, circuit = model, bad, model.circuit
+        self.needed = model.cone([circuit.bad[bad], *circuit.constraints])
+        self.inputs = [at for at, literal in enumerate(circuit.inputs) if self.needed[literal >> 1]]
+        self.latches = [at for at, latch in enumerate(model.latches) if self.needed[latch.literal >> 1]]
+
+    def circuit(self) -> Any:
+        """It as a model of its own."""
+        circuit, now, variable, gates = self.model.circuit, array("I", bytes(4 * len(self.needed))), 1, array("I")
+        literals = [circuit.inputs[at] for at in self.inputs]
+        literals += [self.model.latches[at].literal for at in self.latches]
+        for variable, literal in enumerate(literals, 1):
+            now[literal >> 1] = 2 * variable
+        variable = len(literals)
+        for literal, left, right in circuit.gates:
+            if self.needed[literal >> 1]:
+                variable += 1
+                now[literal >> 1] = 2 * variable
+                gates.extend((2 * variable, now[left >> 1] ^ left & 1, now[right >> 1] ^ right & 1))
+        latches = []
+        for literal, later, reset in (self.model.latches[at] for at in self.latches):
+            here = now[literal >> 1]
+            latches.append((here, now[later >> 1] ^ later & 1, reset if reset < 2 else here))
+        bad, *constraints = (now[it >> 1] ^ it & 1 for it in (circuit.bad[self.bad], *circuit.constraints))
+        return aigtools().Circuit(
+            max_var=variable,
+            inputs=range(2, 2 * len(self.inputs) + 2, 2),
+            latches=latches,
+            bad=[bad],
+            constraints=constraints,
+            gates=aigtools().Entries(aigtools().Gate, gates),
+        )
+
+    def witness(self, state: Dict[int, str], steps: Iterable[str]) -> str:
+        """A witness for the model, by first values of latches, and by the inputs of the part in each step."""
+        resets = (str(latch.reset) if latch.reset < 2 else "0" for latch in self.model.latches)
+        lines = ["1", f"b{self.bad}", "".join(state.get(at, reset) for at, reset in enumerate(resets))]
+        for step in steps:
+            line = ["0"] * len(self.model.circuit.inputs)
+            for at, value in zip(self.inputs, step):
+                line[at] = value
+            lines.append("".join(line))
+        return "\n".join([*lines, ".", ""])
+
+    def widened(self, text: str) -> str:
+        """A witness for the model, by one for the part."""
+        _, _, state, *steps = text.split("\n")
+        return self.witness(dict(zip(self.latches, state)), steps[: steps.index(".")])
+
+
 BEGUN = Column(None, wanted=1)
 FAILED = Column(None, wanted=0)
 
 
 class ForAbc:
-    """A bad state of a model as a circuit for ABC: what it depends on, with one output, without constraints, and with
-    latches that all start at 0.
+    """A part of a model as a circuit for ABC: with one output, without constraints, and with latches that all start at
+    0.
 
     A latch that starts at 1 is stored negated. If one is uninitialised, a latch is added that is 1 behind the first
     step, and this step gives all others what they start at, by an input more where that is open. Constraints are
     folded into the output, by a latch that is 1 once one of them has failed.
     """
 
-    def __init__(self, model: Model, bad: int) -> None:
-        self.model, circuit = model, model.circuit
-        needed = model.cone([circuit.bad[bad], *circuit.constraints])
-        self.inputs = [at for at, literal in enumerate(circuit.inputs) if needed[literal >> 1]]
-        self.latches = [at for at, latch in enumerate(model.latches) if needed[latch.literal >> 1]]
-        self.open = [at for at in self.latches if model.latches[at].reset > 1]
+    def __init__(self, part: Part) -> None:
+        self.part, self.model, self.inputs = part, part.model, part.inputs
+        resets = [part.model.latches[at].reset for at in part.latches]
+        self.open = [at for at, reset in zip(part.latches, resets) if reset > 1]
         # ABC takes no circuit without latches
-        self.begins = bool(self.open) or not self.latches
-        self.columns = [BEGUN] * self.begins + [FAILED] * bool(circuit.constraints)
-        for at in self.latches:
-            self.columns.append(Column(at, int(model.latches[at].reset == 1 and not self.begins)))
-        self.circuit = self.make(needed, bad)
+        self.begins = bool(self.open) or not part.latches
+        self.columns = [BEGUN] * self.begins + [FAILED] * bool(part.model.circuit.constraints)
+        self.columns += [Column(at, int(reset == 1 and not self.begins)) for at, reset in zip(part.latches, resets)]
+        self.circuit = self.make(part.needed, part.bad)
 
     def make(self, needed: bytearray, bad: int) -> Any:
         circuit = self.model.circuit
@@ -508,21 +558,13 @@ class ForAbc:
                 made.append("".join(line))
         return made
 
-    def witness(self, bad: int, lines: Sequence[str]) -> Optional[str]:
+    def witness(self, lines: Sequence[str]) -> Optional[str]:
         """A witness for the model, by a counterexample of ABC: a line for the first state, and one for each step."""
         steps, width = lines[1:], len(self.circuit.inputs)
         if not steps or any(len(step) != width or set(step) - set("01") for step in steps):
             return None
-        first = dict(zip(self.open, steps[0][len(self.inputs) :]))
-        resets = [str(latch.reset) if latch.reset < 2 else "0" for latch in self.model.latches]
-        state = [first.get(at, reset) for at, reset in enumerate(resets)]
-        made = ["1", f"b{bad}", "".join(state)]
-        for step in steps[1:] if self.begins else steps:
-            line = ["0"] * len(self.model.circuit.inputs)
-            for at, value in zip(self.inputs, step):
-                line[at] = value
-            made.append("".join(line))
-        return "\n".join([*made, ".", ""])
+        state = dict(zip(self.open, steps[0][len(self.inputs) :]))
+        return self.part.witness(state, steps[1:] if self.begins else steps)
 
 
 class Shown(NamedTuple):
@@ -548,23 +590,23 @@ class Abc:
         commands = f"read_aiger abc.aig; {command} -T {max(1, round(seconds))}; write_cex -a abc.cex"
         return self.children.run([self.program, "-q", commands], folder, seconds + 1)
 
-    def pdr(self, circuit: ForAbc, bad: int, folder: Path, seconds: float) -> Shown:
+    def pdr(self, circuit: ForAbc, folder: Path, seconds: float) -> Shown:
         """An invariant, or a run of any length."""
         told = self.run("pdr -d -e -I abc.pla", circuit, folder, seconds)
         if re.search(r"^Property proved", told.output, re.MULTILINE):
             rows = read_rows(folder / "abc.pla", len(circuit.columns))
             return Shown(reason="ABC's invariant cannot be read") if rows is None else Shown(circuit.invariant(rows))
         if self.is_broken(told):
-            witness = circuit.witness(bad, read_counterexample(folder / "abc.cex"))
+            witness = circuit.witness(read_counterexample(folder / "abc.cex"))
             return Shown(witness=witness, reason="ABC's counterexample cannot be read")
         if told.late or told.status == 0 and told.seconds >= seconds - 1:
             return Shown(reason=f"no invariant in {seconds:g} s")
         return Shown(reason="ABC finds no invariant" if told.status == 0 else "ABC failed")
 
-    def shortest(self, circuit: ForAbc, bad: int, folder: Path, seconds: float, frames: int) -> Optional[str]:
+    def shortest(self, circuit: ForAbc, folder: Path, seconds: float, frames: int) -> Optional[str]:
         """A witness that is the shortest, of so many steps at most."""
         told = self.run(f"bmc3 -F {frames + circuit.begins}", circuit, folder, seconds)
-        return circuit.witness(bad, read_counterexample(folder / "abc.cex")) if self.is_broken(told) else None
+        return circuit.witness(read_counterexample(folder / "abc.cex")) if self.is_broken(told) else None
 
     def is_broken(self, told: Finished) -> bool:
         return bool(re.search(r"^Output 0 of miter .* was asserted in frame \d+", told.output, re.MULTILINE))
@@ -623,11 +665,23 @@ def steps_up_to(most: int) -> List[int]:
 FEW = 4
 
 
+class Target(NamedTuple):
+    """A bad state of a file, of which something is asked."""
+
+    path: Path
+    bad: int
+
+
 class Search:
-    """Finds the answer for one assertion, in a folder of its own."""
+    """Finds the answer for one assertion, in a folder of its own.
+
+    Runs are looked for in what the assertion depends on, which may be far less than the model; but what is answered is
+    shown of the model.
+    """
 
     def __init__(self, assertion: Assertion, model: Model, tools: Tools, folder: Path, progress: "Progress") -> None:
-        self.assertion, self.model, self.tools, self.folder, self.progress = assertion, model, tools, folder, progress
+        self.assertion, self.tools, self.folder, self.progress = assertion, tools, folder, progress
+        self.model, self.whole = model, Target(model.path, assertion.bad)
         self.left = tools.limits.limit
         self.refuted = 0
         self.reasons: List[str] = []
@@ -635,7 +689,9 @@ class Search:
 
     def verdict(self) -> Verdict:
         self.folder.mkdir()
-        self.for_abc = ForAbc(self.model, self.assertion.bad)
+        self.part = Part(self.model, self.assertion.bad)
+        self.smaller = Target(self.folder / "part.aig", 0)
+        self.smaller.path.write_bytes(self.part.circuit().write())
         steps = steps_up_to(self.tools.limits.frames)
         few = sum(count <= FEW for count in steps)
         return (
@@ -652,16 +708,16 @@ class Search:
         if reason not in self.reasons:
             self.reasons.append(reason)
 
-    def unroll(self, *options: Any) -> Finished:
-        return self.tools.aiger.run("aigunroll", *options, "--bad", self.assertion.bad, folder=self.folder)
+    def unroll(self, target: Target, *options: Any) -> Finished:
+        return self.tools.aiger.run("aigunroll", "--bad", target.bad, *options, folder=self.folder)
 
-    def ask(self, name: str, what: str, *options: Any) -> Said:
+    def ask(self, target: Target, name: str, what: str, *options: Any) -> Said:
         """What the solver says of the clauses that aiger writes by these options; if nothing, the reason is noted."""
         solver, limit, clauses = self.tools.solver, self.tools.limits.limit, self.folder / f"{name}.cnf"
         if self.left <= 0:
             self.fails(f"no answer for {what} in {limit:g} s")
             return Said.NOTHING
-        told = self.unroll(*options, "--cnf", self.model.path, clauses)
+        told = self.unroll(target, *options, "--cnf", target.path, clauses)
         if told.status != 0:
             self.fails(aiger_failure(told).replace(f"{self.folder}/", ""))
             return Said.NOTHING
@@ -673,12 +729,12 @@ class Search:
         return said
 
     def is_shown(self, claim: str, name: str, *options: Any) -> bool:
-        """Whether aiger says this by the solver's refutation; if not, the reason is noted."""
+        """Whether aiger says this of the model by the solver's refutation; if not, the reason is noted."""
         solver = self.tools.solver
         if not solver.refutes:
             self.fails(f"{solver.kind} writes no refutation, as cadical does")
             return False
-        told = self.unroll(*options, "--refutation", self.folder / f"{name}.drat", self.model.path)
+        told = self.unroll(self.whole, *options, "--refutation", self.folder / f"{name}.drat", self.whole.path)
         if told.status == 0 and told.output == f"{claim}\n":
             return True
         late = f"the refutation of {solver.kind} was not checked in {told.seconds:.0f} s"
@@ -700,20 +756,28 @@ class Search:
     def within(self, count: int) -> Tuple[Said, Optional[Path]]:
         """What the solver says of runs of at most so many steps, and the witness that follows from its answer."""
         self.progress.tell(self.assertion, f"{count} steps")
-        name, what = f"within{count}", f"{count} steps"
-        said = self.ask(name, what, "--frames", count)
+        name, what = f"part{count}", f"{count} steps"
+        said = self.ask(self.smaller, name, what, "--frames", count)
+        discard(self.folder / f"{name}.drat")
         if said is Said.UNSATISFIABLE:
-            if self.refuted:
-                discard(self.folder / f"within{self.refuted}.drat")
             self.refuted = count
         if said is not Said.SATISFIABLE:
             return said, None
-        answer, witness = self.folder / f"{name}.answer", self.folder / f"{name}.aiw"
-        told = self.unroll("--frames", count, "--answer", answer, self.model.path, witness)
-        if told.status == 0 and self.step(witness) is not None:
-            return said, witness
-        self.fails(f"the answer of {self.tools.solver.kind} for {what} is wrong")
-        return Said.NOTHING, None
+        answer, smaller = self.folder / f"{name}.answer", self.folder / f"{name}.aiw"
+        told = self.unroll(self.smaller, "--frames", count, "--answer", answer, self.smaller.path, smaller)
+        witness = self.written(self.part.widened(smaller.read_text())) if told.status == 0 else None
+        if not witness:
+            self.fails(f"the answer of {self.tools.solver.kind} for {what} is wrong")
+            return Said.NOTHING, None
+        return said, witness
+
+    def written(self, text: Optional[str]) -> Optional[Path]:
+        """The file of a witness, if it is one."""
+        if not text:
+            return None
+        path = self.folder / f"run{secrets.token_hex(4)}.aiw"
+        path.write_text(text)
+        return path if self.step(path) is not None else None
 
     def step(self, witness: Path) -> Optional[int]:
         return self.tools.aiger.confirmed(self.model.path, witness)
@@ -733,7 +797,11 @@ class Search:
         return Verdict(Answer.REACHED, steps=step, witness=witness)
 
     def is_none_within(self, count: int) -> bool:
-        return self.is_shown(f"none within {count}", f"within{count}", "--frames", count)
+        """Whether there is no run of at most so many steps: that is shown of the model."""
+        name, options = f"within{count}", ("--frames", count)
+        if self.tools.solver.refutes and self.ask(self.whole, name, f"{count} steps", *options) is not Said.UNSATISFIABLE:
+            return False
+        return self.is_shown(f"none within {count}", name, *options)
 
     def none_within(self) -> Optional[Verdict]:
         count = self.tools.limits.frames
@@ -745,15 +813,16 @@ class Search:
 
     def without_latches(self) -> Optional[Verdict]:
         """An assertion that depends on no latch never fails if no step breaks it, which needs no invariant."""
-        return self.by_invariant([]) if self.tools.solver and not self.for_abc.latches else None
+        return self.by_invariant([]) if self.tools.solver and not self.part.latches else None
 
     def by_abc(self) -> Optional[Verdict]:
         """What ABC's pdr shows: an invariant, or a run."""
-        abc, limits, bad = self.tools.abc, self.tools.limits, self.assertion.bad
+        abc, limits = self.tools.abc, self.tools.limits
         if not abc:
             return None
         self.progress.tell(self.assertion, "pdr")
-        shown = abc.pdr(self.for_abc, bad, self.folder, limits.time)
+        circuit = ForAbc(self.part)
+        shown = abc.pdr(circuit, self.folder, limits.time)
         if shown.rows is not None:
             reasons = len(self.reasons)
             verdict = self.by_invariant(shown.rows)
@@ -765,17 +834,9 @@ class Search:
             self.fails("ABC's counterexample is wrong" if shown.witness else shown.reason)
             return None
         if not self.tools.solver:
-            shorter = abc.shortest(self.for_abc, bad, self.folder, limits.time, self.step(witness) + 1)
+            shorter = abc.shortest(circuit, self.folder, limits.time, self.step(witness) + 1)
             witness = self.written(shorter) or witness
         return self.shortest(witness)
-
-    def written(self, text: Optional[str]) -> Optional[Path]:
-        """The file of ABC's witness, if it is one."""
-        if not text:
-            return None
-        path = self.folder / f"abc{len(text)}.aiw"
-        path.write_text(text)
-        return path if self.step(path) is not None else None
 
     def by_invariant(self, rows: Sequence[str]) -> Optional[Verdict]:
         """Whether the invariant, which is not believed, shows that no run breaks the assertion."""
@@ -785,7 +846,7 @@ class Search:
         invariant = self.folder / "never.pla"
         invariant.write_text("".join(f"{row} 1\n" for row in rows))
         options = ("--invariant", invariant)
-        if self.ask("never", "an invariant", *options) is not Said.UNSATISFIABLE:
+        if self.ask(self.whole, "never", "an invariant", *options) is not Said.UNSATISFIABLE:
             return None
         if not self.is_shown("never", "never", *options):
             return None
