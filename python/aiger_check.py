@@ -25,7 +25,7 @@ import tempfile
 import threading
 import time
 from array import array
-from concurrent.futures import ThreadPoolExecutor
+from concurrent.futures import Future, ThreadPoolExecutor, wait
 from dataclasses import dataclass
 from pathlib import Path
 from typing import Any, Dict, Iterable, Iterator, List, NamedTuple, Optional, Sequence, Set, Tuple
@@ -72,8 +72,11 @@ All behind it is: each answer is one that aiger, a proved program, gave of the
 model that Yosys wrote. What ABC and the solver say is checked.
 
 With --keep a script NAME.check.sh checks a never or a none within K again, by
-aiger alone. Of a design with one clock, rising, a step is one of that clock.
-Else it is one of a global clock, and a note says so.
+aiger alone.
+
+Of a design with one clock, which rises, a step is one of that clock. Else it is
+one of a global clock, and a note says so. An assertion in a clocked block
+counts in the step after.
 
 minisat and picosat write no refutation that is read here, so with these there
 is no never and no none within K.
@@ -106,6 +109,7 @@ class Stopped(Exception):
 @functools.lru_cache(maxsize=None)
 def aigtools() -> Any:
     """The module of circuits as arrays, which is loaded where it is needed: --help does not want its library."""
+    sys.dont_write_bytecode = True
     try:
         return importlib.import_module("aigtools")
     except (ImportError, OSError) as why:
@@ -799,8 +803,9 @@ class Search:
     def is_none_within(self, count: int) -> bool:
         """Whether there is no run of at most so many steps: that is shown of the model."""
         name, options = f"within{count}", ("--frames", count)
-        if self.tools.solver.refutes and self.ask(self.whole, name, f"{count} steps", *options) is not Said.UNSATISFIABLE:
-            return False
+        if self.tools.solver.refutes:
+            if self.ask(self.whole, name, f"{count} steps", *options) is not Said.UNSATISFIABLE:
+                return False
         return self.is_shown(f"none within {count}", name, *options)
 
     def none_within(self) -> Optional[Verdict]:
@@ -1100,7 +1105,7 @@ def top_of(modules: Dict[str, Any]) -> str:
 
 
 REGISTERS = {"$dff", "$dffe", "$adff", "$adffe", "$aldff", "$aldffe", "$dffsr", "$dffsre", "$sdff", "$sdffe", "$sdffce"}
-ASYNCHRONOUS = re.compile(r"\$(?:adffe?|aldffe?|dffsre?)|\$_(?:DFFE?_[NP][NP][01][NP]?|ALDFFE?_.*|DFFSRE?_.*)_?")
+ASYNCHRONOUS = re.compile(r"\$(?:adffe?|aldffe?|dffsre?)|\$_(?:DFFE?_[NP][NP][01][NP]?_|ALDFFE?_.*|DFFSRE?_.*)")
 REGISTER_GATE = re.compile(r"\$_(?:DFF|DFFE|SDFF|SDFFE|SDFFCE|ALDFF|ALDFFE|DFFSR|DFFSRE)_([NP]).*")
 LATCH = re.compile(r"\$(?:a?dlatch|dlatchsr|sr)|\$_(?:DLATCH|DLATCHSR|SR)_.*")
 
@@ -1112,7 +1117,7 @@ class Clocks:
         self.module = module
         self.edges: Set[Tuple[Any, bool]] = set()
         self.data: Set[Any] = set()
-        self.latches = self.free = False
+        self.latches = self.free = self.asynchronous = False
         for cell in module["cells"].values():
             self.look_at(cell)
 
@@ -1130,6 +1135,7 @@ class Clocks:
             self.look_at_memory(cell)
         self.free = self.free or kind in ("$ff", "$_FF_")
         self.latches = self.latches or bool(LATCH.fullmatch(kind))
+        self.asynchronous = self.asynchronous or bool(ASYNCHRONOUS.fullmatch(kind))
         for port, bits in bits_of.items():
             if port not in clock_ports and cell.get("port_directions", {}).get(port) != "output":
                 self.data.update(bits)
@@ -1226,6 +1232,8 @@ class Front:
             self.notes.append(f"{reason}: a step is one of a global clock, by Yosys's clk2fflogic")
         else:
             self.clock = clocks.port()
+            if clocks.asynchronous:
+                self.notes.append("asynchronous sets and resets change with the clock alone, by Yosys's async2sync")
         kinds = {cell["type"] for cell in flat[top_of(flat)]["cells"].values()}
         self.replays = self.clock is not None and "$initstate" not in kinds
         yosys.do(*(self.GLOBAL_CLOCK if reason else self.ONE_CLOCK))
@@ -1335,7 +1343,8 @@ class Replay:
         fails = f"Warning: Assert {self.top}.{assertion.cell} ("
         if any(line.startswith(fails) for line in told.errors.splitlines()):
             return True
-        return False if told.status == 0 and self.is_sure else None
+        is_plain = re.fullmatch(r"[\w.\[\]]+", assertion.cell)
+        return False if told.status == 0 and self.is_sure and is_plain else None
 
 
 # ---------------------------------------------------------------- what is given
@@ -1518,6 +1527,8 @@ class Run:
 
     def status(self) -> int:
         """Checks all assertions, and gives the status of the program."""
+        # what is blocked here would be in the programs that are started
+        signal.pthread_sigmask(signal.SIG_UNBLOCK, SIGNALS)
         tools = self.tools()
         model, assertions = self.of_verilog() if self.given.verilog else self.of_aiger(tools.aiger)
         self.note_contradiction(model, tools)
@@ -1704,6 +1715,13 @@ def end_by(number: int, _: Any) -> None:
     raise Ended(number)
 
 
+def awaited(running: Future) -> int:
+    """Waits bit by bit: a signal that comes as a wait begins would else be seen only when it ends."""
+    while not wait([running], timeout=0.1).done:
+        pass
+    return running.result()
+
+
 def work(given: argparse.Namespace) -> int:
     """Runs in a thread of its own, so that a signal breaks off nothing but the wait for it, and leaves nothing."""
     children = Children()
@@ -1713,7 +1731,7 @@ def work(given: argparse.Namespace) -> int:
         try:
             running = alone.submit(Run(given, folder, children).status)
             signal.pthread_sigmask(signal.SIG_UNBLOCK, SIGNALS)
-            return running.result()
+            return awaited(running)
         finally:
             signal.pthread_sigmask(signal.SIG_BLOCK, SIGNALS)
             children.stop()
