@@ -2,7 +2,7 @@
 import os
 import sys
 
-SHOWN = int(os.environ.get("SHOWN", "5"))
+SHOWN = 5
 
 
 def finish(wrong, passed, skipped=0):
