@@ -75,7 +75,7 @@ place of the trace, for a wave viewer. It has all that --properties shows, by
 the names of the symbols, and each line of the trace takes 1 ns. At the end of
 a run the latches show the state that was reached, and all else is z. The
 variable run, of code r, is the number of the run, counted from 0. With
---witness it is the run of the witness from its first state, behind a comment
+--witness it is the run of the witness from its first state, after a comment
 with the answer, and all of it is held in memory.
 
 Exit status:
@@ -186,7 +186,7 @@ Read the whole stimulus first, and write nothing if a line
 of it is refused";
 
 const PROPERTIES_HELP: &str = "\
-Show bad states and constraints too, behind the rest of
+Show bad states and constraints too, after the rest of
 each line";
 
 const WITNESS_HELP: &str = "\

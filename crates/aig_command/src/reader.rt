@@ -119,7 +119,7 @@ fn clap_text(alloc: Global, words: &[String], error: &Error) -> Result<String, A
     Ok(text)
 }
 
-/// The program and its version, also behind a command.
+/// The program and its version, also after a command.
 fn version_text(alloc: Global) -> Result<String, AllocError>
     ensures some { IfOk result (λ text. 0 < string_len text) }
     ensures is { IfOk result (λ text. string_bytes text ≡ version_text) }
