@@ -1498,7 +1498,7 @@ class Keeper:
             "#!/bin/sh",
             f"# {assertion}: {verdict}",
             "# Ends with 0 exactly if aiger says so again, of the model with this digest.",
-            'cd "$(dirname "$0")" || exit 2',
+            'CDPATH= cd -- "$(dirname -- "$0")" || exit 2',
             f'echo "{self.digest}  {self.model}" | sha256sum --check --quiet || exit 1',
             f'answer=$("${{AIGER:-aiger}}" aigunroll {options} {self.model}) || exit 1',
             f'[ "$answer" = "{verdict}" ]',
