@@ -1498,7 +1498,7 @@ class Keeper:
             "#!/bin/sh",
             f"# {assertion}: {verdict}",
             "# Ends with 0 exactly if aiger says so again, of the model with this digest.",
-            'cd "$(dirname "$0")" || exit 2',
+            'CDPATH= cd -- "$(dirname -- "$0")" || exit 2',
             f'echo "{self.digest}  {self.model}" | sha256sum --check --quiet || exit 1',
             f'answer=$("${{AIGER:-aiger}}" aigunroll {options} {self.model}) || exit 1',
             f'[ "$answer" = "{verdict}" ]',
@@ -1635,7 +1635,8 @@ class Run:
             given.write_bytes(file.read())
         failure = aiger.to_binary(given, path)
         if failure:
-            raise Trouble(visible(f"{name}:{re.sub(r'^line ([0-9]+): ', r'{0}: ', failure)}"))
+            line, what = re.fullmatch(r"(?:line (\d+): )?(.*)", failure, re.DOTALL).groups()
+            raise Trouble(visible(f"{name}:{line}: {what}" if line else f"{name}: {what}"))
         circuit = aigtools().read(path.read_bytes())
         if circuit.justice_sizes or circuit.fairness:
             self.note(f"{visible(name)}: justice properties and fairness constraints are left out")
