@@ -184,7 +184,7 @@ module _ (inputs : Inputs) where
               let why =
               last_fault (readings.Solved request selected) (IsNoneText request selected) (λ next made. made) fault
               (rw then at rest) in
-              inr (why.0, why.1)
+              inr why
         ]
 
   module _ (bad max_var : ℕ) where
@@ -262,6 +262,6 @@ module _ (inputs : Inputs) where
                     let why =
                     last_fault (readings.Never request strengthened) IsText (λ next made. made) fault
                     (rw next_is at end) in
-                    inr (why.0, why.1)
+                    inr why
               ]
         ]

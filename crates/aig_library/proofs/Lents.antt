@@ -1,6 +1,6 @@
 -- What came of the bytes of a caller, once a call is over.
 use Rattle.std.proofs.Common.{◌≡◌, ◌∙◌, ◌++◌, ℕ, List, None, ap, drop, length, refl, subst, true}
-use Rattle.std.proofs.Common.{Err, IfErr, IfOk, Ok, OnOk, Result}
+use Rattle.std.proofs.Common.{Err, IfErr, IfOk, Ok, OnOk, Result, inl, inr}
 use Rattle.std.proofs.lemmas.List.{take-append-drop}
 use Rattle.aig_io.specs.Devices.{History, Origin, unused}
 use Rattle.aig_io.specs.Lent.{HasGiven, lent}

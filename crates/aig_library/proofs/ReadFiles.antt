@@ -1,5 +1,5 @@
 -- Why a file in memory is not read.
-use Rattle.std.proofs.Common.{◌≡◌, List, ℕ, Result, Ok, Err, IfErr, inl, inr}
+use Rattle.std.proofs.Common.{List, ℕ, Result, Ok, Err, IfErr, inl, inr}
 use Rattle.aig_circuit.specs.declared.circuit.Circuit.{Circuit}
 use Rattle.aig_commands.specs.File.{first_fault}
 use Rattle.aig_commands.specs.Reading.{IsUnreadable}

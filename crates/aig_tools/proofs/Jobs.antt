@@ -5,7 +5,6 @@ use Rattle.aig_command.specs.declared.request.Invariant.{Invariant}
 use Rattle.aig_command.specs.declared.request.Names.{Names}
 use Rattle.aig_commands.specs.Jobs.{Makes, read_for, reads_of, sources_left}
 use Rattle.aig_commands.specs.declared.job.Job.{Job}
-use Rattle.aig_commands.specs.declared.job.Job.TheVariants as jobs
 use Rattle.aig_commands.specs.declared.job.Reading.{Reading}
 use Rattle.aig_commands.specs.declared.job.Reading.TheVariants as readings
 use Rattle.aig_tools.specs.Ends.{Ends}

@@ -1,6 +1,6 @@
 -- A line that was put into an output and sent.
-use Rattle.std.proofs.Common.{◌≡◌, ◌≢◌, ◌++◌, List, [], ℕ, Bool, true, false, codes, Result, Ok, Err, inl, inr, is_err}
-use Rattle.std.proofs.Common.{is_ok, refl}
+use Rattle.std.proofs.Common.{◌≡◌, ◌≢◌, List, [], ℕ, Bool, true, false, inl, inr}
+use Rattle.std.proofs.Common.{refl}
 use Rattle.aig_io.specs.Output.{Appended, Out}
 use Rattle.aig_io.proofs.Puts.{all_sent, beginning_sent}
 use Rattle.aig_command.specs.Words.{usage_words}

@@ -5,12 +5,12 @@ use lib.Seq.{take-length}
 use Rattle.aig_io.specs.Devices.{History, TookBeginning, took, unused}
 use Rattle.aig_io.specs.Files.{End, Files, Left, NotKept, NotMade, NotOpened, ReadFailed, Whole, WriteFailed, Written}
 use Rattle.aig_io.specs.Files.{used}
-use Rattle.aig_io.specs.Runs.{All, AtEnd, Beginning, Broken, Ending, IsCut, NotSent, Open, Read, Transferred}
+use Rattle.aig_io.specs.Runs.{All, AtEnd, Beginning, Broken, Ending, IsCut, Open, Read, Transferred}
 use Rattle.aig_io.specs.Runs.{Delivery, Sent, came}
 use Rattle.aig_io.proofs.Runs.{read_weaker}
 use Rattle.aig_files.specs.Named.{IsFailure, IsShown, named, used_as}
-use Rattle.aig_tools.specs.Worlds.{IsReadAs, IsWriteEnd, ReadIn, SentIn, SentTo, TakesAs, TransferredBetween}
-use Rattle.aig_tools.specs.Worlds.{World, with_use, world}
+use Rattle.aig_tools.specs.Worlds.{IsReadAs, IsWriteEnd, ReadIn, SentIn, TakesAs, TransferredBetween}
+use Rattle.aig_tools.specs.Worlds.{with_use, world}
 
 -- a file was used once more
 used_is : (name : List ℕ) (lender : ℕ) (files files_now : Files) (history : History) (end : End) → files.current ≡ None

@@ -1,6 +1,6 @@
 use Rattle.std.proofs.Common.{rules, subst, sym}
 use Rattle.aig_tools.specs.Ends.{Ends, answers_steps, goes_on, is_stopped, writes}
-use Rattle.aig_tools.proofs.Jobs.{as_is, fewer}
+use Rattle.aig_tools.proofs.Jobs.{as_is}
 use Rattle.aig_tools.proofs.program.run.Goals as goal
 
 pub loop-job-preserved : goal.loop-job-preserved

@@ -2,7 +2,7 @@ use Rattle.std.proofs.Common.{ap, rules}
 use Rattle.std.proofs.lemmas.Result.{err_from_is_err_and}
 use Rattle.aig_command.specs.Answer.{name_of}
 use Rattle.aig_files.specs.Named.{closing}
-use Rattle.aig_tools.proofs.NamedFiles.{file_in_part, file_not_kept, file_whole, sent_so}
+use Rattle.aig_tools.proofs.NamedFiles.{file_in_part, file_not_kept, sent_so}
 use Rattle.aig_tools.proofs.world.World.write.Goals as goal
 
 pub returns-in_err-sent-in-Some-clause-sent : goal.returns-in_err-sent-in-Some-clause-sent
