@@ -1723,6 +1723,15 @@ def awaited(running: Future) -> int:
     return running.result()
 
 
+def remove(folder: Path) -> None:
+    """Removes a folder. A program that was killed may still write as it goes, so it is tried again for a while."""
+    for _ in range(100):
+        shutil.rmtree(folder, ignore_errors=True)
+        if not folder.exists():
+            return
+        time.sleep(0.02)
+
+
 def work(given: argparse.Namespace) -> int:
     """Runs in a thread of its own, so that a signal breaks off nothing but the wait for it, and leaves nothing."""
     children = Children()
@@ -1737,7 +1746,7 @@ def work(given: argparse.Namespace) -> int:
             signal.pthread_sigmask(signal.SIG_BLOCK, SIGNALS)
             children.stop()
             alone.shutdown()
-            shutil.rmtree(folder, ignore_errors=True)
+            remove(folder)
 
 
 def open_descriptors() -> None:

@@ -21,7 +21,7 @@ FRAMES = 50
 # what a machine under load may take
 LONGEST = 300
 ANSWERS = "never|none within|reached at|unknown"
-LINE = re.compile(rf"(?P<name>.*) \((?P<source>[^()]*)\): (?P<answer>{ANSWERS})(?P<rest>.*)", re.DOTALL)
+LINE = re.compile(rf"(?P<name>.*) \((?P<source>.*?)\): (?P<answer>{ANSWERS})(?P<rest>.*)", re.DOTALL)
 KINDS = ["never", "none within", "reached", "unknown"]
 SUM = re.compile(r"(\d+) assertions?(?:: (.*))?")
 KEPT = re.compile(r"model-[0-9a-f]+\.aig|.+\.(aiw|vcd|drat|pla|check\.sh)")
