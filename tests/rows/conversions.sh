@@ -982,7 +982,7 @@ Usage: aiger <COMMAND>
 Commands:
   aigtoaig   Convert an AIGER file to binary or to ASCII
   aigsim     Simulate a circuit, step by step
-  aigunroll  Unroll a circuit, write its clauses, check refutations and invariants
+  aigunroll  Unroll a circuit, write clauses, check refutations and invariants
   help       Print this message or the help of the given subcommand(s)
 
 Options:

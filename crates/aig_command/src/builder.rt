@@ -95,7 +95,7 @@ Examples, of a model with two inputs, a bad state and no latches:
   aiger aigsim --witness --vcd model.aag witness.txt > w.vcd   its run as waves
   aiger aigsim - steps.txt < model.aag             the model from a stream";
 
-const UNROLL_ABOUT: &str = "Unroll a circuit, write its clauses, check refutations and invariants";
+const UNROLL_ABOUT: &str = "Unroll a circuit, write clauses, check refutations and invariants";
 
 const UNROLL_USAGE: &str = "\
 aiger aigunroll --frames <K> [OPTIONS] [source] [destination]
