@@ -1716,10 +1716,21 @@ def end_by(number: int, _: Any) -> None:
     raise Ended(number)
 
 
-def awaited(running: Future) -> int:
-    """Waits bit by bit: a signal that comes as a wait begins would else be seen only when it ends."""
+class Asked:
+    """The signal that asked the run to end, if one did. It is only noted, so that it breaks nothing off where it comes."""
+
+    def __init__(self) -> None:
+        self.number: Optional[int] = None
+
+    def note(self, number: int, _: Any) -> None:
+        self.number = self.number or number
+
+
+def awaited(running: Future, asked: Asked) -> int:
+    """Waits bit by bit, and looks in between whether a signal came."""
     while not wait([running], timeout=0.1).done:
-        pass
+        if asked.number:
+            raise Ended(asked.number)
     return running.result()
 
 
@@ -1733,20 +1744,24 @@ def remove(folder: Path) -> None:
 
 
 def work(given: argparse.Namespace) -> int:
-    """Runs in a thread of its own, so that a signal breaks off nothing but the wait for it, and leaves nothing."""
-    children = Children()
+    """Runs in a thread of its own, so that a signal ends nothing but the wait for it, and leaves nothing."""
+    children, asked = Children(), Asked()
     signal.pthread_sigmask(signal.SIG_BLOCK, SIGNALS)
+    for number in SIGNALS:
+        if signal.getsignal(number) is end_by:
+            signal.signal(number, asked.note)
     folder = Path(tempfile.mkdtemp(prefix=f"{PROGRAM}-")).resolve()
     with ThreadPoolExecutor(1) as alone:
         try:
             running = alone.submit(Run(given, folder, children).status)
             signal.pthread_sigmask(signal.SIG_UNBLOCK, SIGNALS)
-            return awaited(running)
+            return awaited(running, asked)
         finally:
-            signal.pthread_sigmask(signal.SIG_BLOCK, SIGNALS)
             children.stop()
             alone.shutdown()
             remove(folder)
+            # as the interpreter ends it lets signals end it, whatever the status is to be
+            signal.pthread_sigmask(signal.SIG_BLOCK, SIGNALS)
 
 
 def open_descriptors() -> None:
