@@ -63,11 +63,21 @@ limited() { ( ulimit -f 16 && exec env --default-signal=XFSZ "$program" aigtoaig
 wants '' "aiger: $work/limited.aag: cannot write\n" 1
 check 'a file above the limit on sizes, whose signal is not ignored before' limited
 
-# --- little memory: from 2 MB, since the system itself loads no program of this size into less ---
+# --- little memory: the system itself ends by SIGSEGV what it cannot load ---
+# the least limit, in KB, into which the system loads the program
+least() {
+    local limit
+    for ((limit = 1024; limit < 4096; limit += 16)); do
+        { "${within[@]}" "$limit" "$program" --version > /dev/null; } 2> /dev/null
+        [ $? = 139 ] || break
+    done
+    echo "$limit"
+}
+loaded=$(least)
 # how a conversion ended in one limit after the other, each outcome once; the words run before the program
 outcomes() {
     local limit ended
-    for ((limit = 2048; limit <= 16384; limit += 64)); do
+    for ((limit = loaded; limit <= 16384; limit += limit < 4096 ? 16 : 64)); do
         "$@" "${within[@]}" "$limit" "$program" aigtoaig --ascii "$work/small" > "$work/one" 2>&1
         ended=$?
         if [ "$ended" = 0 ] && cmp -s "$work/one" "$work/small"; then
@@ -84,7 +94,7 @@ wants 'answered\nlacking\n' '' 0
 check 'it answers, or says that it is out of memory' outcomes env -u GLIBC_TUNABLES
 check 'and where the variable asks for nothing' outcomes env GLIBC_TUNABLES=
 wants '' 'aiger: out of memory\n' 1
-check 'it says so in 2 MB' "${within[@]}" 2048 "$program" --version
+check 'it says so where it is only just loaded' "${within[@]}" "$loaded" "$program" --version
 
 # --- an older processor ---
 if command -v qemu-x86_64 > /dev/null; then
