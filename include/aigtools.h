@@ -1,6 +1,6 @@
 /*
- * libaigtools: AIGER files converted, unrolled and simulated, and witnesses judged, in the memory of a program; and
- * circuits as arrays of numbers.
+ * libaigtools, in the memory of a program: AIGER files converted, unrolled and simulated, and witnesses judged; clauses
+ * for SAT solvers, and their refutations and invariants checked; and circuits as arrays of numbers.
  *
  * The functions are those of the program `aiger`, and proved as it is; so are those for arrays. docs/FORMAT.md says
  * what each text is, and examples/c has programs in C and in Rust.
@@ -33,7 +33,7 @@ extern "C" {
 #endif
 
 /* The version of this header, as aigtools_version tells that of the library: a byte each for major, minor and patch. */
-#define AIGTOOLS_VERSION 0x010100u
+#define AIGTOOLS_VERSION 0x010200u
 
 /* The largest `max_var`: a file with a larger index, or with more of a kind, is refused with AIGTOOLS_TOO_LARGE. */
 #define AIGTOOLS_LARGEST 2147483647u

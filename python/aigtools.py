@@ -1,4 +1,5 @@
-"""AIGER files converted, unrolled and simulated, and witnesses judged, by libaigtools; and circuits as arrays.
+"""AIGER files by libaigtools: converted, unrolled and simulated, witnesses judged; clauses for SAT solvers, and their
+refutations and invariants checked; and circuits as arrays.
 
 The functions take and give bytes, and are those of the program ``aiger``: docs/FORMAT.md says what each text is. The
 library is the one that the variable LIBAIGTOOLS names; or that beside this file or in the folder ``lib`` that holds it;

@@ -14,6 +14,14 @@ def finish(wrong, passed, skipped=0):
     sys.exit(bool(wrong) or not passed)
 
 
+def part_of(words):
+    """Of the words `--part K N` whether a number is asked for: every Nth one from K on. Of any others nothing."""
+    if len(words) != 3 or words[0] != "--part":
+        return None
+    first, each = map(int, words[1:])
+    return lambda number: number % each == first
+
+
 def need(found, name):
     """Ends the program where nothing has the name that was asked for in its own."""
     if not found:

@@ -46,4 +46,5 @@ rows() {
     rows_refutations
     rows_invariants
     rows_words
+    rows_hints
 }

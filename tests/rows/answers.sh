@@ -292,7 +292,7 @@ rows_answer_names() {
 
 # the options with others, which are refused before any file is opened, in this order
 rows_clause_words() {
-    local none=$work/none all='\n\nUsage: aiger aigunroll [OPTIONS] [source] [destination]' tip='\n\n  tip:' file
+    local none=$work/none all=$unrolling_usage tip='\n\n  tip:' file
     local convert='\n\nUsage: aiger aigtoaig [OPTIONS] [source] [destination]'
     local ascii='--cnf excludes --ascii' alone='--answer excludes --cnf and --ascii' needs='--bad needs --cnf, --answer or --refutation'
     local both='model and answer are both standard input' gz='compressed output is not supported'

@@ -26,6 +26,9 @@ cyclic() {
 }
 # arguments that are refused, before anything is read: in clap's words, or in the program's own
 misused() { local name=$1 text=$2; shift 2; row "$name" 'aag 0 0 0 0 0\n' '' "error: $text\n\nFor more information, try '--help'.\n" 2 "$@"; }
+# the lines of usage of aigunroll
+unrolling_usage='\n\nUsage: aiger aigunroll --frames <K> [OPTIONS] [source] [destination]
+       aiger aigunroll --invariant <FILE> [OPTIONS] [source] [destination]'
 unwanted() { local name=$1 text=$2; shift 2; row "$name" 'aag 0 0 0 0 0\n' '' "aiger: $text\n" 2 "$@"; }
 # a source by its name that is not there
 missing() { local name=$1 file=$2; shift 2; row "$name" 'aag 0 0 0 0 0\n' '' "aiger: $file: cannot read\n" 1 "$@"; }
@@ -948,6 +951,29 @@ rows_outputs_as_bad() {
         aigtoaig --outputs-as-bad
 }
 
+# options of other programs: what stands here for them
+rows_hints() {
+    local every='\n\nUsage: aiger aigtoaig [OPTIONS] [source] [destination]' all='\n\nUsage: aiger aigsim [OPTIONS] <model> [stimulus]'
+    local ascii='to write ASCII, use --ascii' random='random steps are a stimulus, which examples/python/stimulus.py writes'
+    local witness='to judge a witness, use --witness' frames='the number of time frames is given by --frames' option
+    hint -a "$ascii$every" aigtoaig -a none/x
+    hint -s "to leave out symbols and comment, use --strip$every" aigtoaig -s none/x
+    for option in r s; do hint "-$option" "$random$all" aigsim "-$option" 5 none/x; done
+    hint -r "$random$all" aigsim -r5 none/x
+    for option in c w; do hint "-$option" "$witness$all" aigsim none/x "-$option"; done
+    hint -v "to write a waveform, use --vcd$all" aigsim -v none/x
+    for option in k F; do hint "-$option" "$frames$unrolling_usage" aigunroll "-$option" 20 none/x; done
+    hint -k "$frames$unrolling_usage" aigunroll -k20 none/x
+    hint -a "$ascii$unrolling_usage" aigunroll --frames 2 -a
+    hint -x "to pass '-x' as a value, use '-- -x'$all" aigsim -x none/x
+    hint -k "to pass '-k' as a value, use '-- -k'$every" aigtoaig -k
+    hint --seed "to pass '--seed' as a value, use '-- --seed'$all" aigsim --seed -r none/x
+    misused 'one of other programs and a file too many' "unexpected argument 'z' found$all" aigsim x y z -r
+    missing 'a file with the name of one' -r aigsim -- -r
+}
+# hint OPTION TIP WORD..
+hint() { local option=$1 tip=$2; shift 2; misused "for '$*'" "unexpected argument '$option' found\n\n  tip: $tip" "$@"; }
+
 # what `aiger --help` prints
 help='Tools for circuits in the AIGER format
 
@@ -956,19 +982,20 @@ Usage: aiger <COMMAND>
 Commands:
   aigtoaig   Convert an AIGER file to binary or to ASCII
   aigsim     Simulate a circuit, step by step
-  aigunroll  Unroll a circuit over time frames, as one circuit without latches
+  aigunroll  Unroll a circuit, write clauses, check refutations and invariants
+  help       Print this message or the help of the given subcommand(s)
 
 Options:
   -h, --help     Print help
   -V, --version  Print version
 
-What each command does, and examples: aiger COMMAND --help, and man aiger\n'
+What each command does, and examples: aiger help COMMAND, and man aiger\n'
 
 rows_words() {
     local usage='\n\nUsage: aiger <COMMAND>' one='\n\nUsage: aiger aigtoaig'
     local every="$one [OPTIONS] [source] [destination]" small='aag 3 1 1 2 0\n6\n2 7\n2\n0\n'
     local image='aig 1 1 0 1 0\n3\nc\naigmap 1 9 1 0 0 0\n9\naigmap end\n' undone='aag 9 1 0 1 0\n18\n19\n'
-    misused 'no words' "'aiger' requires a subcommand but one was not provided\n  [subcommands: aigtoaig, aigsim, aigunroll]$usage"
+    row 'no words' 'aag 0 0 0 0 0\n' '' "$help" 2
     missing 'a word after the subcommand' none/x aigtoaig none/x
     missing 'a word behind ASCII' none/x aigtoaig --ascii none/x
     missing 'an empty word behind ASCII' '' aigtoaig --ascii ''
@@ -986,10 +1013,15 @@ rows_words() {
     misused 'one word of two' \
         "unrecognized subcommand 'aigtoaig --ascii'\n\n  tip: a similar subcommand exists: 'aigtoaig'$usage" 'aigtoaig --ascii'
     row 'help' 'aag 0 0 0 0 0\n' "$help" '' 0 --help
-    for option in --version -V -Vx; do row "the version: $option" 'aag 0 0 0 0 0\n' 'aiger 1.1.0\n' '' 0 "$option"; done
-    row 'the version behind a subcommand' 'aag 0 0 0 0 0\n' 'aiger-aigtoaig 1.1.0\n' '' 0 aigtoaig --version
-    row 'the version where a model is wanted' '' 'aiger-aigsim 1.1.0\n' '' 0 aigsim -V
-    row 'the version where frames are wanted' '' 'aiger-aigunroll 1.1.0\n' '' 0 aigunroll --version x
+    row 'help as a command' 'aag 0 0 0 0 0\n' "$help" '' 0 help
+    row 'help as the name of a file' '' '' 'aiger: help: cannot read\n' 1 aigtoaig help
+    misused 'help on another command' "unrecognized subcommand 'convert'$usage" help convert
+    misused 'help on two commands' \
+        "unrecognized subcommand 'aigsim'\n\nUsage: aiger aigtoaig [OPTIONS] [source] [destination]" help aigtoaig aigsim
+    for option in --version -V -Vx; do row "the version: $option" 'aag 0 0 0 0 0\n' 'aiger 1.2.0\n' '' 0 "$option"; done
+    row 'the version behind a subcommand' 'aag 0 0 0 0 0\n' 'aiger 1.2.0\n' '' 0 aigtoaig --version
+    row 'the version where a model is wanted' '' 'aiger 1.2.0\n' '' 0 aigsim -V
+    row 'the version where frames are wanted' '' 'aiger 1.2.0\n' '' 0 aigunroll --version x
     misused 'no option for the version' "unexpected argument '-v' found$usage" -v
     misused 'another subcommand' "unrecognized subcommand 'convert'$usage" convert --ascii
     misused 'a subcommand that is close to all of them' \

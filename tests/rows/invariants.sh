@@ -241,6 +241,6 @@ rows_invariant_words() {
     unwanted 'the compressed clauses of an invariant' 'compressed output is not supported' \
         aigunroll --invariant "$none" --cnf "$none" x.cnf.gz
     misused 'no invariant' "a value is required for '--invariant <FILE>' but none was supplied" aigunroll --cnf --invariant
-    misused 'two invariants' "the argument '--invariant <FILE>' cannot be used multiple times$(
-        )\n\nUsage: aiger aigunroll [OPTIONS] [source] [destination]" aigunroll --invariant a --invariant b
+    misused 'two invariants' "the argument '--invariant <FILE>' cannot be used multiple times$unrolling_usage" \
+        aigunroll --invariant a --invariant b
 }

@@ -237,7 +237,7 @@ rows_refutation_names() {
 
 # the options with others, which are refused before any file is opened, in this order
 rows_refutation_words() {
-    local none=$work/none all='\n\nUsage: aiger aigunroll [OPTIONS] [source] [destination]'
+    local none=$work/none all=$unrolling_usage
     local ascii='--cnf excludes --ascii' answer='--answer excludes --cnf and --ascii'
     local alone='--refutation excludes --cnf, --ascii and --answer' both='model and refutation are both standard input'
     unwanted 'clauses in ASCII of a refutation' "$ascii" aigunroll --frames 2 --refutation - --cnf --ascii

@@ -171,8 +171,7 @@ rows_unrolled_sources() {
 
 rows_unroll_words() {
     local toggle='aag 1 0 1 2 0\n2 3\n2\n3\n' two='aag 0 0 0 4 0\n0\n1\n1\n0\n' binary='aig 0 0 0 4 0\n0\n1\n1\n0\n'
-    local unroll='\n\nUsage: aiger aigunroll' file
-    local all="$unroll [OPTIONS] [source] [destination]" needed='--frames or --invariant is needed'
+    local all=$unrolling_usage needed='--frames or --invariant is needed' file
     row 'frames behind =' "$toggle" "$two" '' 0 aigunroll --ascii --frames=2
     row 'frames with leading zeros' "$toggle" "$two" '' 0 aigunroll --ascii --frames 002
     row 'both streams by -, to unroll' "$toggle" "$two" '' 0 aigunroll - - --ascii --frames 2
@@ -192,7 +191,7 @@ rows_unroll_words() {
     misused 'frames that are no number' "invalid value '2x' for '--frames <K>': invalid digit found in string" aigunroll --frames 2x
     misused 'frames that are empty' "invalid value '' for '--frames <K>': cannot parse integer from empty string" aigunroll --frames ''
     misused 'an option of conversions, to unroll' \
-        "unexpected argument '--strip' found\n\n  tip: to pass '--strip' as a value, use '-- --strip'$unroll --frames <K> [source] [destination]" aigunroll --frames 1 --strip
+        "unexpected argument '--strip' found\n\n  tip: to pass '--strip' as a value, use '-- --strip'$all" aigunroll --frames 1 --strip
     misused 'a name too many to unroll' "unexpected argument 'z' found$all" aigunroll --frames 1 x y z
     misused 'frames of a conversion' \
         "unexpected argument '--frames' found\n\n  tip: to pass '--frames' as a value, use '-- --frames'\n\nUsage: aiger aigtoaig [OPTIONS] [source] [destination]" \

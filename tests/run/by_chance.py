@@ -2,6 +2,7 @@
 """Compares what the program makes of circuits, stimuli and witnesses made by chance with plain evaluations.
 
     tests/run/by_chance.py PROGRAM [KIND [NUMBER]]     all of it, or one kind, or one circuit of it
+    tests/run/by_chance.py PROGRAM --part K N          of each kind every Nth circuit from number K on
 
 A kind is a module of tests/lib: see its head for what is compared. Its circuits have numbers from 0 on, and a circuit of
 one number is always the same one.
@@ -22,14 +23,14 @@ MODULES = images, traces, batches, unrolled, witnesses, waves, answers, refutati
 KINDS = {it.__name__.rpartition(".")[2]: it for it in MODULES}
 
 
-def cases(program, folder, kinds, number):
-    """Each case that is asked for: its name, the function that judges it, and what that is called with."""
+def cases(program, folder, kinds, is_asked):
+    """Each case whose number is asked for: its name, the function that judges it, and what that is called with."""
     for kind in kinds:
         # kinds run side by side, and their files have the same names
         own = Path(folder) / kind
         own.mkdir()
         for at, case in enumerate(KINDS[kind].cases(program, str(own))):
-            if number in (None, at):
+            if is_asked(at):
                 yield f"{kind} {at}", *case
 
 
@@ -41,11 +42,14 @@ def why_wrong(case):
         return repr(why)
 
 
-def main(program, kind=None, number=None):
-    kinds = [it for it in KINDS if kind in (None, it)]
-    program, number = counts.need_program(program), None if number is None else int(number)
+def main(program, *words):
+    part, (kind, number) = counts.part_of(words), (*words, None, None)[:2]
+    kinds = list(KINDS) if part else [it for it in KINDS if kind in (None, it)]
+    number = None if part or number is None else int(number)
+    is_asked = part or (lambda at: number in (None, at))
+    program = counts.need_program(program)
     with tempfile.TemporaryDirectory() as folder, concurrent.futures.ProcessPoolExecutor(os.cpu_count()) as pool:
-        asked = [(name, pool.submit(*case)) for name, *case in cases(program, folder, kinds, number)]
+        asked = [(name, pool.submit(*case)) for name, *case in cases(program, folder, kinds, is_asked)]
         said = [(name, why_wrong(it)) for name, it in asked]
     counts.need(said, kind if number is None else f"{kind} {number}")
     left_out = list(waves.left_out()) if "waves" in kinds and number is None else []

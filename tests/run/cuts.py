@@ -1,7 +1,8 @@
 #!/usr/bin/env python3
 """Cuts small files after each byte, changes each byte to ten others, and gives them to every tool that takes them.
 
-    tests/run/cuts.py PROGRAM [NAME]     all files, or those that have NAME in their names
+    tests/run/cuts.py PROGRAM [NAME]         all files, or those that have NAME in their names
+    tests/run/cuts.py PROGRAM --part K N     all files, at every Nth byte from number K on
 
 The files are those of rows/small.py: circuits in ASCII and binary, with and without a map, stimuli, witnesses, solvers'
 answers, refutations and invariants. What is refused as a circuit must be refused by all tools in the same words. What is
@@ -205,12 +206,14 @@ def tasks():
             yield name, how, text, model
 
 
-def main(program, name=""):
+def main(program, *words):
+    part = counts.part_of(words)
+    name = "" if part else "".join(words)
     program, total, wrong = counts.need_program(program), collections.Counter(), []
     with runs.folder() as under, concurrent.futures.ProcessPoolExecutor(os.cpu_count()) as pool:
         asked = []
         for file, *task in [it for it in tasks() if name in it[0]]:
-            for place in range(len(task[1]) + 1):
+            for place in filter(part or (lambda at: True), range(len(task[1]) + 1)):
                 asked.append((file, pool.submit(judge, program, under, *task, place)))
         counts.need(asked, name)
         for file, found in itertools.groupby(asked, lambda it: it[0]):

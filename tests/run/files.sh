@@ -561,7 +561,7 @@ refused 'a bad state above the largest' '2147483648 is not in 0..=2147483647' ai
 refused 'a compressed witness' 'aiger: compressed output is not supported' aigunroll --frames 1 --answer a b x.gz
 refused 'no subcommand' 'aigtoaig'
 refused 'an unknown subcommand' 'aigsom' aigsom
-refused 'no help as a subcommand' 'help' help
+refused 'help on a command that there is not' 'aigsom' help aigsom
 refused 'an argument that is no text' 'not UTF-8' aigtoaig $'\377.aag'
 refused 'a map in ASCII' 'aiger: --keep-map needs binary output' aigtoaig --keep-map --ascii
 refused 'a map to a name that ends in .aag' 'aiger: --keep-map needs binary output' aigtoaig --keep-map - "$files/b.aag"
@@ -587,6 +587,12 @@ helps() {
 }
 helps 'help' --help
 helps 'the short option for help' -h
+for words in '' aigtoaig aigsim aigunroll; do
+    helps "help $words" help $words
+    wants '' '' 0
+    "$program" $words --help > "$work/want_out"
+    check "help $words, as by the option" "$program" help $words
+done
 helps 'help of aigtoaig' aigtoaig --help
 # its examples run as they stand, one after the other
 grep '^  aiger aigtoaig ' "$work/out" | sed 's/^  aiger/"$program"/; s/   .*//' > "$work/examples"

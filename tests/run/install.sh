@@ -1,6 +1,6 @@
 #!/usr/bin/env bash
-# What release/install and release/deb make, and the Python module in a clone: in a copy of the repository without the
-# kit, whose path has a space.
+# What release/install and release/deb make, aiger-check there, and the Python module in a clone: in a copy of the
+# repository without the kit, whose path has a space.
 #
 #     tests/run/install.sh                     of the released program and library
 #     tests/run/install.sh FOLDER PROGRAM      of this program, and of the library as release/library makes it
@@ -9,6 +9,7 @@
 . "$(dirname "${BASH_SOURCE[0]}")/../lib/judge.sh"
 . "$top/release/state.sh"
 unset LIBAIGTOOLS PYTHONPATH LD_LIBRARY_PATH
+PATH=$(tr : '\n' <<< "$PATH" | grep -v '/sbin$' | paste -sd :)   # as that of a user, whoever runs this
 
 # check NAME WORD..: whether the words succeed; what they say is shown where they do not
 check() {
@@ -46,8 +47,8 @@ fails() {
 tree="$work/a clone"
 mkdir -p "$tree/docs" "$tree/examples"
 cp -r "$top"/{release,include,python,man,LICENSE,CHANGELOG.md} "$tree"
-cp "$top/docs/FORMAT.md" "$tree/docs"
-cp -r "$top/examples/c" "$tree/examples"
+cp "$top"/docs/{FORMAT,TOOLS}.md "$tree/docs"
+cp -r "$top"/examples/{c,verilog} "$tree/examples"
 release_given() {
     local name version
     version=$(sed -n 's/^Version: //p' "$1/aigtools.pc")
@@ -75,14 +76,46 @@ converts() {
 gzip -dc "$tree/release/aiger-linux-x86_64-static.gz" > "$work/aiger" && chmod 755 "$work/aiger"
 "$work/aiger" aigtoaig --keep-map "$top/examples/half_adder.aag" "$work/image"
 
+# answer_on_model PROGRAM: what this aiger-check says of a model, with the program aiger that it finds by itself, and
+# how it ends
+printf 'aag 3 1 2 0 0 1\n2\n4 2\n6 4\n6\n' > "$work/model.aag"
+answer_on_model() { ( cd "$work" && unset AIGER && "$1" --quiet model.aag; echo "status $?" ); }
+answer='b0 (model.aag): reached at 2
+1 assertion: 1 reached
+status 1'
+checks="aiger-check $(sed -n 's/^## \[\([0-9][^]]*\)\].*/\1/p' "$top/CHANGELOG.md" | head -n 1)"
+# checks_at PLACE PROGRAM: aiger-check where it was put
+checks_at() {
+    check "aiger-check of $1" same "$checks" "$2" --version
+    if command -v cadical > /dev/null; then
+        check "a model, by aiger-check of $1" same "$answer" answer_on_model "$2"
+    else
+        skip 1 'no cadical'
+    fi
+}
+
+# not_in_manual PROGRAM: the options in the help of this aiger-check that its manual page does not have
+not_in_manual() {
+    local option
+    for option in $("$1" --help | grep -oE '(^|[ ,])--?[A-Za-z-]+' | tr -d ', ' | sort -u); do
+        grep -qF -- "Cm ${option//-/\\-}" "$top/man/aiger-check.1" || echo "$option"
+    done
+}
+
+# designs_at FOLDER PROGRAM: what this aiger-check says of each assertion of the designs in a folder
+designs_at() { ( cd "$1" && unset AIGER && "$2" --quiet --time 10 --top queue ./*.sv | sed '$d; s|(\./|(|' ); }
+
 # --- release/install ---
 install_files='bin/aiger
+bin/aiger-check
 include/aigtools.h
 lib/libaigtools.a
 lib/libaigtools.so
 lib/libaigtools.so.1
 lib/pkgconfig/aigtools.pc
+lib/python3/dist-packages/aiger_check.py
 lib/python3/dist-packages/aigtools.py
+share/man/man1/aiger-check.1
 share/man/man1/aiger.1'
 files_below() { (cd "$1" && find . ! -type d -printf '%P\n' | LC_ALL=C sort); }
 staged=$work/staged
@@ -93,6 +126,11 @@ check 'the program' same "aiger $("$work/aiger" --version | cut -c 7-)" "$staged
 check 'the prefix for pkg-config' grep -qx 'prefix=/opt/aig' "$staged/opt/aig/lib/pkgconfig/aigtools.pc"
 check 'Python finds the library' same "$module_says" \
     env PYTHONPATH="$staged/opt/aig/lib/python3/dist-packages" python3 -c "$module"
+ln -s "$staged/opt/aig/bin/aiger-check" "$work/linked"
+checks_at 'a prefix' "$staged/opt/aig/bin/aiger-check"
+checks_at 'a prefix, by a link' "$work/linked"
+check 'its options stand in the manual page' same '' not_in_manual "$work/linked"
+check 'another aiger for it' fails 2 'aiger-check: ' env AIGER=false "$work/linked" "$work/model.aag"
 check 'the destination by =' "$tree/release/install" --destdir="$work/by name" /opt/aig
 check 'its files' same "$install_files" files_below "$work/by name/opt/aig"
 check 'install to a prefix alone' fails 0 "LD_LIBRARY_PATH=$work/prefix/lib" "$tree/release/install" "$work/prefix"
@@ -141,7 +179,7 @@ field() { dpkg-deb -f "$packages/$1"_*.deb "$2"; }
 contents() { dpkg-deb -c "$packages/$1"_*.deb | awk '!/^d/ { print $6 }' | LC_ALL=C sort; }
 all_files() {
     local name
-    for name in aiger libaigtools-dev libaigtools1 python3-aigtools; do contents "$name"; done
+    for name in aiger aiger-check libaigtools-dev libaigtools1 python3-aigtools; do contents "$name"; done
 }
 package_files="./usr/bin/aiger
 ./usr/share/doc/aiger/CHANGELOG.md.gz
@@ -149,6 +187,14 @@ package_files="./usr/bin/aiger
 ./usr/share/doc/aiger/changelog.gz
 ./usr/share/doc/aiger/copyright
 ./usr/share/man/man1/aiger.1.gz
+./usr/bin/aiger-check
+./usr/lib/python3/dist-packages/aiger_check.py
+./usr/share/doc/aiger-check/CHANGELOG.md.gz
+./usr/share/doc/aiger-check/TOOLS.md.gz
+./usr/share/doc/aiger-check/changelog.gz
+./usr/share/doc/aiger-check/copyright
+$(cd "$top/examples/verilog" && printf './usr/share/doc/aiger-check/examples/%s\n' * | LC_ALL=C sort)
+./usr/share/man/man1/aiger-check.1.gz
 ./usr/include/aigtools.h
 .$multiarch/libaigtools.a
 .$multiarch/libaigtools.so
@@ -170,28 +216,33 @@ package_files="./usr/bin/aiger
 ./usr/share/doc/python3-aigtools/CHANGELOG.md.gz
 ./usr/share/doc/python3-aigtools/changelog.gz
 ./usr/share/doc/python3-aigtools/copyright"
-# install_packages ROOT: into a system of its own that has nothing, so what Debian has is not looked for
+# install_packages ROOT: into a system of its own that has nothing, so what Debian has is not looked for. dpkg wants
+# programs of folders that are on the PATH of root alone.
 install_packages() {
     mkdir -p "$1/var/lib/dpkg/info" "$1/var/lib/dpkg/updates"
     : > "$1/var/lib/dpkg/status"
-    dpkg --root="$1" --log=/dev/null --ignore-depends=libc6,python3 -i "$packages"/*.deb
+    PATH=$PATH:/usr/sbin:/sbin dpkg --root="$1" --log=/dev/null --ignore-depends=libc6,python3 -i "$packages"/*.deb
 }
 # newest_needed FILE: the newest version of the C library that it asks for
 newest_needed() { objdump -T "$1" | grep -o 'GLIBC_[0-9.]*' | sort -uV | tail -n 1; }
 
 if ! command -v dpkg-deb > /dev/null; then
-    skip 13 'no dpkg-deb'
+    skip 19 'no dpkg-deb'
 else
     root=$work/root
     mkdir "$root"
     check 'packages' "$tree/release/deb" "$packages"
-    check 'their names' same "aiger_${version}_amd64.deb
+    check 'their names' same "aiger-check_${version}_all.deb
+aiger_${version}_amd64.deb
 libaigtools-dev_${version}_amd64.deb
 libaigtools1_${version}_amd64.deb
-python3-aigtools_${version}_all.deb" ls "$packages"
+python3-aigtools_${version}_all.deb" env LC_ALL=C ls "$packages"
     check 'their files' same "$package_files" all_files
     check 'what the header needs' same "libaigtools1 (= $version)" field libaigtools-dev Depends
     check 'what the module needs' same "python3, libaigtools1 (>= $version)" field python3-aigtools Depends
+    check 'what aiger-check needs' same "python3 (>= 3.9), python3-aigtools (>= $version), aiger (>= $version)" \
+        field aiger-check Depends
+    check 'what it works with' same 'yosys, berkeley-abc, cadical' field aiger-check Recommends
     check 'what the library needs' same 'libc6 (>= 2.14)' field libaigtools1 Depends
     if [ "$(id -u)" = 0 ]; then
         check 'the packages install' install_packages "$root"
@@ -203,9 +254,22 @@ python3-aigtools_${version}_all.deb" ls "$packages"
     check 'what the program needs' same '' field aiger Depends
     check 'the program of the package' same "$(cat "$top/examples/canonical/lock.aag")" \
         "$root/usr/bin/aiger" aigtoaig --ascii "$top/examples/lock.aag"
-    check 'the manual page of the package' test -s "$root/usr/share/man/man1/aiger.1.gz"
+    for name in aiger aiger-check; do
+        check "the manual page of $name" test -s "$root/usr/share/man/man1/$name.1.gz"
+    done
     check 'the module of the package' same "$module_says" env LD_LIBRARY_PATH="$root$multiarch" \
         PYTHONPATH="$root/usr/lib/python3/dist-packages" python3 -c "$module"
+    export LIBAIGTOOLS=$root$multiarch/libaigtools.so.1
+    checks_at 'the package' "$root/usr/bin/aiger-check"
+    if command -v yosys > /dev/null && command -v berkeley-abc > /dev/null && command -v cadical > /dev/null; then
+        # the lines of README, of the copies that the package has
+        wanted=$(sed -n 's|^    \(.*\)examples/verilog/\(.*: .*\)|\1\2|p' "$top/README.md")
+        check 'the designs of the package' same "$wanted" \
+            designs_at "$root/usr/share/doc/aiger-check/examples" "$root/usr/bin/aiger-check"
+    else
+        skip 1 'no yosys, berkeley-abc or cadical'
+    fi
+    unset LIBAIGTOOLS
     check 'no folder' fails 125 "there is no folder $work/none" "$tree/release/deb" "$work/none"
 fi
 

@@ -4,9 +4,10 @@
     tests/run/little_memory.py PROGRAM [--static] [NAME]     all rows, or those that have NAME in their names
 
 fail_call.c tells whether the program began, or whether the loader could not make it ready before that. A static program
-takes no such library: there it is the C library that ends what it cannot make ready, by a signal or with 127. A
-program that began answers as it would with ample memory, or that it is out of memory, with status 1, and then
-it has sent nothing. The limit (`ulimit -v`) goes up in steps of a page until the row was answered some times.
+takes no such library: there it is the system that ends what it cannot load, by a signal, and does so no more from the
+least limit on with which it can. A program that began answers as it would with ample memory, or that it is out of
+memory, with status 1, and then it has sent nothing. The limit (`ulimit -v`) goes up in steps of a page until the row
+was answered some times.
 
 It is the system that lets a stack grow, at any call, and if there is no memory for that it ends the program by a
 signal, which no program can answer. But 128 KB of it are there before a program begins (Linux gives them when it
@@ -35,8 +36,8 @@ ANSWERS = 8
 STACK = 128
 LIMITED = ["-c", 'ulimit -v "$0" && LD_PRELOAD=$PRELOAD exec "$@"']
 WITH_STACK = ["-c", 'ulimit -s "$0" && exec "$@"']
-# how the C library ends a static program that it cannot make ready
-UNREADY = (-signal.SIGSEGV, 127)
+# how the system ends a static program that it cannot load
+UNLOADED = -signal.SIGSEGV
 
 
 class Sweep:
@@ -55,7 +56,7 @@ class Sweep:
         """Whether the program began with so many kilobytes, and what came."""
         came = self.runner.run([*LIMITED, str(limit), *self.words], self.row.given, self.environment)
         if self.is_static:
-            return came[2] not in UNREADY, came
+            return came[2] != UNLOADED, came
         has_begun = os.path.exists("started")
         if has_begun:
             os.unlink("started")
@@ -75,8 +76,11 @@ class Sweep:
     def sweep(self):
         answers = {(b"", b"aiger: out of memory\n", 1): "out of memory"}
         answers[self.row.output, b"", small.status_of(self.row)] = "answered"
+        was_loaded = False
         for limit in range(self.least(), MOST, NEAR):
             has_begun, came = self.within(limit)
+            has_begun = has_begun or was_loaded
+            was_loaded = self.is_static and has_begun
             kind = answers.get(came) if has_begun else "not begun" if came[2] and not came[0] else None
             self.came[kind or "wrong"] += 1
             if not kind:

@@ -20,7 +20,7 @@ OTHERS = {"clap", "core", "fdatasync", "itoa", "memchr", "std"}
 IN_CODE = (
     r"\b(?:fn|struct|enum|trait|type|const|static|mod) (\w+)",
     r"\b(?:ensures|requires) (\w+) \{",
-    r"^    (\w+)[,({]",
+    r"^    (\w+)(?:[,({]| = \d+,)",
 )
 IN_SPECS = (
     r"^\s*(?:[a-z]+ )*pub (?:record |data )?(\w+)",

@@ -26,7 +26,7 @@ use Rattle.aig_answer.specs.Laws.{AnswersAreRead, StatusesAreRead}
 abbrev at : Spot → Option Status → Bool → ℕ → List ℕ → SoFar
 at spot status ended line bits = so_far (record { spot = spot; status = status; ended = ended; line = line }) bits
 
--- a text, and what is behind it
+-- a text, and what is after it
 on : (s t : SoFar) (xs ys : List ℕ) → fold after s xs ≡ t → fold after s (xs ++ ys) ≡ fold after t ys
 on s t xs ys is = fold-append after s xs ys ∙ ap (λ (u : SoFar). fold after u ys) is
 
@@ -62,7 +62,7 @@ status_read line bits Satisfiable = refl
 status_read line bits Unsatisfiable = refl
 status_read line bits Unknown = refl
 
--- comments and a status behind the beginning
+-- comments and a status after the beginning
 status_lines_read : (bits : List ℕ) (before : List (List ℕ)) (status : Status) → AreComments before
     → (line : ℕ) × (fold after (so_far begun bits) (status_lines before status)
     ≡ at spots.LineStart (Some status) false line bits)
@@ -120,7 +120,7 @@ module _ (line : ℕ) where
       )
       (digits_read is_negative bits (10 * n + (d - 48)) ds (omega (arith, some)) are.1 small)
 
-  -- a number behind a space, and behind a minus
+  -- a number after a space, and after a minus
   number_read : (bits digits : List ℕ) → AreDigits digits → 48 < get_or digits 0 0 → value_of digits ≤ 2147483647
       → fold after (within spots.Space bits) digits ≡ within (spots.Number false (value_of digits)) bits
   number_read bits [] are high small = absurd (omega (arith, high))

@@ -7,12 +7,16 @@
 --     number = "0" | "-"? [1-9][0-9]*      at most 2147483647
 --
 -- A line ends in a line feed, before which one carriage return may stand; the last line may end with the text. There is
--- one status. Lines of values stand behind the status SATISFIABLE and nowhere else; 0 is the last number of all, and it
+-- one status. Lines of values stand after the status SATISFIABLE and nowhere else; 0 is the last number of all, and it
 -- is there.
 use Rattle.std.specs.Prelude.{◌+◌, ◌-◌, ◌*◌, ◌^◌, ◌==◌, ◌&&◌, ◌||◌, ℕ, List, Bool, true, false, not, Option, None, Some}
 use Rattle.std.specs.Prelude.{Result, Ok, Err, codes, is_none, length, nat_le, nat_lt, slice_index, slice_set, take}
 use Rattle.std.specs.Prelude.{if◌then◌else◌}
 use Rattle.std.specs.Str.{bytes_eq}
+use Rattle.aig_fault.specs.Stopping.{fault_at}
+use Rattle.aig_fault.specs.declared.fault.Fault.{Fault}
+use Rattle.aig_fault.specs.declared.fault.Place.TheVariants.{Line}
+use Rattle.aig_fault.specs.declared.kind.Kind.TheVariants.{BadAnswer}
 use Rattle.aig_answer.specs.declared.reader.Move.{Move}
 use Rattle.aig_answer.specs.declared.reader.Reader.{Reader}
 use Rattle.aig_answer.specs.declared.reader.Signed.{Signed}
@@ -35,7 +39,7 @@ line_after line = if nat_lt line (2 ^ 64 - 1) then line + 1 else line
 abbrev pub on_next_line : Reader → Reader
 on_next_line r = record { spot = spots.LineStart; status = r.status; ended = r.ended; line = line_after r.line }
 
--- a line feed ends the text of a line, and so does a carriage return, behind which a line feed is due
+-- a line feed ends the text of a line, and so does a carriage return, after which a line feed is due
 abbrev pub ends_line : ℕ → Bool
 ends_line byte = (byte == 10) || (byte == 13)
 
@@ -89,14 +93,14 @@ in_word r so_far at byte =
 abbrev pub is_digit : ℕ → Bool
 is_digit byte = nat_le 48 byte && nat_le byte 57
 
--- behind `v`, where a space stands before a number
+-- after `v`, where a space stands before a number
 abbrev pub in_values : Reader → ℕ → Reader
 in_values r byte =
     if ends_line byte then behind_line r byte
     else if byte == 32 then standing_at r spots.Space
     else standing_at r spots.Wrong
 
--- behind a space, where a number may begin, unless 0 came
+-- after a space, where a number may begin, unless 0 came
 abbrev pub in_space : Reader → ℕ → Reader
 in_space r byte =
     if ends_line byte then behind_line r byte
@@ -105,20 +109,20 @@ in_space r byte =
     else if is_digit byte && not r.ended then standing_at r (spots.Number false (byte - 48))
     else standing_at r spots.Wrong
 
--- behind `-`, where no 0 stands
+-- after `-`, where no 0 stands
 abbrev pub in_minus : Reader → ℕ → Reader
 in_minus r byte =
     if is_digit byte && not (byte == 48) then standing_at r (spots.Number true (byte - 48))
     else standing_at r spots.Wrong
 
--- a digit more: none behind 0, and no number above the largest
+-- a digit more: none after 0, and no number above the largest
 abbrev pub more_digits : Reader → Bool → ℕ → ℕ → Reader
 more_digits r is_negative number byte =
     if (is_digit byte && not (number == 0)) && nat_le (10 * number + (byte - 48)) LARGEST_NUMBER
     then standing_at r (spots.Number is_negative (10 * number + (byte - 48)))
     else standing_at r spots.Wrong
 
--- behind a number: 0 is the last one, and no value
+-- after a number: 0 is the last one, and no value
 abbrev pub ended_by : Reader → ℕ → Reader
 ended_by r number = record { spot = r.spot; status = r.status; ended = r.ended || (number == 0); line = r.line }
 
@@ -149,7 +153,7 @@ next_at r byte spots.Wrong = moved (standing_at r spots.Wrong) None
 abbrev pub next : Reader → ℕ → Move
 next r byte = next_at r byte r.spot
 
--- at the end of the text, which ends a line that has begun; not behind a carriage return, which no line feed follows
+-- at the end of the text, which ends a line that has begun; not after a carriage return, which no line feed follows
 abbrev pub closed_at : Reader → Spot → Reader
 closed_at r spots.LineStart = r
 closed_at r spots.Return = standing_at r spots.Wrong
@@ -158,17 +162,21 @@ closed_at r spot = (next r 10).reader
 abbrev pub closed : Reader → Reader
 closed r = closed_at r r.spot
 
--- what is said behind the last line, or the number of the line that is wrong or missing
-abbrev pub said_or : ℕ → Bool → Option Status → Result Status ℕ
-said_or line ended None = Err line
-said_or line ended (Some Satisfiable) = if ended then Ok Satisfiable else Err line
+-- the line of this number is none that may stand there, or is missing
+abbrev pub bad_line : ℕ → Fault
+bad_line line = fault_at BadAnswer (Line line) 0
+
+-- what is said after the last line
+abbrev pub said_or : ℕ → Bool → Option Status → Result Status Fault
+said_or line ended None = Err (bad_line line)
+said_or line ended (Some Satisfiable) = if ended then Ok Satisfiable else Err (bad_line line)
 said_or line ended (Some status) = Ok status
 
-abbrev pub answer_at : Reader → Spot → Result Status ℕ
-answer_at r spots.Wrong = Err r.line
+abbrev pub answer_at : Reader → Spot → Result Status Fault
+answer_at r spots.Wrong = Err (bad_line r.line)
 answer_at r spot = said_or r.line r.ended r.status
 
-abbrev pub answer_of : Reader → Result Status ℕ
+abbrev pub answer_of : Reader → Result Status Fault
 answer_of r = answer_at r r.spot
 
 -- how far an answer was read, and the values so far, as the characters `0` and `1`
@@ -190,6 +198,6 @@ abbrev pub with_any : List ℕ → Option Signed → List ℕ
 with_any bits None = bits
 with_any bits (Some value) = with_value bits value
 
--- behind one more byte
+-- after one more byte
 abbrev pub after : SoFar → ℕ → SoFar
 after s byte = so_far (next s.reader byte).reader (with_any s.bits (next s.reader byte).value)

@@ -7,7 +7,7 @@ use Rattle.aig_answer.specs.declared.reader.Status.TheVariants.{Satisfiable}
 use Rattle.aig_answer.specs.declared.reader.TheConstants.{LARGEST_NUMBER}
 use Rattle.aig_answer.specs.Answer.{status_text}
 
--- a value, behind a space
+-- a value, after a space
 abbrev pub value_text : Signed → List ℕ
 value_text value = codes " " ++ ((if value.is_negative then codes "-" else []) ++ decimal value.number)
 

@@ -1,4 +1,3 @@
 pub mod Answer
 pub mod AnswerText
-pub mod Messages
 pub mod Laws

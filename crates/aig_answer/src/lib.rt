@@ -6,11 +6,9 @@
 //! The definitions that matter most are `after` and `AnswersAreRead`.
 #![tactic(auto)]
 
-mod fault;
 pub mod laws;
 mod reader;
 mod values;
 
-pub use crate::fault::BadAnswerLine;
 pub use crate::reader::{Move, Reader, Signed, Spot, Status};
 pub use crate::values::read_values;

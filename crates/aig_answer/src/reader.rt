@@ -6,7 +6,7 @@ ghost use Rattle.aig_answer.specs.Answer.{in_minus, in_number, in_return, in_spa
 ghost use Rattle.aig_answer.specs.Answer.{in_word, is_digit, more_digits, next, on_next_line};
 ghost use Rattle.aig_answer.specs.Answer.{signed_by, standing_at, status_text};
 
-use crate::fault::BadAnswerLine;
+use aig_fault::{Fault, Kind, Place};
 
 /// The largest number in an answer: variables of solvers are numbers of 32 bits with a sign.
 pub const LARGEST_NUMBER: u64 = 2_147_483_647;
@@ -28,17 +28,17 @@ pub enum Spot {
     Comment,
     /// In the line of a status, of which so many bytes came.
     Word(Status, usize),
-    /// Behind the `v` of a line of values.
+    /// After the `v` of a line of values.
     Values,
-    /// Behind a space in it.
+    /// After a space in it.
     Space,
-    /// Behind a minus.
+    /// After a minus.
     Minus,
     /// In a number, negative or not, that comes to this so far.
     Number(bool, u32),
-    /// Behind a carriage return, which only a line feed may follow.
+    /// After a carriage return, which only a line feed may follow.
     Return,
-    /// Behind a wrong byte.
+    /// After a wrong byte.
     Wrong,
 }
 
@@ -262,7 +262,7 @@ impl Reader {
         self.standing_at(Spot::Wrong)
     }
 
-    /// Behind a number, of which 0 is the last.
+    /// After a number, of which 0 is the last.
     fn ended_by(self, number: u32) -> Reader
         ensures { result ≡ ended_by self number }
     {
@@ -317,7 +317,7 @@ impl Reader {
         }
     }
 
-    /// Behind one more byte.
+    /// After one more byte.
     pub fn next(self, byte: u8) -> Move
         ensures { result ≡ next self byte }
     {
@@ -338,7 +338,7 @@ impl Reader {
         }
     }
 
-    /// Behind the last byte.
+    /// After the last byte.
     fn close(self) -> Reader
         ensures { result ≡ closed self }
     {
@@ -349,13 +349,18 @@ impl Reader {
         }
     }
 
-    /// What the answer is, where no more bytes come.
-    pub fn answer(self) -> Result<Status, BadAnswerLine>
+    /// What the answer is, where no more bytes come; or that a line is none that may stand there, or is
+    /// missing.
+    pub fn answer(self) -> Result<Status, Fault>
         ensures ok { IfOk result (λ status. answer_of (closed self) ≡ Ok status) }
-        ensures err { IfErr result (λ fault. answer_of (closed self) ≡ Err fault.line) }
+        ensures err { IfErr result (λ fault. answer_of (closed self) ≡ Err fault) }
     {
         let end = self.close();
-        let fault = BadAnswerLine { line: end.line };
+        let fault = Fault {
+            kind: Kind::BadAnswer,
+            place: Place::Line(end.line),
+            subject: 0,
+        };
         if matches!(end.spot, Spot::Wrong) {
             return Err(fault);
         }

@@ -1,4 +1,4 @@
 mod Threes
 mod BySection
-mod Told
+mod Decoded
 mod Values

@@ -24,7 +24,7 @@ module _ {X : Type 0} (entry : ℕ → ℕ → ℕ → X) where
   threes_length (x ∷ y ∷ z ∷ words) zero e = absurd (omega arith)
   threes_length (x ∷ y ∷ z ∷ words) (suc k) e = ap suc (threes_length words k (omega arith))
 
--- the words behind the first three, as a pattern has them
+-- the words after the first three, as a pattern has them
 abbrev pub behind : List ℕ → List ℕ
 behind words = take (length words - 3) (drop 3 words)
 
@@ -34,7 +34,7 @@ behind_is words = take_all (length words - 3) (drop 3 words) (omega (arith, leng
 pub behind_length : (words : List ℕ) → 3 ≤ length words → length (behind words) + 3 ≡ length words
 behind_length words long = omega (arith, ap length (behind_is words), length-drop 3 words)
 
--- the first three words, and those behind them
+-- the first three words, and those after them
 module _ (AreRight : ℕ → ℕ → ℕ → ℕ → Type 0) where
   pub right_ahead : (v : ℕ) (words : List ℕ) → 3 ≤ length words → AreInThrees AreRight v words
       ↔ (AreRight v (get_or words 0 0) (get_or words 1 0) (get_or words 2 0)
@@ -80,7 +80,7 @@ gate_rows_again = rows_again gate_in gate_row AreGateWords again where
   again : (v x y z : ℕ) → AreGateWords v x y z → gate_row (gate_in x y z) ≡ x ∷ y ∷ z ∷ []
   again v x y z right = let e : literal_of (variable_of x) ≡ x = omega (arith, right.0) in ap (λ w. w ∷ y ∷ z ∷ []) e
 
--- a reset is told by its word
+-- a reset is decoded from its word
 reset_again : (own reset : ℕ) → (reset ≤ 1) ⊎ (reset ≡ own) → reset_number own (reset_of reset) ≡ reset
 reset_again own reset h =
     ⊎_elim (λ (t : (eqb reset 0 ≡ true) × (reset ≡ 0)). rw t.0 (sym t.1))

@@ -23,7 +23,7 @@ use Rattle.aig_circuit.specs.declared.value.Val.TheVariants.{Zero, One, X}
 use Rattle.aig_meaning.proofs.Related.{same_literal}
 use Rattle.aig_meaning.specs.Meaning.{Holds, IsStepAssignment, latch_variables, literal_value, next_literals}
 use Rattle.aig_array_steps.proofs.Threes.{behind, behind_is}
-use Rattle.aig_array_steps.proofs.Told.{numbered, shown_again, inputs_are, latches_are}
+use Rattle.aig_array_steps.proofs.Decoded.{numbered, shown_again, inputs_are, latches_are}
 use Rattle.aig_array_steps.specs.Parts.Values.{AreGiven, AreValues, gate_byte, literal_byte, value_in, value_of_byte}
 use Rattle.aig_array_steps.specs.Parts.Values.{filled, shown_by, with_gates}
 use Rattle.aig_array_steps.specs.Parts.Words.{AreAsLong, AreGateWords, AreInThrees, AreOrdered, SectionWords}

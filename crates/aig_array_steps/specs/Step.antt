@@ -1,10 +1,9 @@
 -- One step of a circuit whose words are in order, over the bytes of its values (this project's interface for C; what a
 -- step is stands in `Meaning`).
-use Rattle.std.specs.Prelude.{◌≡◌, ◌+◌, ◌<◌, ◌≤◌, ◌++◌, ℕ, List, [], None, length, map, take, drop, slice_index, true}
+use Rattle.std.specs.Prelude.{◌≡◌, ◌⊎◌, ◌+◌, ◌<◌, ◌≤◌, ◌++◌, ℕ, List, [], None, length, map, take, drop, slice_index}
+use Rattle.std.specs.Prelude.{true}
 use Rattle.std.specs.List.{range_with_len}
-use Rattle.aig_array_steps.specs.declared.one_step.StepFault.{StepFault}
-use Rattle.aig_array_steps.specs.declared.one_step.StepFault.TheVariants.{BadCounts, NotOrdered, TooShort, BadValue}
-use Rattle.aig_arrays.specs.Told.{are_in_range}
+use Rattle.aig_arrays.specs.Decoded.{are_in_range}
 use Rattle.aig_arrays.specs.Words.{counts_of, section_length, section_words}
 use Rattle.aig_arrays.specs.declared.counts.Counts.{Counts}
 use Rattle.aig_checked.specs.BinaryOrder.{IsNumberedInOrder}
@@ -12,6 +11,10 @@ use Rattle.aig_circuit.specs.Wellformed.{IsWellFormed}
 use Rattle.aig_circuit.specs.declared.circuit.Circuit.{Circuit}
 use Rattle.aig_circuit.specs.declared.value.Val.{Val}
 use Rattle.aig_circuit.specs.declared.value.Val.TheVariants.{Zero, One, X}
+use Rattle.aig_fault.specs.Stopping.{fault_at}
+use Rattle.aig_fault.specs.declared.fault.Fault.{Fault}
+use Rattle.aig_fault.specs.declared.fault.Place.TheVariants.{Value, Whole}
+use Rattle.aig_fault.specs.declared.kind.Kind.TheVariants as kinds
 use Rattle.aig_meaning.specs.Meaning.{IsStepAssignment, literal_value, next_literals}
 
 -- the byte of a value
@@ -43,7 +46,7 @@ value_bytes c a =
     map value_byte (map a (range_with_len 0 (1 + c.max_var))
     ++ map (literal_value a) (c.outputs ++ c.bad ++ c.constraints ++ next_literals c))
 
--- The bytes of inputs and state stand behind the first, and all bytes are now those of a step from there.
+-- The bytes of inputs and state stand after the first, and all bytes are now those of a step from there.
 pub record IsStepped (c : Circuit) (before after : List ℕ) : Type 0 where
   pub a : ℕ → Val
   pub given : List Val
@@ -62,9 +65,9 @@ pub record IsBadValue (n : Counts) (values : List ℕ) (place : ℕ) : Type 0 wh
   pub bad : 2 < slice_index values place
   pub first : (i : ℕ) → 1 ≤ i → i < place → slice_index values i ≤ 2
 
--- some circuit is told
-abbrev pub IsTold : Counts → List ℕ → Type 0
-IsTold n words = (c : Circuit) × TellsNumbered n words c
+-- some circuit is decoded
+abbrev pub IsDecoded : Counts → List ℕ → Type 0
+IsDecoded n words = (c : Circuit) × TellsNumbered n words c
 
 -- the values are now those of a step of a circuit that the words tell
 pub record IsStepOf (n : Counts) (words before after : List ℕ) : Type 0 where
@@ -73,11 +76,14 @@ pub record IsStepOf (n : Counts) (words before after : List ℕ) : Type 0 where
   pub stepped : IsStepped c before after
   pub sections : HasSections n words
 
--- what is known where no step was taken, by the first fault
-abbrev pub IsFault : Counts → (words values : List ℕ) → StepFault → Type 0
-IsFault n words values BadCounts = ¬ HasSections n words
-IsFault n words values NotOrdered = HasSections n words × (¬ IsTold n words)
-IsFault n words values (TooShort needed) =
-    HasSections n words × IsTold n words × (needed ≡ values_length n) × (length values < needed)
-IsFault n words values (BadValue place) =
-    HasSections n words × IsTold n words × (values_length n ≤ length values) × IsBadValue n values place
+-- the words tell a circuit, and there is no room for its values
+abbrev pub HasNoRoom : Counts → (words values : List ℕ) → Type 0
+HasNoRoom n words values = HasSections n words × IsDecoded n words × (length values < values_length n)
+
+-- what is known of the first fault
+abbrev pub IsFault : Counts → (words values : List ℕ) → Fault → Type 0
+IsFault n words values fault =
+    ((fault ≡ fault_at kinds.BadCounts Whole 0) × (¬ HasSections n words))
+    ⊎ ((fault ≡ fault_at kinds.NotOrdered Whole 0) × HasSections n words × (¬ IsDecoded n words))
+    ⊎ ((place : ℕ) × (fault ≡ fault_at kinds.BadValue (Value place) 0) × HasSections n words × IsDecoded n words
+    × (values_length n ≤ length values) × IsBadValue n values place)

@@ -1,8 +1,9 @@
 //! One step over words.
-ghost use Rattle.std.specs.Prelude.{◌≡◌, ◌+◌, ◌<◌, ◌≤◌, ◌^◌, ℕ, None, length, slice_index};
+ghost use Rattle.std.specs.Prelude.{◌≡◌, ◌+◌, ◌<◌, ◌≤◌, ◌^◌, ℕ, None, length, slice_index, true, false};
 ghost use Rattle.std.specs.Prelude.{IfErr, IfOk};
 ghost use Rattle.std.specs.Option.{IfSome};
-ghost use Rattle.aig_array_steps.specs.Step.{IsBadValue, IsFault, IsStepOf, IsStepped};
+ghost use Rattle.aig_array_steps.specs.Step.{HasNoRoom, IsBadValue, IsFault, IsStepOf, IsStepped};
+ghost use Rattle.aig_fault.specs.Stopping.{fault_at};
 ghost use Rattle.aig_array_steps.specs.Step.{given_length, values_length as length_of_values};
 ghost use Rattle.aig_array_steps.specs.Parts.Words.{AreAsLong, AreOrdered, circuit_in};
 ghost use Rattle.aig_array_steps.specs.Parts.Values.{AreGiven};
@@ -11,18 +12,17 @@ use crate::evaluate::{fill, show_all};
 use crate::numbered::are_numbered;
 use crate::sections::{Sections, sections_of, shown_length};
 use aig_arrays::Counts;
+use aig_fault::{Fault, Kind, Place};
 
-/// Why no step was taken.
-#[derive(Clone, Copy, Debug, PartialEq, Eq)]
-pub enum StepFault {
-    /// The counts are out of range, or there are fewer words than they say.
-    BadCounts,
-    /// The words are not those of a circuit whose variables are numbered in order.
-    NotOrdered,
-    /// There is no room for the values: so many bytes are needed.
-    TooShort(u64),
-    /// The byte at this place among the values is given, and is none of a value.
-    BadValue(u64),
+/// A fault of the words or the values.
+fn fault(kind: Kind, place: Place) -> Fault
+    ensures { result ≡ fault_at kind place 0 }
+{
+    Fault {
+        kind,
+        place,
+        subject: 0,
+    }
 }
 
 /// How many bytes of values there are.
@@ -61,26 +61,29 @@ fn write(counts: &Counts, sections: &Sections, values: &mut [u8])
 
 /// Takes a step of the circuit that the words tell, over its values: a byte each, 0, 1 or 2 for x,
 /// of the constant and each variable, then of outputs, bad states, constraints and the next state.
-/// Inputs and state are given. Symbols are not looked at, and no memory is taken.
-#[tactic(auto, using(crate::proofs::Told::sections_are_right, crate::proofs::Told::some_is_told, crate::proofs::Told::step_is_of))]
-pub fn step(counts: &Counts, words: &[u32], values: &mut [u8]) -> Result<(), StepFault>
-    ensures ok { IfOk result (λ _. IsStepOf counts.now words.now values.old values.new) }
+/// Inputs and state are given. Returns whether there is room for the values; where there is none,
+/// no step is taken. Symbols are not looked at, and no memory is taken.
+#[tactic(auto, using(crate::proofs::Decoded::sections_are_right, crate::proofs::Decoded::some_is_decoded, crate::proofs::Decoded::step_is_of))]
+pub fn step(counts: &Counts, words: &[u32], values: &mut [u8]) -> Result<bool, Fault>
+    ensures taken { IfOk result (λ has_room. has_room ≡ true
+        → IsStepOf counts.now words.now values.old values.new) }
+    ensures short { IfOk result (λ has_room. has_room ≡ false
+        → HasNoRoom counts.now words.now values.old × (values.new ≡ values.old)) }
     ensures fault { IfErr result (IsFault counts.now words.now values.old) }
     ensures kept { IfErr result (λ _. values.new ≡ values.old) }
 {
     let Some(sections) = sections_of(counts, words) else {
-        return Err(StepFault::BadCounts);
+        return Err(fault(Kind::BadCounts, Place::Whole));
     };
     if !are_numbered(counts, &sections) {
-        return Err(StepFault::NotOrdered);
+        return Err(fault(Kind::NotOrdered, Place::Whole));
     }
-    let needed = values_length(counts);
-    if values.len() < needed {
-        return Err(StepFault::TooShort(needed as u64));
+    if values.len() < values_length(counts) {
+        return Ok(false);
     }
     if let Some(place) = bad_value(counts, values) {
-        return Err(StepFault::BadValue(place as u64));
+        return Err(fault(Kind::BadValue, Place::Value(place as u64)));
     }
     write(counts, &sections, values);
-    Ok(())
+    Ok(true)
 }

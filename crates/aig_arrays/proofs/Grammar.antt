@@ -2,5 +2,5 @@ pub mod Rows
 pub mod Sections
 pub mod Symbols
 pub mod Places
-pub mod Told
+pub mod Decoded
 pub mod Tells

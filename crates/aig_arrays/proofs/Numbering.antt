@@ -69,7 +69,7 @@ module _ (c : Circuit) (order : List ℕ) (good : IsWellFormed c) (least : IsLea
       refl
       ∙ ap (range_with_len 1) (omega (arith, many))
 
-  -- the variable of a gate stands behind those of inputs and latches
+  -- the variable of a gate stands after those of inputs and latches
   above : (v : ℕ) → IsAmong v (variables c.gates) → start ≤ number v
   above v of_gate =
       let defined : IsAmong v (defined_variables c) = among_last first (variables c.gates) v of_gate in
@@ -93,13 +93,13 @@ module _ (c : Circuit) (order : List ℕ) (good : IsWellFormed c) (least : IsLea
   -- the numbers that are noted are the new ones
   pub noted_numbers : (noted : ℕ → ℕ) → ((v : ℕ) → noted v ≡ number_in vs v)
       → map noted (defined_variables c) ≡ new_numbers order c
-  noted_numbers noted told = map_same noted number (defined_variables c) (λ v defined.
+  noted_numbers noted decoded = map_same noted number (defined_variables c) (λ v defined.
       let low : 1 ≤ v = (each (IsVariableUpTo c.max_var) (defined_variables c) good.in_range v defined).0 in
       let fits = ((one_to_one c order good least).within v defined).1 in
-      told v
+      decoded v
       ∙ in_place v vs (λ e. absurd (omega (arith, low, e))) (omega (arith, fits, as_many c order good least)))
 
--- the numbers of inputs, latches and gates, put one behind another
+-- the numbers of inputs, latches and gates, put one after another
 pub numbers_placed : (noted : ℕ → ℕ) (c : Circuit) (array one two : List ℕ) (mid end : ℕ)
     → one ≡ placed 0 (map noted c.inputs) array → two ≡ placed mid (map (λ (l : Latch). noted l.var) c.latches) one
     → mid ≡ length c.inputs → end ≡ length c.inputs + length c.latches

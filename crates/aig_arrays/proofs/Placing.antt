@@ -7,7 +7,7 @@ use Rattle.aig_circuit.specs.declared.circuit.Symbol.{Symbol}
 use Rattle.aig_arrays.specs.Parts.Placed.{placed}
 use Rattle.aig_arrays.specs.Words.{symbol_row, symbol_words}
 
--- one list behind another
+-- one list after another
 pub placed_twice : (at : ℕ) (xs ys array : List ℕ)
     → placed (at + length xs) ys (placed at xs array) ≡ placed at (xs ++ ys) array
 placed_twice at [] ys array = let same : at + 0 ≡ at = omega arith in ap (λ n. placed n ys array) same
@@ -15,7 +15,7 @@ placed_twice at (x ∷ xs) ys array =
     let same : at + length (x ∷ xs) ≡ at + 1 + length xs = omega arith in
     ap (λ n. placed n ys (placed (at + 1) xs (set array at x))) same ∙ placed_twice (at + 1) xs ys (set array at x)
 
--- what stands before and behind stays
+-- what stands before and after stays
 pub placed_between : (front xs back : List ℕ) → length xs ≤ length back
     → placed (length front) xs (front ++ back) ≡ front ++ (xs ++ drop (length xs) back)
 placed_between front [] back room = refl
@@ -53,7 +53,7 @@ pub placed_more : (at : ℕ) (xs : List ℕ) (x end : ℕ) (array : List ℕ) �
 placed_more at xs x end array end_is =
     others_left at xs (x ∷ []) array (placed at (xs ++ x ∷ []) array) refl end (placed at xs array) end_is refl
 
--- Entries of which each is put behind those before it.
+-- Entries of which each is put after those before it.
 module _ {T : Type 0} (row : T → List ℕ) (items : List T) (i : ℕ) (x : T) (below : i < length items)
     (is : x ≡ get_or items i x) where
   parted : flat_map row (drop i items) ≡ row x ++ flat_map row (drop (i + 1) items)

@@ -1,4 +1,4 @@
--- The words of the sections of a circuit, one section behind another, and how many words and bytes there are.
+-- The words of the sections of a circuit, one section after another, and how many words and bytes there are.
 use Rattle.std.proofs.Common.{◌≡◌, ◌+◌, ◌*◌, ◌++◌, ◌∷◌, ◌≤◌, ℕ, List, [], All, ap, arith, flat_map, length}
 use Rattle.std.proofs.Common.{length-append, map, refl}
 use Rattle.std.specs.List.{AllByRecursion, concat}

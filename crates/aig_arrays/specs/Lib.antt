@@ -1,5 +1,5 @@
 pub mod Words
-pub mod Told
+pub mod Decoded
 pub mod Outcomes
 pub mod Ordered
 pub mod Laws

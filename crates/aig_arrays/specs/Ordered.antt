@@ -18,7 +18,7 @@ pub record IsNumberedImage (c image : Circuit) (numbers : List ℕ) : Type 0 whe
   pub is_image : image ≡ image_by order c
   pub are_numbers : numbers ≡ new_numbers order c
 
--- the same, where the numbers stand at the front of an array, and behind them it is as it was
+-- the same, where the numbers stand at the front of an array, and after them it is as it was
 pub record IsNumberedImageIn (c image : Circuit) (old new : List ℕ) : Type 0 where
   pub numbers : List ℕ
   pub is_image : IsNumberedImage c image numbers

@@ -1,7 +1,7 @@
 //! How many of each kind a circuit has, as its header in an AIGER file has it, and how many words
 //! and bytes hold it.
 ghost use Rattle.std.specs.Prelude.{◌≡◌, ◌^◌, ◌<◌};
-ghost use Rattle.aig_arrays.specs.Told.{are_in_range};
+ghost use Rattle.aig_arrays.specs.Decoded.{are_in_range};
 ghost use Rattle.aig_arrays.specs.Words.{section_length, words_length};
 
 use aig_core::LARGEST;

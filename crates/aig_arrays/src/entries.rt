@@ -2,7 +2,7 @@
 ghost use Rattle.std.specs.Prelude.{◌≡◌, ◌+◌, ◌*◌, ◌<◌, ◌≤◌, ◌^◌};
 ghost use Rattle.std.specs.Prelude.{List, ℕ, [], ◌∷◌, nat_lt, slice_index};
 ghost use Rattle.aig_arrays.specs.Outcomes.{entry_meant};
-ghost use Rattle.aig_arrays.specs.Told.{row_told};
+ghost use Rattle.aig_arrays.specs.Decoded.{bad_entry, row_decoded};
 ghost use Rattle.aig_circuit.specs.Wellformed.{largest_index};
 ghost use Rattle.aig_rows.specs.Outcomes.{GivesOrFails};
 ghost use Rattle.aig_rows.specs.Reading.{carried_on, fault_in_row, is_no_variable};
@@ -10,9 +10,8 @@ ghost use Rattle.aig_rows.specs.Rows.{Form, gate_form, gate_of, input_form, inpu
 ghost use Rattle.aig_rows.specs.Rows.{latch_of, literal_form, literal_in, reset_of, size_form};
 ghost use Rattle.aig_rows.specs.Rows.{size_of};
 
-use crate::fault::ArrayFault;
 use aig_core::{Gate, Latch, Lit, Reset, Var};
-use aig_text::ReadKind;
+use aig_fault::{Kind, Place, Stopped, refused, refused_whole};
 use std::marker::Model;
 
 /// A place among words.
@@ -25,7 +24,7 @@ pub(crate) struct WordCursor<'a> {
 }
 
 impl<'a> Model for WordCursor<'a> {
-    ghost use Rattle.aig_arrays.specs.Told.{Ahead};
+    ghost use Rattle.aig_arrays.specs.Decoded.{Ahead};
 
     ghost Value = { Ahead };
 
@@ -36,8 +35,8 @@ impl<'a> Model for WordCursor<'a> {
     ghost invariant = { λ a. a.at + length a.rest.now < 2 ^ 64 };
 }
 
-/// What so many words tell in a row. It is judged beside the largest index, or what sizes may add
-/// up to (`bound`), and beside the sum of the sizes before it (`carried`).
+/// An entry read from a fixed number of words. It is judged beside the largest index, or what sizes
+/// may add up to (`bound`), and beside the sum of the sizes before it (`carried`).
 pub(crate) trait FromWords: Copy {
     /// What the words have to hold.
     ghost form: { Form };
@@ -45,12 +44,12 @@ pub(crate) trait FromWords: Copy {
     /// The entry that the words mean.
     ghost meant_by: { List ℕ → Self };
 
-    /// Reads the entry that begins here, and moves behind it, unless it is not right.
-    fn read_entry(from: &mut WordCursor, bound: u32, carried: u64) -> Result<Self, ArrayFault>
+    /// Reads the entry that begins here, and moves past it, unless it is not right.
+    fn read_entry(from: &mut WordCursor, bound: u32, carried: u64) -> Result<Self, Stopped>
         requires bound { bound ≤ largest_index }
         requires carried { carried + 2 ^ 32 ≤ 2 ^ 64 }
         ensures { GivesOrFails (λ entry. (entry, from.new)) result
-            (entry_meant meant_by (row_told form bound carried from.old)) };
+            (entry_meant meant_by (row_decoded form bound carried from.old)) };
 
     /// What is carried to the next entry.
     fn carry(self, carried: u64) -> u64
@@ -58,6 +57,13 @@ pub(crate) trait FromWords: Copy {
         ensures carried { (ns : List ℕ) → meant_by ns ≡ self
             → result ≡ carried_on form.first carried (slice_index ns 0) }
         ensures small { result < carried + 2 ^ 32 };
+}
+
+/// What is wrong with the entry that begins at this word.
+pub(crate) fn bad_entry(word: u64, kind: Kind) -> Stopped
+    ensures { result ≡ bad_entry word kind }
+{
+    refused(kind, Place::Word(word), 0)
 }
 
 /// Whether a word cannot be a definition.
@@ -78,70 +84,70 @@ fn exceeds(bound: u32, word: u32) -> bool
 }
 
 #[inline(always)]
-fn fault_in_input(bound: u32, own: u32) -> Option<ReadKind>
+fn fault_in_input(bound: u32, own: u32) -> Option<Kind>
     requires { bound ≤ largest_index }
     ensures { (carried : ℕ) → result ≡ fault_in_row input_form bound carried (own ∷ []) }
 {
     if is_no_variable(own) {
-        return Some(ReadKind::NotVariable);
+        return Some(Kind::NotVariable);
     }
     if exceeds(bound, own) {
-        return Some(ReadKind::LiteralRange);
+        return Some(Kind::LiteralRange);
     }
     None
 }
 
 #[inline(always)]
-fn fault_in_latch(bound: u32, own: u32, next: u32, reset: u32) -> Option<ReadKind>
+fn fault_in_latch(bound: u32, own: u32, next: u32, reset: u32) -> Option<Kind>
     requires { bound ≤ largest_index }
     ensures { (carried : ℕ)
         → result ≡ fault_in_row latch_form bound carried (own ∷ next ∷ reset ∷ []) }
 {
     if is_no_variable(own) {
-        return Some(ReadKind::NotVariable);
+        return Some(Kind::NotVariable);
     }
     if exceeds(bound, own) || exceeds(bound, next) {
-        return Some(ReadKind::LiteralRange);
+        return Some(Kind::LiteralRange);
     }
     if reset >= 2 && reset != own {
-        return Some(ReadKind::BadReset);
+        return Some(Kind::BadReset);
     }
     None
 }
 
 #[inline(always)]
-fn fault_in_literal(bound: u32, literal: u32) -> Option<ReadKind>
+fn fault_in_literal(bound: u32, literal: u32) -> Option<Kind>
     requires { bound ≤ largest_index }
     ensures { (carried : ℕ) → result ≡ fault_in_row literal_form bound carried (literal ∷ []) }
 {
     if exceeds(bound, literal) {
-        return Some(ReadKind::LiteralRange);
+        return Some(Kind::LiteralRange);
     }
     None
 }
 
 #[inline(always)]
-fn fault_in_size(bound: u32, carried: u64, size: u32) -> Option<ReadKind>
+fn fault_in_size(bound: u32, carried: u64, size: u32) -> Option<Kind>
     requires { carried + 2 ^ 32 ≤ 2 ^ 64 }
     ensures { result ≡ fault_in_row size_form bound carried (size ∷ []) }
 {
     if carried + u64::from(size) > u64::from(bound) {
-        return Some(ReadKind::TooLarge);
+        return Some(Kind::TooLarge);
     }
     None
 }
 
 #[inline(always)]
-fn fault_in_gate(bound: u32, own: u32, left: u32, right: u32) -> Option<ReadKind>
+fn fault_in_gate(bound: u32, own: u32, left: u32, right: u32) -> Option<Kind>
     requires { bound ≤ largest_index }
     ensures { (carried : ℕ)
         → result ≡ fault_in_row gate_form bound carried (own ∷ left ∷ right ∷ []) }
 {
     if is_no_variable(own) {
-        return Some(ReadKind::NotVariable);
+        return Some(Kind::NotVariable);
     }
     if exceeds(bound, own) || exceeds(bound, left) || exceeds(bound, right) {
-        return Some(ReadKind::LiteralRange);
+        return Some(Kind::LiteralRange);
     }
     None
 }
@@ -164,13 +170,13 @@ impl FromWords for Var {
     ghost meant_by = { input_of };
 
     #[inline(always)]
-    fn read_entry(from: &mut WordCursor, bound: u32, _carried: u64) -> Result<Var, ArrayFault> {
+    fn read_entry(from: &mut WordCursor, bound: u32, _carried: u64) -> Result<Var, Stopped> {
         let [own, rest @ ..] = from.rest else {
-            return Err(ArrayFault::BadCounts);
+            return Err(refused_whole(Kind::BadCounts));
         };
         let word = from.at;
         if let Some(kind) = fault_in_input(bound, *own) {
-            return Err(ArrayFault::BadEntry { word, kind });
+            return Err(bad_entry(word, kind));
         }
         let at = word + 1;
         *from = WordCursor { rest, at };
@@ -189,13 +195,13 @@ impl FromWords for Latch {
     ghost meant_by = { latch_of };
 
     #[inline(always)]
-    fn read_entry(from: &mut WordCursor, bound: u32, _carried: u64) -> Result<Latch, ArrayFault> {
+    fn read_entry(from: &mut WordCursor, bound: u32, _carried: u64) -> Result<Latch, Stopped> {
         let [own, next, reset, rest @ ..] = from.rest else {
-            return Err(ArrayFault::BadCounts);
+            return Err(refused_whole(Kind::BadCounts));
         };
         let word = from.at;
         if let Some(kind) = fault_in_latch(bound, *own, *next, *reset) {
-            return Err(ArrayFault::BadEntry { word, kind });
+            return Err(bad_entry(word, kind));
         }
         let at = word + 3;
         *from = WordCursor { rest, at };
@@ -218,13 +224,13 @@ impl FromWords for Lit {
     ghost meant_by = { literal_in };
 
     #[inline(always)]
-    fn read_entry(from: &mut WordCursor, bound: u32, _carried: u64) -> Result<Lit, ArrayFault> {
+    fn read_entry(from: &mut WordCursor, bound: u32, _carried: u64) -> Result<Lit, Stopped> {
         let [literal, rest @ ..] = from.rest else {
-            return Err(ArrayFault::BadCounts);
+            return Err(refused_whole(Kind::BadCounts));
         };
         let word = from.at;
         if let Some(kind) = fault_in_literal(bound, *literal) {
-            return Err(ArrayFault::BadEntry { word, kind });
+            return Err(bad_entry(word, kind));
         }
         let at = word + 1;
         *from = WordCursor { rest, at };
@@ -244,13 +250,13 @@ impl FromWords for u32 {
     ghost meant_by = { size_of };
 
     #[inline(always)]
-    fn read_entry(from: &mut WordCursor, bound: u32, carried: u64) -> Result<u32, ArrayFault> {
+    fn read_entry(from: &mut WordCursor, bound: u32, carried: u64) -> Result<u32, Stopped> {
         let [size, rest @ ..] = from.rest else {
-            return Err(ArrayFault::BadCounts);
+            return Err(refused_whole(Kind::BadCounts));
         };
         let word = from.at;
         if let Some(kind) = fault_in_size(bound, carried, *size) {
-            return Err(ArrayFault::BadEntry { word, kind });
+            return Err(bad_entry(word, kind));
         }
         let at = word + 1;
         *from = WordCursor { rest, at };
@@ -269,13 +275,13 @@ impl FromWords for Gate {
     ghost meant_by = { gate_of };
 
     #[inline(always)]
-    fn read_entry(from: &mut WordCursor, bound: u32, _carried: u64) -> Result<Gate, ArrayFault> {
+    fn read_entry(from: &mut WordCursor, bound: u32, _carried: u64) -> Result<Gate, Stopped> {
         let [own, left, right, rest @ ..] = from.rest else {
-            return Err(ArrayFault::BadCounts);
+            return Err(refused_whole(Kind::BadCounts));
         };
         let word = from.at;
         if let Some(kind) = fault_in_gate(bound, *own, *left, *right) {
-            return Err(ArrayFault::BadEntry { word, kind });
+            return Err(bad_entry(word, kind));
         }
         let at = word + 3;
         *from = WordCursor { rest, at };

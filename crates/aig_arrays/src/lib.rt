@@ -4,21 +4,19 @@
 //! which make arrays of a circuit; `numbered_image`, its binary image with the new numbers of its
 //! variables; and `read_arrays`, which makes a circuit of arrays or reports their first fault.
 //!
-//! The definitions that matter most are `circuit_words`, `circuit_bytes` and `told`.
+//! The definitions that matter most are `circuit_words`, `circuit_bytes` and `decoded`.
 #![tactic(auto)]
 
 mod counts;
+mod decoded;
 mod entries;
-mod fault;
 pub mod laws;
 mod numbered;
 mod put;
 mod sections;
 mod symbols;
-mod told;
 
 pub use crate::counts::Counts;
-pub use crate::fault::ArrayFault;
+pub use crate::decoded::read_arrays;
 pub use crate::numbered::numbered_image;
 pub use crate::put::{counts_of, put_bytes, put_words};
-pub use crate::told::read_arrays;

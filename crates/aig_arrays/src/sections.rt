@@ -1,33 +1,34 @@
-//! Sections of arrays: entries of one kind, one behind the other.
+//! Sections of arrays: entries of one kind, one after the other.
 ghost use Rattle.std.specs.Prelude.{◌≡◌, ◌+◌, ◌*◌, ◌^◌, ◌<◌, ◌≤◌, OnOk};
 ghost use Rattle.std.specs.List.{sum};
 ghost use Rattle.aig_arrays.specs.Outcomes.{GivesOrMemory, entries_meant};
-ghost use Rattle.aig_arrays.specs.Told.{header_of, rows_told};
-ghost use Rattle.aig_arrays.specs.Told.{section_told, sections_told};
+ghost use Rattle.aig_arrays.specs.Decoded.{header_of, rows_decoded};
+ghost use Rattle.aig_arrays.specs.Decoded.{section_decoded, sections_decoded};
 ghost use Rattle.aig_circuit.specs.Wellformed.{largest_index};
 ghost use Rattle.aig_text.specs.Sections.{in_ascii, sections};
 
 use crate::counts::Counts;
 use crate::entries::{FromWords, WordCursor};
-use crate::fault::ArrayFault;
 use aig_core::{Circuit, LARGEST, Listing};
+use aig_fault::Stopped;
 use aig_text::{SECTIONS, Section};
 use std::alloc::Global;
 use std::mem;
 
 /// Adds so many entries, which are judged beside `bound` and what is carried to the first, and
-/// moves behind them.
+/// moves past them.
 fn push_rows<T: FromWords>(
     found: &mut Vec<T>,
     count: u32,
     bound: u32,
     start: u64,
     from: &mut WordCursor,
-) -> Result<(), ArrayFault>
+) -> Result<(), Stopped>
     requires bound { bound ≤ largest_index }
     requires start { start ≤ largest_index }
     ensures { GivesOrMemory (λ _. (found.new.items, from.new)) result
-        (entries_meant T.meant_by found.old.items (rows_told T.form bound start count from.old)) }
+        (entries_meant T.meant_by found.old.items (rows_decoded T.form bound start count
+        from.old)) }
 {
     // One of its own, so that it stays in registers.
     let mut at = WordCursor {
@@ -54,11 +55,11 @@ fn read_rows<T: FromWords>(
     bound: u32,
     start: u64,
     from: &mut WordCursor,
-) -> Result<(), ArrayFault>
+) -> Result<(), Stopped>
     requires bound { bound ≤ largest_index }
     requires start { start ≤ largest_index }
     ensures { GivesOrMemory (λ _. (found.new, from.new)) result
-        (entries_meant T.meant_by found.old (rows_told T.form bound start count from.old)) }
+        (entries_meant T.meant_by found.old (rows_decoded T.form bound start count from.old)) }
 {
     let mut items = mem::replace(found, Listing::new(alloc)).into_vec();
     items.reserve(count as usize)?;
@@ -79,18 +80,18 @@ fn total(sizes: &[u32]) -> u64
     all
 }
 
-/// Adds the entries of a section, and moves behind them.
+/// Adds the entries of a section, and moves past them.
 fn read_section(
     alloc: Global,
     section: Section,
     counts: &Counts,
     circuit: &mut Circuit,
     from: &mut WordCursor,
-) -> Result<(), ArrayFault>
+) -> Result<(), Stopped>
     requires max_var { counts.now.max_var ≤ largest_index }
     requires sizes { sum circuit.old.justice.sizes ≤ largest_index }
     ensures read { GivesOrMemory (λ _. (circuit.new, from.new)) result
-        (section_told (in_ascii section) (header_of counts.now) circuit.old from.old) }
+        (section_decoded (in_ascii section) (header_of counts.now) circuit.old from.old) }
     ensures sizes { OnOk result (sum circuit.new.justice.sizes ≤ largest_index) }
 {
     let top = counts.max_var;
@@ -123,18 +124,18 @@ fn read_section(
     }
 }
 
-/// Adds the entries of these sections, and moves behind them.
+/// Adds the entries of these sections, and moves past them.
 fn read_each(
     alloc: Global,
     sections: &[Section],
     counts: &Counts,
     circuit: &mut Circuit,
     from: &mut WordCursor,
-) -> Result<(), ArrayFault>
+) -> Result<(), Stopped>
     requires max_var { counts.now.max_var ≤ largest_index }
     requires sizes { sum circuit.old.justice.sizes ≤ largest_index }
     ensures { GivesOrMemory (λ _. (circuit.new, from.new)) result
-        (sections_told (header_of counts.now) sections.now circuit.old from.old) }
+        (sections_decoded (header_of counts.now) sections.now circuit.old from.old) }
 {
     for section in sections {
         // For a `?` here the kit's borrow checker makes no proof.
@@ -145,17 +146,17 @@ fn read_each(
     Ok(())
 }
 
-/// Adds the entries of all sections, and moves behind them.
+/// Adds the entries of all sections, and moves past them.
 pub(crate) fn read_sections(
     alloc: Global,
     counts: &Counts,
     circuit: &mut Circuit,
     from: &mut WordCursor,
-) -> Result<(), ArrayFault>
+) -> Result<(), Stopped>
     requires max_var { counts.now.max_var ≤ largest_index }
     requires sizes { sum circuit.old.justice.sizes ≤ largest_index }
     ensures { GivesOrMemory (λ _. (circuit.new, from.new)) result
-        (sections_told (header_of counts.now) sections circuit.old from.old) }
+        (sections_decoded (header_of counts.now) sections circuit.old from.old) }
 {
     read_each(alloc, &SECTIONS, counts, circuit, from)
 }

@@ -2,18 +2,17 @@
 ghost use Rattle.std.specs.Prelude.{◌≡◌, ◌+◌, ◌<◌, ◌≤◌, [], ◌∷◌};
 ghost use Rattle.std.specs.Prelude.{IfOk, IfErr, IfSome, None, OnOk, length, not};
 ghost use Rattle.std.specs.List.{list_any};
-ghost use Rattle.aig_arrays.specs.Outcomes.{GivesOrMemory, want_of_memory};
-ghost use Rattle.aig_arrays.specs.Told.{header_of, kind_told, next_symbol};
-ghost use Rattle.aig_arrays.specs.Told.{symbol_told, symbols_told};
+ghost use Rattle.aig_arrays.specs.Outcomes.{GivesOrMemory};
+ghost use Rattle.aig_arrays.specs.Decoded.{header_of, kind_decoded, next_symbol};
+ghost use Rattle.aig_arrays.specs.Decoded.{symbol_decoded, symbols_decoded};
 ghost use Rattle.aig_core.specs.Names.{nothing_named, with_name};
 ghost use Rattle.aig_rows.specs.Outcomes.{Gives};
 ghost use Rattle.aig_text.specs.Reading.{count_named, fault_in_symbol};
 
 use crate::counts::Counts;
-use crate::entries::WordCursor;
-use crate::fault::ArrayFault;
+use crate::entries::{WordCursor, bad_entry};
 use aig_core::{BorrowedSymbol, Circuit, Kind, NamedCounts, Names};
-use aig_text::ReadKind;
+use aig_fault::{Kind as FaultKind, Stopped, refused_whole};
 use std::alloc::{AllocError, Global};
 
 /// A line of a symbol has so many bytes at most beside the name.
@@ -21,7 +20,7 @@ const MOST_BESIDE_NAME: usize = 13;
 
 /// What a word says that a symbol names.
 fn kind_of_word(word: u32) -> Option<Kind>
-    ensures { result ≡ kind_told word }
+    ensures { result ≡ kind_decoded word }
 {
     match word {
         0 => Some(Kind::Input),
@@ -52,7 +51,7 @@ fn count_named(counts: &Counts, kind: Kind) -> u32
 /// The symbol of four words, whose name begins where the one before ends.
 fn symbol_of<'a>(names: &'a [u8], start: usize, row: [u32; 4]) -> Option<BorrowedSymbol<'a>>
     requires { start ≤ length names.now }
-    ensures symbol { Gives (λ s. s) result (symbol_told names.now start row) }
+    ensures symbol { Gives (λ s. s) result (symbol_decoded names.now start row) }
     ensures fits { IfSome result (λ s. start + length s.name ≤ length names.now) }
 {
     let [kind, position, offset, length] = row;
@@ -77,30 +76,30 @@ fn check_symbol(
     counts: &Counts,
     named: &mut Names,
     symbol: &BorrowedSymbol,
-) -> Result<Option<ReadKind>, AllocError>
+) -> Result<Option<FaultKind>, AllocError>
     ensures fault { IfOk result (λ fault.
         fault ≡ fault_in_symbol (header_of counts.now) named.old symbol.now) }
     ensures named { IfOk result (λ fault. fault ≡ None
         → named.new ≡ with_name named.old symbol.now.kind symbol.now.position) }
 {
     if count_named(counts, symbol.kind) <= symbol.position {
-        return Ok(Some(ReadKind::SymbolRange));
+        return Ok(Some(FaultKind::SymbolRange));
     }
     if named.insert(symbol.kind, symbol.position)? {
         Ok(None)
     } else {
-        Ok(Some(ReadKind::SymbolTwice))
+        Ok(Some(FaultKind::SymbolTwice))
     }
 }
 
-/// Reads the symbol that begins here, and moves behind it.
+/// Reads the symbol that begins here, and moves past it.
 fn read_symbol<'a>(
     counts: &Counts,
     named: &mut Names,
     names: &'a [u8],
     start: usize,
     from: &mut WordCursor,
-) -> Result<BorrowedSymbol<'a>, ArrayFault>
+) -> Result<BorrowedSymbol<'a>, Stopped>
     requires { start ≤ length names.now }
     ensures symbol { GivesOrMemory (λ s. (s, from.new)) result
         (next_symbol (header_of counts.now) names.now named.old start from.old) }
@@ -108,17 +107,14 @@ fn read_symbol<'a>(
     ensures fits { IfOk result (λ s. start + length s.name ≤ length names.now) }
 {
     let [kind, position, offset, length, rest @ ..] = from.rest else {
-        return Err(ArrayFault::BadCounts);
+        return Err(refused_whole(FaultKind::BadCounts));
     };
     let word = from.at;
     let Some(symbol) = symbol_of(names, start, [*kind, *position, *offset, *length]) else {
-        return Err(ArrayFault::BadEntry {
-            word,
-            kind: ReadKind::BadSymbol,
-        });
+        return Err(bad_entry(word, FaultKind::BadSymbol));
     };
     if let Some(kind) = check_symbol(counts, named, &symbol)? {
-        return Err(ArrayFault::BadEntry { word, kind });
+        return Err(bad_entry(word, kind));
     }
     let at = word + 4;
     *from = WordCursor { rest, at };
@@ -132,9 +128,9 @@ fn push_symbols(
     names: &[u8],
     circuit: &mut Circuit,
     from: &mut WordCursor,
-) -> Result<usize, ArrayFault>
+) -> Result<usize, Stopped>
     ensures { GivesOrMemory (λ end. (circuit.new, end)) result
-        (symbols_told (header_of counts.now) names.now named.old 0 counts.now.symbols from.old
+        (symbols_decoded (header_of counts.now) names.now named.old 0 counts.now.symbols from.old
         circuit.old) }
 {
     let mut start = 0;
@@ -155,9 +151,10 @@ pub(crate) fn read_symbols(
     names: &[u8],
     circuit: &mut Circuit,
     from: &mut WordCursor,
-) -> Result<usize, ArrayFault>
+) -> Result<usize, Stopped>
     ensures { GivesOrMemory (λ end. (circuit.new, end)) result
-        (symbols_told (header_of counts.now) names.now nothing_named 0 counts.now.symbols from.old
+        (symbols_decoded (header_of counts.now) names.now nothing_named 0 counts.now.symbols
+        from.old
         circuit.old) }
 {
     if counts.symbols == 0 {

@@ -14,7 +14,7 @@ use std::alloc::Global;
 const FEWEST: usize = 16;
 
 /// The runs at the front of a stimulus, as far as there are enough to step them side by side, group
-/// by group, and what comes behind them.
+/// by group, and what comes after them.
 pub(crate) fn read_front_groups<'a>(
     alloc: Global,
     inputs: usize,

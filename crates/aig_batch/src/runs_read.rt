@@ -37,7 +37,7 @@ fn first_end(inputs: usize, bytes: &[u8]) -> Option<usize>
     memchr(b'\n', bytes)
 }
 
-/// The run at the front of the bytes and what comes behind it, if it ends there and all its lines
+/// The run at the front of the bytes and what comes after it, if it ends there and all its lines
 /// have one length but for the last, which ends it. No line is judged again.
 fn read_run<'a>(inputs: usize, bytes: &'a [u8]) -> Option<(Vectors<'a>, &'a [u8])>
     requires { HasNoBadLine inputs bytes.now }
@@ -67,7 +67,7 @@ fn read_run<'a>(inputs: usize, bytes: &'a [u8]) -> Option<(Vectors<'a>, &'a [u8]
 }
 
 /// The runs at the front of the bytes, as many as are stepped side by side or fewer, and what comes
-/// behind them.
+/// after them.
 pub(crate) fn read_group<'a>(
     alloc: Global,
     inputs: usize,

@@ -3,7 +3,7 @@ ghost use Rattle.std.specs.Prelude.{◌+◌, ◌*◌, ◌<◌, ◌≤◌, ◌^�
 ghost use Rattle.std.specs.Prelude.{slice_index_or};
 ghost use Rattle.std.specs.List.{All};
 ghost use Rattle.aig_circuit.specs.declared.value.Val.{Val as Value};
-ghost use Rattle.aig_io.specs.Output.{Put};
+ghost use Rattle.aig_io.specs.Output.{Appended};
 ghost use Rattle.aig_lanes.specs.declared.run.Run.{Run as RunRecord};
 ghost use Rattle.aig_lanes.specs.Parts.Benches.{HasRoomFor, HasSameRoom};
 ghost use Rattle.aig_lanes.specs.Parts.LaneTexts.{HoldsRun, HoldsRuns, KeepsRun};
@@ -30,7 +30,7 @@ fn put_run<W: Sink>(
     requires room { HoldsRun lane run.now shown.now sheet.now }
     requires line { All (λ (vector : List Value).
         shown_size shown.now + length vector ≤ length line.old) run.now.steps }
-    ensures { Put output.old output.new
+    ensures { Appended output.old output.new
         (kept_text shown.now run.now (length run.now.steps) (text_in lane sheet.now)
         ++ codes ".\n") }
 {
@@ -61,7 +61,7 @@ fn put_runs<W: Sink>(
     requires room { HoldsRuns shown.now sheet.now runs.now }
     requires line { All (λ (run : RunRecord). All (λ (vector : List Value).
         shown_size shown.now + length vector ≤ length line.old) run.steps) runs.now }
-    ensures { Put output.old output.new
+    ensures { Appended output.old output.new
         (text_of_group (kept_texts shown.now runs.now (length runs.now) sheet.now)) }
 {
     for lane in 0..runs.len() {
@@ -79,7 +79,7 @@ pub(crate) fn run_group<W: Sink>(
     requires runs { All (IsRunOf machine.now) runs.now }
     requires room { HasRoomFor machine.now bench.old runs.now }
     ensures same { HasSameRoom bench.old bench.new }
-    ensures put { Put output.old output.new
+    ensures put { Appended output.old output.new
         (text_of_group (kept_texts bench.new.shown runs.now (length runs.now) bench.new.sheet)) }
     ensures keeps { (j : ℕ) (d : RunRecord) → j < length runs.now
         → KeepsRun machine.now (slice_index_or runs.now j d) j bench.new.shown bench.new.sheet }

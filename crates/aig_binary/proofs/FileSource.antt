@@ -1,9 +1,11 @@
 -- A binary file that is read while its source gives it, from what was fetched first.
-use Rattle.std.proofs.Common.{◌≡◌, ◌∙◌, ◌++◌, ◌≢◌, ◌<◌, ◌≤◌, ◌∷◌, inl, inr, ℕ, List, [], drop, Bool, true, false, not}
-use Rattle.std.proofs.Common.{append_assoc, append-nil, Result, Ok, Err, sym, ap, length, refl}
+use Rattle.std.proofs.Common.{◌≡◌, ◌∙◌, ◌++◌, ◌≢◌, ◌≤◌, ◌∷◌, inl, inr, ℕ, List, [], drop, Bool, true, false, not}
+use Rattle.std.proofs.Common.{append_assoc, append-nil, Result, Ok, Err, sym, ap, length, refl, arith, eqb}
+use Rattle.std.proofs.lemmas.Bool.{eqb-false}
 use Rattle.std.proofs.lemmas.List.{drop-append-le}
-use Rattle.aig_io.specs.Devices.{CanFail, Past, gave, took}
+use Rattle.aig_io.specs.Devices.{GaveSome, History, gave, took}
 use Rattle.aig_io.specs.Windows.{Filled}
+use Rattle.aig_io.specs.declared.transfer.ReadError.{ReadError}
 use Rattle.aig_io.proofs.Took.{gave_then, took_none, some_later}
 use Rattle.aig_circuit.specs.declared.circuit.Circuit.{Circuit}
 use Rattle.aig_circuit.specs.Form.{IsInForm}
@@ -13,41 +15,36 @@ use Rattle.aig_core.specs.Fault.{first_structural_fault}
 use Rattle.aig_lines.specs.Lines.{Line, AreEnded, lines_of}
 use Rattle.aig_lines.proofs.Cutting.{pieces, some_lines}
 use Rattle.aig_lines.proofs.Taken.{lines_cut}
-use Rattle.aig_rows.specs.declared.fault.ReadFault.{ReadFault}
+use Rattle.aig_fault.specs.Stopping.{stopped_by}
+use Rattle.aig_fault.specs.declared.stopped.Stopped.{Stopped}
+use Rattle.aig_fault.specs.declared.stopped.Stopped.TheVariants.{OutOfMemory}
 use Rattle.aig_rows.specs.Outcomes.{GivesOrMemory}
-use Rattle.aig_rows.specs.Reading.{want_of_memory}
 use Rattle.aig_text.specs.Begun.{ReadsOn, rest_of}
 use Rattle.aig_text.specs.declared.pieces.AsciiReader.{AsciiReader}
 use Rattle.aig_text.specs.Reading.{circuit_at, first_word_is, reading, unless_faulty}
 use Rattle.aig_text.proofs.Grammar.Text.{checked_tells, line_fault as ascii_line_fault, circuit_in_form}
-use Rattle.aig_binary.specs.Sources.{ComesOn, HasRead, ReadsFrom, AnswersFile, ReadsAs}
-use Rattle.aig_binary.specs.declared.source_fault.SourceFault.{SourceFault}
-use Rattle.aig_binary.specs.declared.source_fault.SourceFault.TheVariants as faults
+use Rattle.aig_binary.specs.Sources.{ComesOn, HasFailed, HasRead, ReadsFrom, AnswersFile, ReadsAs}
 use Rattle.aig_binary.specs.BinaryGrammar.{binary_word}
 use Rattle.aig_binary.specs.BinaryReading.{binary_reading}
 use Rattle.aig_binary.specs.File.{IsFileOf, file_reading}
 use Rattle.aig_binary.proofs.Grammar.Accepted.{read_is_ordered, read_is_well_formed, reading_is_accepted}
 use Rattle.aig_binary.proofs.Grammar.Read.{line_fault}
 
-pub can_fail_still : (ended : Bool) (xs : List ℕ) (a b : Past) → b ≡ gave xs ended a → CanFail a → CanFail b
-can_fail_still true xs a b is can = rw is can
-can_fail_still false xs a b is can = rw is can
-
 -- reading goes on
-reads_on_then : (x y z : Result Circuit ReadFault) → ReadsOn x y → ReadsOn y z → ReadsOn x z
+reads_on_then : (x y z : Result Circuit Stopped) → ReadsOn x y → ReadsOn y z → ReadsOn x z
 reads_on_then x y z p (inl m) = inl m
 reads_on_then x y z (inl m) (inr e) = inl (sym e ∙ m)
 reads_on_then x y z (inr d) (inr e) = inr (d ∙ e)
 
-module _ (tell : List ℕ → Result Circuit ReadFault) where
-  pub reads_none : (u : List ℕ) (a : Past) → ReadsFrom tell tell u u true a a
+module _ (tell : List ℕ → Result Circuit Stopped) where
+  pub reads_none : (u : List ℕ) (a : History) → ReadsFrom tell tell u u true a a
   reads_none u a = record {
     given = [];
     gave = took_none a;
     on = λ others. inr (ap (λ (bytes : List ℕ). tell (bytes ++ others)) (append-nil u));
   }
 
-  pub reads_more : (q s : List ℕ → Result Circuit ReadFault) (u v w : List ℕ) (used : ℕ) (more : Bool) (a b c : Past)
+  pub reads_more : (q s : List ℕ → Result Circuit Stopped) (u v w : List ℕ) (used : ℕ) (more : Bool) (a b c : History)
       → ReadsFrom tell q u v true a b → ((others : List ℕ) → ReadsOn (q (v ++ others)) (s (drop used v ++ others)))
       → Filled (drop used v) w more b c → ReadsFrom tell s u w more a c
   reads_more q s u v w used more a b c before on f = record {
@@ -63,22 +60,38 @@ module _ (tell : List ℕ → Result Circuit ReadFault) where
         rw (first, last) (reads_on_then _ _ _ (before.on (f.given ++ others)) (on (f.given ++ others)));
   }
 
-ends_by : (x y : Result Circuit ReadFault) (r : Result Circuit ReadFault) → ReadsOn x y → GivesOrMemory (λ c. c) r y
+ends_by : (x y : Result Circuit Stopped) (r : Result Circuit Stopped) → ReadsOn x y → GivesOrMemory (λ c. c) r y
     → GivesOrMemory (λ c. c) r x
 ends_by x y (Ok c) (inl m) h =
-    let no : ◌≡◌ {A = Result Circuit ReadFault} (Err want_of_memory) (Ok c) = sym m ∙ h in cc
+    let no : ◌≡◌ {A = Result Circuit Stopped} (Err OutOfMemory) (Ok c) = sym m ∙ h in cc
 ends_by x y (Ok c) (inr e) h = e ∙ h
 ends_by x y (Err f) p (inl w) = inl w
 ends_by x y (Err f) (inl m) (inr h) =
-    let same : ◌≡◌ {A = Result Circuit ReadFault} (Err f) (Err want_of_memory) = sym h ∙ m in inl cc
+    let same : ◌≡◌ {A = Result Circuit Stopped} (Err f) (Err OutOfMemory) = sym h ∙ m in inl cc
 ends_by x y (Err f) (inr e) (inr h) = inr (e ∙ h)
 
+-- the source failed as it did later, and by an error of its own
+pub failed_later : (stopped : Stopped) (xs : List ℕ) (a b c : History) → b ≡ took xs a → HasFailed stopped b c
+    → HasFailed stopped a c
+failed_later stopped xs a b c came f =
+    record { error = f.error; is = f.is; gave = some_later f.error xs a b c came f.gave }
+
+pub failed_by : (error : ReadError) (a b : History) → GaveSome error a b → HasFailed (stopped_by error) a b
+failed_by error a b gave = record { error = error; is = refl; gave = gave }
+
+-- all bytes came
+pub all_came : {A : Type 0} (Holds : Result A Stopped → List ℕ → Type 0) (answer : Result A Stopped) (a b : History)
+    → HasRead (λ bytes. Holds answer bytes) a b → ReadsAs Holds answer a b
+all_came Holds (Ok x) a b h = h
+all_came Holds (Err e) a b h = inl h
+
 -- the rest of a file was read
-abbrev pub RestRead : (List ℕ → Result Circuit ReadFault) → List ℕ → Past → Past → Result Circuit ReadFault → Type 0
+abbrev pub RestRead : (List ℕ → Result Circuit Stopped) → List ℕ → History → History → Result Circuit Stopped
+    → Type 0
 RestRead tell u a c answer = HasRead (λ bytes. GivesOrMemory (λ d. d) answer (tell (u ++ bytes))) a c
 
-pub rest_read : (r s : List ℕ → Result Circuit ReadFault) (u v w : List ℕ) (more : Bool) (a b c : Past)
-    (answer : Result Circuit ReadFault) → ReadsFrom r s u v more a b → ComesOn v w more false b c
+pub rest_read : (r s : List ℕ → Result Circuit Stopped) (u v w : List ℕ) (more : Bool) (a b c : History)
+    (answer : Result Circuit Stopped) → ReadsFrom r s u v more a b → ComesOn v w more false b c
     → GivesOrMemory (λ d. d) answer (s w) → RestRead r u a c answer
 rest_read r s u v w more a b c answer reads all h =
     let h = rw all.all at h in
@@ -91,8 +104,8 @@ rest_read r s u v w more a b c answer reads all h =
     }
 
 -- and all of it, of which the first bytes came before
-pub whole_read : (tell s : List ℕ → Result Circuit ReadFault) (u v : List ℕ) (a b c : Past)
-    (answer : Result Circuit ReadFault) → ReadsFrom tell s u v true a b → RestRead s v b c answer
+pub whole_read : (tell s : List ℕ → Result Circuit Stopped) (u v : List ℕ) (a b c : History)
+    (answer : Result Circuit Stopped) → ReadsFrom tell s u v true a b → RestRead s v b c answer
     → RestRead tell u a c answer
 whole_read tell s u v a b c answer reads h =
     let all : u ++ (reads.given ++ h.bytes) ≡ (u ++ reads.given) ++ h.bytes =
@@ -106,7 +119,7 @@ whole_read tell s u v a b c answer reads h =
 -- A source whose first bytes were fetched, and of which the header or the lines in front of the gates were read.
 
 -- what bytes told is what those tell that are left when the first of their whole lines are taken
-passed : (tell s : List ℕ → Result Circuit ReadFault) (bytes lines rest held : List ℕ) (used : ℕ)
+passed : (tell s : List ℕ → Result Circuit Stopped) (bytes lines rest held : List ℕ) (used : ℕ)
     → bytes ≡ lines ++ rest
     → used ≤ length lines → ((more : List ℕ) → tell (lines ++ more) ≡ s (drop used lines ++ more))
     → held ≡ drop used bytes → (more : List ℕ) → tell (bytes ++ more) ≡ s (held ++ more)
@@ -126,44 +139,50 @@ same_word word [] more some = absurd (some refl)
 same_word word (l ∷ ls) more some = refl
 
 pub word_stays : (first lines rest more : List ℕ) → first ≡ lines ++ rest → AreEnded (lines_of lines)
-    → 0 < length lines
+    → eqb (length lines) 0 ≡ false
     → first_word_is binary_word (lines_of (first ++ more)) ≡ first_word_is binary_word (lines_of lines)
 word_stays first lines rest more cut ended some =
     ap (first_word_is binary_word) (lines_cut first lines rest more cut ended)
-    ∙ same_word binary_word (lines_of lines) (lines_of (rest ++ more)) (some_lines lines some)
+    ∙ same_word binary_word (lines_of lines) (lines_of (rest ++ more))
+    (some_lines lines (omega (arith, eqb-false (length lines) 0 some)))
 
-pub begun : (limit : ℕ) (first lines rest : List ℕ) (used : ℕ) (r : AsciiReader) → first ≡ lines ++ rest
-    → AreEnded (lines_of lines) → 0 < length lines → first_word_is binary_word (lines_of lines) ≡ false
+-- from what the code reads and tests
+pub begun : (limit : ℕ) (first lines rest : List ℕ) (used : ℕ) (r : AsciiReader) {bytes : List ℕ} → bytes ≡ first
+    → bytes ≡ lines ++ rest → AreEnded (lines_of lines) → {empty : Bool} → empty ≡ eqb (length lines) 0
+    → empty ≡ false → {word : Bool} → word ≡ first_word_is binary_word (lines_of lines) → word ≡ false
     → used ≤ length lines
     → ((more : List ℕ) → circuit_at limit (lines_of (lines ++ more)) ≡ rest_of r (lines_of (drop used lines ++ more)))
-    → (held : List ℕ) → held ≡ drop used first → IsBegun limit first held r
-begun limit first lines rest used r cut ended some other within on held is = record {
-  other = λ more. word_stays first lines rest more cut ended some ∙ other;
-  told =
-      passed (λ bytes. circuit_at limit (lines_of bytes)) (λ bytes. rest_of r (lines_of bytes)) first lines rest held
-      used cut within on is;
-}
+    → {held : List ℕ} → held ≡ drop used first → IsBegun limit first held r
+begun limit first lines rest used r all cut ended is_empty some is_word other within on {held} is =
+    let parts = sym all ∙ cut in
+    record {
+      other = λ more.
+          word_stays first lines rest more parts ended (sym is_empty ∙ some) ∙ sym is_word ∙ other;
+      told =
+          passed (λ bytes. circuit_at limit (lines_of bytes)) (λ bytes. rest_of r (lines_of bytes)) first lines rest
+          held used parts within on is;
+    }
 
-module _ (limit : ℕ) (first held : List ℕ) (r : AsciiReader) (begin : IsBegun limit first held r) where
-  abbrev tell : List ℕ → Result Circuit ReadFault
+module _ {limit : ℕ} {first held : List ℕ} {r : AsciiReader} (begin : IsBegun limit first held r) where
+  abbrev tell : List ℕ → Result Circuit Stopped
   tell bytes = rest_of r (lines_of bytes)
 
   ascii_reading : (more : List ℕ) → file_reading limit (first ++ more) ≡ reading limit (first ++ more)
   ascii_reading more = rw (begin.other more) refl
 
-  pub in_form : (c : Circuit) (a b : Past) → RestRead tell held a b (Ok c) → IsInForm c
+  pub in_form : (c : Circuit) (a b : History) → RestRead tell held a b (Ok c) → IsInForm c
   in_form c a b h =
       circuit_in_form limit (lines_of (first ++ h.bytes)) c (pieces (first ++ h.bytes)).one_each
       (begin.told h.bytes ∙ h.holds)
 
-  answers : (c : Circuit) (more : List ℕ) (answer : Result Circuit ReadFault)
+  answers : (c : Circuit) (more : List ℕ) (answer : Result Circuit Stopped)
       → circuit_at limit (lines_of (first ++ more)) ≡ Ok c
       → GivesOrMemory (λ d. d) answer (unless_faulty c (first_structural_fault c))
       → AnswersFile limit answer (first ++ more)
   answers c more (Ok d) h is = inl ((checked_tells limit (first ++ more) c (Ok d) h is).ok)
   answers c more (Err e) h is = rw (ascii_reading more) ((checked_tells limit (first ++ more) c (Err e) h is).fault)
 
-  pub checked : (c : Circuit) (before a b : Past) (answer : Result Circuit ReadFault) → a ≡ took first before
+  pub checked : (c : Circuit) (before a b : History) (answer : Result Circuit Stopped) → a ≡ took first before
       → RestRead tell held a b (Ok c)
       → GivesOrMemory (λ d. d) answer (unless_faulty c (first_structural_fault c))
       → HasRead (λ bytes. AnswersFile limit answer bytes) before b
@@ -173,19 +192,19 @@ module _ (limit : ℕ) (first held : List ℕ) (r : AsciiReader) (begin : IsBegu
     holds = answers c h.bytes answer (begin.told h.bytes ∙ h.holds) is;
   }
 
-  pub refused : (fault : SourceFault) (before a b : Past) → a ≡ took first before
+  pub refused : (fault : Stopped) (before a b : History) → a ≡ took first before
       → ReadsAs {A = Circuit} (λ answer bytes. GivesOrMemory (λ c. c) answer (tell (held ++ bytes))) (Err fault) a b
       → ReadsAs (AnswersFile limit) (Err fault) before b
-  refused (faults.Source error) before a b gave some = some_later error first before a b gave some
-  refused (faults.File e) before a b gave h = record {
+  refused e before a b gave (inr failed) = inr (failed_later e first before a b gave failed)
+  refused e before a b gave (inl h) = inl (record {
     bytes = first ++ h.bytes;
     gave = gave_then true first h.bytes before a b gave h.gave;
     holds =
         rw (ascii_reading h.bytes) (ascii_line_fault limit (first ++ h.bytes) e (rw (begin.told h.bytes) h.holds));
-  }
+  })
 
 -- the front was read of the whole lines of what came
-pub front_read : (tell s : List ℕ → Result Circuit ReadFault) (u v lines rest held : List ℕ) (used : ℕ) (a b : Past)
+pub front_read : (tell s : List ℕ → Result Circuit Stopped) (u v lines rest held : List ℕ) (used : ℕ) (a b : History)
     → Filled u v true a b → v ≡ lines ++ rest → used ≤ length lines
     → ((more : List ℕ) → tell (lines ++ more) ≡ s (drop used lines ++ more)) → held ≡ drop used v
     → ReadsFrom tell s u held true a b
@@ -197,10 +216,10 @@ front_read tell s u v lines rest held used a b f cut within on is = record {
       ∙ passed tell s v lines rest held used cut within on is others);
 }
 
-module _ (limit : ℕ) (first held : List ℕ) (s : List ℕ → Result Circuit ReadFault) (a b : Past)
+module _ (limit : ℕ) (first held : List ℕ) (s : List ℕ → Result Circuit Stopped) (a b : History)
     (reads : ReadsFrom (binary_reading limit) s first held true a b)
   where
-    module _ (c : Circuit) (d : Past) (h : RestRead s held b d (Ok c)) where
+    module _ (c : Circuit) (d : History) (h : RestRead s held b d (Ok c)) where
       all_read : RestRead (binary_reading limit) first a d (Ok c)
       all_read = whole_read (binary_reading limit) s first held a b d (Ok c) reads h
 
@@ -210,29 +229,29 @@ module _ (limit : ℕ) (first held : List ℕ) (s : List ℕ → Result Circuit 
       pub is_ordered : IsInBinaryOrder c
       is_ordered = read_is_ordered limit (lines_of (first ++ all_read.bytes)) c all_read.holds
 
-      pub is_file : (before : Past) → a ≡ took first before → HasRead (λ bytes. IsFileOf bytes limit c) before d
+      pub is_file : (before : History) → a ≡ took first before → HasRead (λ bytes. IsFileOf bytes limit c) before d
       is_file before came = record {
         bytes = first ++ all_read.bytes;
         gave = gave_then true first all_read.bytes before a d came all_read.gave;
         holds = inr (reading_is_accepted limit (first ++ all_read.bytes) c all_read.holds);
       }
 
-    pub is_refused : (fault : SourceFault) (before d : Past) → a ≡ took first before
+    pub is_refused : (fault : Stopped) (before d : History) → a ≡ took first before
         → ((more : List ℕ) → first_word_is binary_word (lines_of (first ++ more)) ≡ true)
         → ReadsAs {A = Circuit} (λ answer bytes. GivesOrMemory (λ c. c) answer (s (held ++ bytes))) (Err fault) b d
         → ReadsAs (AnswersFile limit) (Err fault) before d
-    is_refused (faults.Source error) before d came word some =
-        some_later error first before a d came (some_later error reads.given a b d reads.gave some)
-    is_refused (faults.File e) before d came word h =
+    is_refused e before d came word (inr failed) =
+        inr (failed_later e first before a d came (failed_later e reads.given a b d reads.gave failed))
+    is_refused e before d came word (inl h) =
         let w = whole_read (binary_reading limit) s first held a b d (Err e) reads h in
-        record {
+        inl (record {
           bytes = first ++ w.bytes;
           gave = gave_then true first w.bytes before a d came w.gave;
           holds = rw (word w.bytes) (line_fault limit (first ++ w.bytes) e w.holds);
-        }
+        })
 
 -- what is held is what a source gave
-pub all_held : (first held : List ℕ) (more : Bool) (before a b : Past) → a ≡ took first before
+pub all_held : (first held : List ℕ) (more : Bool) (before a b : History) → a ≡ took first before
     → Filled first held more a b → b ≡ gave held (not more) before
 all_held first held more before a b came f =
     gave_then (not more) first f.given before a b came f.gave

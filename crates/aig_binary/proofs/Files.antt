@@ -8,7 +8,7 @@ use Rattle.std.proofs.lemmas.List.Elements.{All-from_recursion}
 use Rattle.std.proofs.lemmas.Grind.{common_steps}
 use Rattle.std.proofs.lemmas.Bool.{eqb-false}
 use Rattle.std.proofs.lemmas.Slice.Eq.{bytes_eq-Decides}
-use Rattle.aig_io.specs.Output.{Out, Put}
+use Rattle.aig_io.specs.Output.{Appended, Out}
 use Rattle.aig_io.proofs.Puts.{put_twice}
 use Rattle.aig_circuit.specs.Wellformed.{IsWithinLimits, IsWellFormed}
 use Rattle.aig_circuit.specs.declared.circuit.TheConstants.{LARGEST}
@@ -21,7 +21,7 @@ use Rattle.aig_circuit.proofs.Checking.{joined}
 use Rattle.aig_checked.specs.BinaryOrder.{AreOrderedGates, IsInBinaryOrder}
 use Rattle.aig_lines.specs.Lines.{Line, lines_of, Ahead, ahead}
 use Rattle.aig_rows.specs.Rows.{next_row, Row}
-use Rattle.aig_rows.specs.declared.fault.ReadFault.{ReadFault}
+use Rattle.aig_fault.specs.declared.stopped.Stopped.{Stopped}
 use Rattle.aig_rows.specs.Reading.{at_line}
 use Rattle.aig_rows.proofs.Steps.{both_ok, ok_at_line, ok_same, let_through}
 use Rattle.aig_text.specs.AsciiText.{line_text, row_text, header_text, tail_text}
@@ -46,10 +46,11 @@ use Rattle.aig_binary.proofs.Grammar.Accepted.{reading_is_accepted as binary_is_
 
 -- the gates of one piece more were put
 pub pieces_put : {W : Type 0} (a b c : Out W) (gs : List Gate) (at count : ℕ) (text : List ℕ)
-    → Put a b (flat_map gate_text (take at gs)) → text ≡ flat_map gate_text (take count (drop at gs)) → Put b c text
-    → Put a c (flat_map gate_text (take (at + count) gs))
+    → Appended a b (flat_map gate_text (take at gs)) → text ≡ flat_map gate_text (take count (drop at gs))
+    → Appended b c text
+    → Appended a c (flat_map gate_text (take (at + count) gs))
 pieces_put a b c gs at count text before is put =
-    subst (λ t. Put a c t)
+    subst (λ t. Appended a c t)
     (search (rules, take-add, flat_map-append))
     (put_twice a b c (flat_map gate_text (take at gs)) text before put)
 
@@ -188,4 +189,4 @@ read_is_file limit text c = search (rules, binary_is_accepted, reading_is_accept
 -- a text is the file of one circuit at most
 pub one_circuit : (text : List ℕ) (limit : ℕ) (c d : Circuit) → IsFileOf text limit c → IsFileOf text limit d → c ≡ d
 one_circuit text limit c d a b =
-    ok_same {E = ReadFault} c d (sym (file_is_read limit text c a) ∙ file_is_read limit text d b)
+    ok_same {E = Stopped} c d (sym (file_is_read limit text c a) ∙ file_is_read limit text d b)

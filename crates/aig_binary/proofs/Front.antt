@@ -15,9 +15,10 @@ use Rattle.aig_lines.proofs.Taken.{left_fits, taken}
 use Rattle.aig_rows.specs.declared.row.NextState.{NextState}
 use Rattle.aig_rows.specs.Rows.{next_of, Form, next_form}
 use Rattle.aig_rows.specs.Outcomes.{rows_meant}
-use Rattle.aig_rows.specs.Reading.{◌>>=◌, Found, carried_on, row_at, rows_at, at_line, want_of_memory}
-use Rattle.aig_rows.specs.declared.fault.ReadFault.{ReadFault}
-use Rattle.aig_rows.specs.declared.fault.ReadKind.TheVariants as kinds
+use Rattle.aig_rows.specs.Reading.{◌>>=◌, Found, carried_on, row_at, rows_at, at_line}
+use Rattle.aig_fault.specs.declared.stopped.Stopped.{Stopped}
+use Rattle.aig_fault.specs.declared.stopped.Stopped.TheVariants.{OutOfMemory}
+use Rattle.aig_fault.specs.declared.kind.Kind.TheVariants as kinds
 use Rattle.aig_rows.proofs.Steps.{both_ok, ok_same}
 use Rattle.aig_rows.proofs.Loops.FirstRows.{behind_more, found_behind, found_joined, rows_behind, rows_joined}
 use Rattle.aig_text.specs.Sections.{latches_from, no_lines, Listed, in_binary, sections}
@@ -98,7 +99,7 @@ pub found_count : (bound start count : ℕ) (at after : Ahead) (ns : List NextSt
     → length ns ≡ count
 found_count bound start count at after ns h = search (rules, found_rows, length-map, rows_count)
 
--- The lines in front of the gates: what is behind them is read by itself, whatever lines come.
+-- The lines in front of the gates: what is after them is read by itself, whatever lines come.
 
 -- a step whose lines were there
 record GoesOn {A : Type 0} (read : Ahead → Found A) (at : Ahead) (p : A × Ahead) : Type 0 where
@@ -118,7 +119,7 @@ module _ (listed : Section → Listed) (h : Header) where
       let r = both_ok (rows_of s c at) (placed s c) p is in
       let l = listed s in
       subst (GoesOn (section_at l h c) at)
-      (ok_same {E = ReadFault} (l.with_rows h r.0.0 c, r.0.1) p r.2)
+      (ok_same {E = Stopped} (l.with_rows h r.0.0 c, r.0.1) p r.2)
       (record {
         joined = λ more. rw (rows_joined l.form (l.bound h) (l.count h c) (l.start h c) at more r.0 r.1) refl;
         behind = rows_behind l.form (l.bound h) (l.count h c) (l.start h c) at r.0 r.1;
@@ -131,7 +132,7 @@ module _ (listed : Section → Listed) (h : Header) where
       → sections_at listed h ss c at ≡ Ok p → GoesOn (sections_at listed h ss c) at p
   unfolding sections_at
   sections_on [] c at p is =
-      subst (GoesOn (sections_at listed h [] c) at) (ok_same {E = ReadFault} (c, at) p is) (record {
+      subst (GoesOn (sections_at listed h [] c) at) (ok_same {E = Stopped} (c, at) p is) (record {
         joined = λ more. refl;
         behind = record { front = []; lines = refl; number = omega arith };
       })
@@ -166,7 +167,7 @@ module _ (limit : ℕ) where
       let a = both_ok (header_at binary_word limit at) then_filled x is in
       let b = both_ok (at_line 1 (filled a.0.0)) (then_sections_of a.0.1) x a.2 in
       let d = both_ok (sections_at in_binary b.0 sections (empty_circuit b.0.max_var) a.0.1) (with_front b.0) x b.2 in
-      subst (IsFront at) (ok_same {E = ReadFault} ((b.0, d.0.0), d.0.1) x d.2)
+      subst (IsFront at) (ok_same {E = Stopped} ((b.0, d.0.0), d.0.1) x d.2)
       (record { promised = a.0; head = a.1; all = b.1; lines = d.1 })
 
   front_on : (at : Ahead) (x : (Header × Circuit) × Ahead) → front_at limit at ≡ Ok x → GoesOn (front_at limit) at x
@@ -183,7 +184,7 @@ module _ (limit : ℕ) where
             lines.behind;
       }
 
-  behind_none : (r : Result (List Gate × List ℕ) ReadFault) → gates_behind [] r ≡ r
+  behind_none : (r : Result (List Gate × List ℕ) Stopped) → gates_behind [] r ≡ r
   behind_none (Ok x) = refl
   behind_none (Err e) = refl
 
@@ -203,27 +204,27 @@ module _ (limit : ℕ) where
       rw (f.head, f.all, f.lines, none_found (first_gate h) h.gates (bytes_of now.lines)) refl
 
 -- a front that is refused
-step_wrong : {A B C : Type 0} (r : Result A ReadFault) (f : A → Result B ReadFault) (g : A → Result C ReadFault)
-    (e : ReadFault) → (r >>= f) ≡ Err e → ((x : A) → f x ≡ Err e → g x ≡ Err e) → (r >>= g) ≡ Err e
+step_wrong : {A B C : Type 0} (r : Result A Stopped) (f : A → Result B Stopped) (g : A → Result C Stopped)
+    (e : Stopped) → (r >>= f) ≡ Err e → ((x : A) → f x ≡ Err e → g x ≡ Err e) → (r >>= g) ≡ Err e
 step_wrong (Ok x) f g e is others = others x is
 step_wrong {B = B} (Err d) f g e is others =
-    let same : ◌≡◌ {A = Result B ReadFault} (Err d) (Err e) = is in
-    ap (λ (x : ReadFault). Err x) (err_same {A = B} {E = ReadFault} d e same)
+    let same : ◌≡◌ {A = Result B Stopped} (Err d) (Err e) = is in
+    ap (λ (x : Stopped). Err x) (err_same {A = B} {E = Stopped} d e same)
 
-abbrev then_gates : Header → Circuit × Ahead → Result Circuit ReadFault
+abbrev then_gates : Header → Circuit × Ahead → Result Circuit Stopped
 then_gates h numbered =
     ◌>>=◌ {B = Circuit} (gates_at (first_gate h) 1 h.gates (bytes_of numbered.1.lines))
     (λ gates. tail_at h nothing_named (with_definitions h gates.0 numbered.0) numbered.1.number (lines_of gates.1))
 
-abbrev then_numbered : Ahead → Header → Result Circuit ReadFault
+abbrev then_numbered : Ahead → Header → Result Circuit Stopped
 then_numbered at h = sections_at in_binary h sections (empty_circuit h.max_var) at >>= then_gates h
 
-abbrev then_header : Header × Ahead → Result Circuit ReadFault
+abbrev then_header : Header × Ahead → Result Circuit Stopped
 then_header header = at_line 1 (filled header.0) >>= then_numbered header.1
 
-pub front_wrong : (limit : ℕ) (ls : List Line) (e : ReadFault)
-    → (e ≡ want_of_memory) ⊎ (front_at limit (ahead 1 ls) ≡ Err e)
-    → (e ≡ want_of_memory) ⊎ (binary_at limit ls ≡ Err e)
+pub front_wrong : (limit : ℕ) (ls : List Line) (e : Stopped)
+    → (e ≡ OutOfMemory) ⊎ (front_at limit (ahead 1 ls) ≡ Err e)
+    → (e ≡ OutOfMemory) ⊎ (binary_at limit ls ≡ Err e)
 unfolding binary_at
 front_wrong limit ls e (inl m) = inl m
 front_wrong limit ls e (inr is) =

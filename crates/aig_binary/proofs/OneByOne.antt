@@ -1,4 +1,4 @@
--- Gates that are read one after another, and what bytes behind a gate change.
+-- Gates that are read one after another, and what bytes after a gate change.
 use Rattle.std.proofs.Common.{◌≡◌, ◌≢◌, ◌≤◌, ◌⊎◌, ◌&&◌, ◌∷◌, ◌++◌, ◌∙◌, ◌^◌, ◌-◌, ◌+◌, ◌<◌, inl, inr, ℕ, zero, suc}
 use Rattle.std.proofs.Common.{List, [], length, Bool, true, false, Option, None, Some, Result, Ok, Err, refl, sym, ap}
 use Rattle.std.proofs.Common.{subst, arith, append_assoc, length-append, nat_lt, nat_le, cond, rules, append-nil}
@@ -8,13 +8,15 @@ use Rattle.std.proofs.lemmas.Bool.{cases_lt, lt-ltb, le-leb, le-ltb}
 use Rattle.std.proofs.Math.Bool.{and-false}
 use Rattle.std.proofs.lemmas.List.Folds.{list_all-append}
 use mathlib.Core.Bool.{◌||◌}
+use Rattle.aig_fault.specs.Stopping.{refusal}
 use Rattle.aig_circuit.specs.declared.circuit.Gate.{Gate}
 use Rattle.aig_circuit.specs.Literal.{literal_of}
-use Rattle.aig_rows.specs.declared.fault.ReadKind.{ReadKind}
-use Rattle.aig_rows.specs.declared.fault.ReadKind.TheVariants as kinds
-use Rattle.aig_rows.specs.Reading.{◌>>=◌, want_of_memory}
-use Rattle.aig_rows.specs.declared.fault.Place.TheVariants as places
-use Rattle.aig_rows.specs.declared.fault.ReadFault.{ReadFault}
+use Rattle.aig_fault.specs.declared.kind.Kind.{Kind}
+use Rattle.aig_fault.specs.declared.kind.Kind.TheVariants as kinds
+use Rattle.aig_rows.specs.Reading.{◌>>=◌}
+use Rattle.aig_fault.specs.declared.fault.Place.TheVariants as places
+use Rattle.aig_fault.specs.declared.stopped.Stopped.{Stopped}
+use Rattle.aig_fault.specs.declared.stopped.Stopped.TheVariants.{OutOfMemory}
 use Rattle.aig_binary.specs.Delta.{groups_at, delta_at}
 use Rattle.aig_binary.specs.BinaryReading.{no_delta, lowered, lowered_at, gate_at, gates_at}
 use Rattle.aig_binary.specs.Begun.{NoneIsThere, gates_behind, gates_from}
@@ -113,28 +115,28 @@ low_stays from least bytes more p h =
     ∙ ap (lowered_at from least) (append_assoc l.spelling p.1 more)
     ∙ lowered_found from least p.0 l.spelling (p.1 ++ more) l.delta l.below
 
-test_wrong : (t : Bool) (low : ℕ) (rest more : List ℕ) (kind : ReadKind)
-    → ◌≡◌ {A = Result (ℕ × List ℕ) ReadKind} (cond t (Err kinds.BadDelta) (Ok (low, rest))) (Err kind)
-    → ◌≡◌ {A = Result (ℕ × List ℕ) ReadKind} (cond t (Err kinds.BadDelta) (Ok (low, rest ++ more))) (Err kind)
+test_wrong : (t : Bool) (low : ℕ) (rest more : List ℕ) (kind : Kind)
+    → ◌≡◌ {A = Result (ℕ × List ℕ) Kind} (cond t (Err kinds.BadDelta) (Ok (low, rest))) (Err kind)
+    → ◌≡◌ {A = Result (ℕ × List ℕ) Kind} (cond t (Err kinds.BadDelta) (Ok (low, rest ++ more))) (Err kind)
 test_wrong true low rest more kind h = h
 test_wrong false low rest more kind h = cc
 
 pub err_same : {A E : Type 0} (x y : E) → ◌≡◌ {A = Result A E} (Err x) (Err y) → x ≡ y
 err_same x y h = cc
 
-low_by : (from least : ℕ) (bytes more : List ℕ) (kind : ReadKind) (o : Option (ℕ × List ℕ)) → delta_at bytes ≡ o
+low_by : (from least : ℕ) (bytes more : List ℕ) (kind : Kind) (o : Option (ℕ × List ℕ)) → delta_at bytes ≡ o
     → kind ≢ kinds.Truncated → lowered from least (no_delta bytes) o ≡ Err kind
     → lowered from least (no_delta (bytes ++ more)) (delta_at (bytes ++ more)) ≡ Err kind
 low_by from least bytes more kind None is other h =
-    let same : no_delta bytes ≡ kind = err_same {A = ℕ × List ℕ} {E = ReadKind} (no_delta bytes) kind h in
+    let same : no_delta bytes ≡ kind = err_same {A = ℕ × List ℕ} {E = Kind} (no_delta bytes) kind h in
     let whole : IsWhole 5 bytes = whole_by bytes (all_go_on bytes) refl (λ e. other (sym same ∙ e)) in
     rw (delta_gone bytes more is whole, bad_by (bytes ++ more) (whole_joined bytes more whole))
-    (ap (λ (k : ReadKind). Err k) (sym (bad_by bytes whole) ∙ same))
+    (ap (λ (k : Kind). Err k) (sym (bad_by bytes whole) ∙ same))
 low_by from least bytes more kind (Some x) is other h =
     rw (delta_stays bytes more x.1 x.0 is)
     (test_wrong (nat_lt x.0 least || nat_lt from x.0) (from - x.0) x.1 more kind h)
 
-low_wrong : (from least : ℕ) (bytes more : List ℕ) (kind : ReadKind) → kind ≢ kinds.Truncated
+low_wrong : (from least : ℕ) (bytes more : List ℕ) (kind : Kind) → kind ≢ kinds.Truncated
     → lowered_at from least bytes ≡ Err kind → lowered_at from least (bytes ++ more) ≡ Err kind
 unfolding lowered_at
 low_wrong from least bytes more kind other h = low_by from least bytes more kind (delta_at bytes) refl other h
@@ -149,16 +151,16 @@ gate_stays variable bytes more p h =
     ∙ subst (λ v. gate_at v (g.spelling ++ (p.1 ++ more)) ≡ Ok (p.0, p.1 ++ more)) g.defines
     (gate_found p.0 g.spelling (p.1 ++ more) g.spelled g.left g.right)
 
-right_wrong : (variable left : ℕ) (bytes more : List ℕ) (kind : ReadKind) (r : Result (ℕ × List ℕ) ReadKind)
+right_wrong : (variable left : ℕ) (bytes more : List ℕ) (kind : Kind) (r : Result (ℕ × List ℕ) Kind)
     → lowered_at left 0 bytes ≡ r → kind ≢ kinds.Truncated
     → ◌>>=◌ {B = Gate × List ℕ} r (with_right variable left) ≡ Err kind
     → lowered_at left 0 (bytes ++ more) >>= with_right variable left ≡ Err kind
 right_wrong variable left bytes more kind (Ok p) is other h = cc
 right_wrong variable left bytes more kind (Err k) is other h =
-    let same : k ≡ kind = err_same {A = Gate × List ℕ} {E = ReadKind} k kind h in
-    rw (low_wrong left 0 bytes more kind other (is ∙ ap (λ (e : ReadKind). Err e) same)) refl
+    let same : k ≡ kind = err_same {A = Gate × List ℕ} {E = Kind} k kind h in
+    rw (low_wrong left 0 bytes more kind other (is ∙ ap (λ (e : Kind). Err e) same)) refl
 
-left_wrong : (variable : ℕ) (bytes more : List ℕ) (kind : ReadKind) (r : Result (ℕ × List ℕ) ReadKind)
+left_wrong : (variable : ℕ) (bytes more : List ℕ) (kind : Kind) (r : Result (ℕ × List ℕ) Kind)
     → lowered_at (literal_of variable) 1 bytes ≡ r → kind ≢ kinds.Truncated
     → ◌>>=◌ {B = Gate × List ℕ} r (then_right variable) ≡ Err kind
     → lowered_at (literal_of variable) 1 (bytes ++ more) >>= then_right variable ≡ Err kind
@@ -166,20 +168,20 @@ left_wrong variable bytes more kind (Ok p) is other h =
     rw (low_stays (literal_of variable) 1 bytes more p is)
     (right_wrong variable p.0 p.1 more kind (lowered_at p.0 0 p.1) refl other h)
 left_wrong variable bytes more kind (Err k) is other h =
-    let same : k ≡ kind = err_same {A = Gate × List ℕ} {E = ReadKind} k kind h in
-    rw (low_wrong (literal_of variable) 1 bytes more kind other (is ∙ ap (λ (e : ReadKind). Err e) same)) refl
+    let same : k ≡ kind = err_same {A = Gate × List ℕ} {E = Kind} k kind h in
+    rw (low_wrong (literal_of variable) 1 bytes more kind other (is ∙ ap (λ (e : Kind). Err e) same)) refl
 
-gate_wrong : (variable : ℕ) (bytes more : List ℕ) (kind : ReadKind) → kind ≢ kinds.Truncated
+gate_wrong : (variable : ℕ) (bytes more : List ℕ) (kind : Kind) → kind ≢ kinds.Truncated
     → gate_at variable bytes ≡ Err kind → gate_at variable (bytes ++ more) ≡ Err kind
 unfolding gate_at
 gate_wrong variable bytes more kind other h =
     left_wrong variable bytes more kind (lowered_at (literal_of variable) 1 bytes) refl other h
 
 -- Reading gates one after another.
-abbrev with_first : Gate → List Gate × List ℕ → Result (List Gate × List ℕ) ReadFault
+abbrev with_first : Gate → List Gate × List ℕ → Result (List Gate × List ℕ) Stopped
 with_first g others = Ok (g ∷ others.0, others.1)
 
-found_first : (found : List Gate) (g : Gate) (r : Result (List Gate × List ℕ) ReadFault)
+found_first : (found : List Gate) (g : Gate) (r : Result (List Gate × List ℕ) Stopped)
     → gates_behind (found ++ g ∷ []) r ≡ gates_behind found (r >>= with_first g)
 found_first found g (Ok x) = ap (λ (gs : List Gate). Ok (gs, x.1)) (append_assoc found (g ∷ []) x.0)
 found_first found g (Err e) = refl
@@ -189,8 +191,8 @@ one_more : (v n count : ℕ) (bytes rest : List ℕ) (g : Gate) → gate_at v by
 unfolding gates_at
 one_more v n count bytes rest g h = rw h refl
 
-one_wrong : (v n count : ℕ) (bytes : List ℕ) (kind : ReadKind) → gate_at v bytes ≡ Err kind
-    → gates_at v n (suc count) bytes ≡ Err (record { place = places.Gate n; kind = kind })
+one_wrong : (v n count : ℕ) (bytes : List ℕ) (kind : Kind) → gate_at v bytes ≡ Err kind
+    → gates_at v n (suc count) bytes ≡ Err (refusal kind (places.Gate n) 0)
 unfolding gates_at
 one_wrong v n count bytes kind h = rw h refl
 
@@ -213,16 +215,16 @@ gates_more v i count bytes rest found g l h =
     )
 
 -- a gate that is not right
-gates_wrong : (v i count : ℕ) (bytes : List ℕ) (found : List Gate) (kind : ReadKind)
-    (whole : Result (List Gate × List ℕ) ReadFault) → i < count → gate_at (v + i) bytes ≡ Err kind
+gates_wrong : (v i count : ℕ) (bytes : List ℕ) (found : List Gate) (kind : Kind)
+    (whole : Result (List Gate × List ℕ) Stopped) → i < count → gate_at (v + i) bytes ≡ Err kind
     → gates_behind found (gates_at (v + i) (i + 1) (count - i) bytes) ≡ whole
-    → whole ≡ Err (record { place = places.Gate (i + 1); kind = kind })
+    → whole ≡ Err (refusal kind (places.Gate (i + 1)) 0)
 gates_wrong v i count bytes found kind whole l h w =
     let one : count - i ≡ suc (count - (i + 1)) = omega arith in
     sym w ∙ rw one (ap (gates_behind found) (one_wrong (v + i) (i + 1) (count - (i + 1)) bytes kind h))
 
 -- no gate is left
-gates_done : (v i count : ℕ) (bytes : List ℕ) (found : List Gate) (whole : Result (List Gate × List ℕ) ReadFault)
+gates_done : (v i count : ℕ) (bytes : List ℕ) (found : List Gate) (whole : Result (List Gate × List ℕ) Stopped)
     → count ≤ i
     → gates_behind found (gates_at (v + i) (i + 1) (count - i) bytes) ≡ whole → whole ≡ Ok (found, bytes)
 gates_done v i count bytes found whole l w = search (rules, none_left, append-nil)
@@ -236,7 +238,7 @@ rest_taken bytes text rest used cut = (
       ∙ sym (append_assoc text (take used rest) (drop used rest)),
 )
 
--- gates that were read, whatever comes behind the bytes
+-- gates that were read, whatever comes after the bytes
 module _ (v count : ℕ) (before found : List Gate) (bytes rest : List ℕ) (l : length found < count)
     (on : (more : List ℕ) → gates_from v count before (bytes ++ more) ≡ gates_from v count found (rest ++ more))
   where
@@ -257,19 +259,19 @@ module _ (v count : ℕ) (before found : List Gate) (bytes rest : List ℕ) (l :
         ∙ ap (λ (n : ℕ). gates_behind (found ++ g ∷ []) (gates_at (v + n) (n + 1) (count - n) (behind ++ more)))
         (sym (length-append found (g ∷ [])))
 
-    pub gate_refused : (more : List ℕ) (kind : ReadKind) → kind ≢ kinds.Truncated
+    pub gate_refused : (more : List ℕ) (kind : Kind) → kind ≢ kinds.Truncated
         → gate_at (v + length found) rest ≡ Err kind
         → gates_from v count before (bytes ++ more)
-        ≡ Err (record { place = places.Gate (length found + 1); kind = kind })
+        ≡ Err (refusal kind (places.Gate (length found + 1)) 0)
     gate_refused more kind other h =
         on more
         ∙ gates_wrong v (length found) count (rest ++ more) found kind (gates_from v count found (rest ++ more)) l
         (gate_wrong (v + length found) rest more kind other h) refl
 
 -- where no bytes come
-pub alone_wrong : (v count : ℕ) (found : List Gate) (bytes : List ℕ) (e : ReadFault)
-    → (e ≡ want_of_memory) ⊎ ((more : List ℕ) → gates_from v count found (bytes ++ more) ≡ Err e)
-    → (e ≡ want_of_memory) ⊎ (gates_from v count found bytes ≡ Err e)
+pub alone_wrong : (v count : ℕ) (found : List Gate) (bytes : List ℕ) (e : Stopped)
+    → (e ≡ OutOfMemory) ⊎ ((more : List ℕ) → gates_from v count found (bytes ++ more) ≡ Err e)
+    → (e ≡ OutOfMemory) ⊎ (gates_from v count found bytes ≡ Err e)
 alone_wrong v count found bytes e (inl m) = inl m
 alone_wrong v count found bytes e (inr wrong) =
     inr (ap (gates_from v count found) (sym (append-nil bytes)) ∙ wrong [])
@@ -284,7 +286,7 @@ module _ (v count : ℕ) (before found : List Gate) (bytes rest : List ℕ)
 
     pub alone_cut : NoneIsThere v count found rest → length found < count
         → gates_from v count before bytes
-        ≡ Err (record { place = places.Gate (length found + 1); kind = kinds.Truncated })
+        ≡ Err (refusal kinds.Truncated (places.Gate (length found + 1)) 0)
     alone_cut (inl all) few = absurd (omega (arith, all))
     alone_cut (inr cut) few =
         alone

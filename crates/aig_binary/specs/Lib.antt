@@ -7,5 +7,4 @@ pub mod Laws
 pub mod FileLaws
 pub mod File
 pub mod Sources
-pub mod Messages
 pub mod Parts

@@ -3,15 +3,15 @@ ghost use Rattle.std.specs.Prelude.{◌≡◌, ◌+◌, ◌-◌, ◌*◌, ◌^�
 ghost use Rattle.std.specs.Prelude.{◌⊎◌, ◌↔◌, List, ℕ, Err, IfErr, IfOk, IfSome, Ok};
 ghost use Rattle.std.specs.Prelude.{IsTrue, OnOk, drop, length, nat_le};
 ghost use Rattle.std.specs.List.{list_all};
-ghost use Rattle.aig_rows.specs.declared.fault.ReadKind.TheVariants.{Truncated};
+ghost use Rattle.aig_fault.specs.declared.stopped.Stopped.TheVariants.{OutOfMemory};
+ghost use Rattle.aig_fault.specs.declared.kind.Kind.TheVariants.{Truncated};
 ghost use Rattle.aig_rows.specs.Outcomes.{GivesOrFails, GivesOrMemory};
-ghost use Rattle.aig_rows.specs.Reading.{want_of_memory};
 ghost use Rattle.aig_binary.specs.BinaryReading.{no_delta, lowered_at, gate_at};
 ghost use Rattle.aig_binary.specs.Begun.{NoneIsThere, gates_from};
 
 use crate::delta::{get_delta, get_short_delta};
 use aig_core::{Gate, Listing, Lit, Var};
-use aig_text::{Place, ReadFault, ReadKind};
+use aig_fault::{Kind, Place, Stopped, refused};
 use std::alloc::AllocError;
 
 fn all_go_on(bytes: &[u8]) -> bool
@@ -22,19 +22,19 @@ fn all_go_on(bytes: &[u8]) -> bool
 
 #[cold]
 #[inline(never)]
-fn no_delta(bytes: &[u8]) -> ReadKind
+fn no_delta(bytes: &[u8]) -> Kind
     ensures { result ≡ no_delta bytes.now }
 {
     if bytes.len() < 5 && all_go_on(bytes) {
-        return ReadKind::Truncated;
+        return Kind::Truncated;
     }
-    ReadKind::BadDelta
+    Kind::BadDelta
 }
 
 /// A literal less the delta at the front, which is at least so much, and what follows it.
 #[inline(always)]
 #[tactic(auto, unfolding(crate::specs::BinaryReading::lowered_at))]
-fn lower(from: u32, least: u32, bytes: &[u8]) -> Result<(u32, &[u8]), ReadKind>
+fn lower(from: u32, least: u32, bytes: &[u8]) -> Result<(u32, &[u8]), Kind>
     ensures literal { GivesOrFails (λ x. (x.0, x.1.now)) result (lowered_at from least bytes.now) }
     ensures shorter { IfOk result (λ x. length x.1.now ≤ length bytes.now) }
 {
@@ -42,7 +42,7 @@ fn lower(from: u32, least: u32, bytes: &[u8]) -> Result<(u32, &[u8]), ReadKind>
         return Err(no_delta(bytes));
     };
     if delta < least || from < delta {
-        return Err(ReadKind::BadDelta);
+        return Err(Kind::BadDelta);
     }
     let (_, rest) = bytes.split_at(count);
     Ok((from - delta, rest))
@@ -51,7 +51,7 @@ fn lower(from: u32, least: u32, bytes: &[u8]) -> Result<(u32, &[u8]), ReadKind>
 #[cold]
 #[inline(never)]
 #[tactic(auto, unfolding(crate::specs::BinaryReading::gate_at))]
-fn read_gate(variable: u32, bytes: &[u8]) -> Result<(Gate, &[u8]), ReadKind>
+fn read_gate(variable: u32, bytes: &[u8]) -> Result<(Gate, &[u8]), Kind>
     requires { 2 * variable < 2 ^ 32 }
     ensures gate { GivesOrFails (λ x. (x.0, x.1.now)) result (gate_at variable bytes.now) }
     ensures shorter { IfOk result (λ x. length x.1.now ≤ length bytes.now) }
@@ -104,11 +104,11 @@ fn short_gate(variable: u32, bytes: &[u8]) -> Option<(Gate, &[u8])>
     Some((gate, rest))
 }
 
-fn is_cut(kind: &ReadKind) -> bool
+pub(crate) fn is_cut(kind: &Kind) -> bool
     ensures { IsTrue result ↔ (kind.now ≡ Truncated) }
 {
     match kind {
-        ReadKind::Truncated => true,
+        Kind::Truncated => true,
         _ => false,
     }
 }
@@ -150,7 +150,7 @@ pub(crate) fn read_first_gates(
     variable: u32,
     count: u32,
     bytes: &[u8],
-) -> Result<usize, ReadFault>
+) -> Result<usize, Stopped>
     requires variables { variable + count ≤ 2 ^ 31 }
     requires fewer { length found.old ≤ count }
     ensures on { IfOk result (λ used. (more : List ℕ)
@@ -159,7 +159,7 @@ pub(crate) fn read_first_gates(
     ensures all { IfOk result (λ used. NoneIsThere variable count found.new (drop used bytes.now)) }
     ensures fewer { OnOk result (length found.new ≤ count) }
     ensures within { IfOk result (λ used. used ≤ length bytes.now) }
-    ensures err { IfErr result (λ e. (e ≡ want_of_memory) ⊎ ((more : List ℕ)
+    ensures err { IfErr result (λ e. (e ≡ OutOfMemory) ⊎ ((more : List ℕ)
         → gates_from variable count found.old (bytes.now ++ more) ≡ Err e)) }
 {
     let mut rest = bytes;
@@ -180,8 +180,7 @@ pub(crate) fn read_first_gates(
                 if is_cut(&kind) {
                     return Ok(bytes.len() - rest.len());
                 }
-                let place = Place::Gate(u64::from(at) + 1);
-                return Err(ReadFault { place, kind });
+                return Err(refused(kind, Place::Gate(u64::from(at) + 1), 0));
             }
         }
     }
@@ -193,7 +192,7 @@ pub(crate) fn read_gates(
     variable: u32,
     count: u32,
     bytes: &[u8],
-) -> Result<(Listing<Gate>, &[u8]), ReadFault>
+) -> Result<(Listing<Gate>, &[u8]), Stopped>
     requires variables { variable + count ≤ 2 ^ 31 }
     requires fewer { length found ≤ count }
     ensures gates { GivesOrMemory (λ x. (x.0, x.1.now)) result
@@ -213,10 +212,7 @@ pub(crate) fn read_gates(
     let read = found.len();
     if read < count as usize {
         drop(found); // for the proof
-        return Err(ReadFault {
-            place: Place::Gate(read as u64 + 1),
-            kind: ReadKind::Truncated,
-        });
+        return Err(refused(Kind::Truncated, Place::Gate(read as u64 + 1), 0));
     }
     let (_, rest) = bytes.split_at(used);
     Ok((found, rest))

@@ -2,7 +2,7 @@
 ghost use Rattle.aig_binary.specs.Laws.{ShortestIsDelta, ShortestIsOne};
 ghost use Rattle.aig_binary.specs.Laws.{DeltasAreUnambiguous, DeltasAreReadExactly};
 ghost use Rattle.aig_binary.specs.FileLaws.{BinaryReadExactly, BinaryFaultyOrAccepted};
-ghost use Rattle.aig_binary.specs.FileLaws.{BinaryTextsAreUnambiguous};
+ghost use Rattle.aig_binary.specs.FileLaws.{BinaryTextsAreUnambiguous, FilesAreReadOrRefused};
 ghost use Rattle.aig_binary.specs.FileLaws.{CanonicalBinaryIsAccepted};
 
 /// The shortest spelling of a number below 2^32 is one of its spellings, and none could be shorter.
@@ -34,6 +34,12 @@ pub fn binary_read_exactly()
 /// A text is the binary file of a circuit exactly where it has no fault.
 pub fn binary_faulty_or_accepted()
     ensures { BinaryFaultyOrAccepted }
+{}
+
+/// A text is read as a circuit, or is refused with a fault.
+#[tactic(auto, using(crate::proofs::Refusals::file_refuses))]
+pub fn files_are_read_or_refused()
+    ensures { FilesAreReadOrRefused }
 {}
 
 /// A text is the binary file of one circuit at most.

@@ -1,9 +1,9 @@
 //! A binary file whose gates come in pieces.
 ghost use Rattle.std.specs.Prelude.{◌≡◌, ◌+◌, ◌<◌, ◌≤◌, ◌++◌, ◌⊎◌, [], List, ℕ, IfErr, IfOk, Ok};
 ghost use Rattle.std.specs.Prelude.{drop, length};
+ghost use Rattle.aig_fault.specs.declared.stopped.Stopped.TheVariants.{OutOfMemory};
 ghost use Rattle.aig_circuit.specs.Wellformed.{largest_index};
 ghost use Rattle.aig_lines.specs.Lines.{AreEnded, ahead, lines_of};
-ghost use Rattle.aig_rows.specs.Reading.{want_of_memory};
 ghost use Rattle.aig_binary.specs.BinaryReading.{binary_at};
 ghost use Rattle.aig_binary.specs.Begun.{AllIsTaken, FitsHeader, HasAllGates};
 ghost use Rattle.aig_binary.specs.Begun.{front_at, gates_then, rest_of};
@@ -12,24 +12,25 @@ use crate::gates::{read_first_gates, read_gates};
 use crate::piecewise::Pieces;
 use crate::reader::{add_definitions, read_front};
 use aig_core::{Circuit, Gate, Listing};
+use aig_fault::Stopped;
 use aig_lines::Cursor;
-use aig_text::{Header, Limits, ReadFault, Uncommented, tail};
+use aig_text::{Header, Limits, Uncommented, tail};
 use std::alloc::Global;
 
 /// Takes gates of a binary file piece by piece. After a fault it holds that, and takes all bytes.
 #[derive(Drop)]
 pub(crate) struct BinaryReader {
     /// The header, or the first fault of the gates so far.
-    header: Result<Header, ReadFault>,
+    header: Result<Header, Stopped>,
     /// What the lines in front of the gates told.
     circuit: Circuit,
     gates: Listing<Gate>,
-    /// The number of the first line behind the gates.
+    /// The number of the first line after the gates.
     number: u64,
 }
 
 impl BinaryReader {
-    /// It stands behind the lines that told this.
+    /// It stands after the lines that told this.
     pub(crate) fn new(alloc: Global, header: Header, circuit: Circuit, number: u64) -> Self
         requires { header.inputs + header.latches + header.gates ≤ largest_index }
         ensures from { (bytes : List ℕ) → rest_of result bytes
@@ -50,7 +51,7 @@ impl BinaryReader {
         alloc: Global,
         lines: &[u8],
         limits: Limits,
-    ) -> Result<(Self, usize), ReadFault>
+    ) -> Result<(Self, usize), Stopped>
         requires ended { AreEnded (lines_of lines.now) }
         ensures on { IfOk result (λ x. (more : List ℕ)
             → binary_at limits.max_var (lines_of (lines.now ++ more))
@@ -58,7 +59,7 @@ impl BinaryReader {
         ensures within { IfOk result (λ x. x.1 ≤ length lines.now) }
         ensures number { IfOk result (λ x. x.0.number ≤ 1 + x.1) }
         ensures fits { IfOk result (λ x. FitsHeader x.0.header x.0.gates) }
-        ensures err { IfErr result (λ e. (e ≡ want_of_memory)
+        ensures err { IfErr result (λ e. (e ≡ OutOfMemory)
             ⊎ (front_at limits.max_var (ahead 1 (lines_of lines.now)) ≡ Err e)) }
     {
         let mut at = Cursor::new(lines);
@@ -104,7 +105,7 @@ impl Pieces for BinaryReader {
         }
     }
 
-    fn finish(self, alloc: Global, bytes: &[u8]) -> Result<Uncommented, ReadFault> {
+    fn finish(self, alloc: Global, bytes: &[u8]) -> Result<Uncommented, Stopped> {
         let BinaryReader {
             header,
             circuit,

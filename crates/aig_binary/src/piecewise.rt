@@ -3,19 +3,19 @@ ghost use Rattle.std.specs.Prelude.{◌≡◌, ◌+◌, ◌^◌, ◌<◌, ◌≤
 ghost use Rattle.std.specs.Prelude.{List, Result, IfErr, IfOk, IsOk, IsTrue};
 ghost use Rattle.std.specs.Prelude.{OnOk, drop, false, length, vec_len};
 ghost use Rattle.aig_circuit.specs.declared.circuit.Circuit.{Circuit as CircuitRecord};
-ghost use Rattle.aig_io.specs.Devices.{CanFail, GaveSome};
+ghost use Rattle.aig_io.specs.Devices.{GaveSome};
 ghost use Rattle.aig_io.specs.Windows.{Filled};
-ghost use Rattle.aig_rows.specs.declared.fault.ReadFault.{ReadFault as Fault};
+ghost use Rattle.aig_fault.specs.declared.stopped.Stopped.{Stopped as Fault};
 ghost use Rattle.aig_lines.specs.Lines.{lines_of, HasNoLineFeed};
 ghost use Rattle.aig_rows.specs.Outcomes.{GivesOrMemory};
 ghost use Rattle.aig_text.specs.Begun.{IsDone, IsValid, ReadsOn, rest_of};
 ghost use Rattle.aig_text.specs.Reading.{HasRoomFor, with_last_comment};
 ghost use Rattle.aig_binary.specs.Sources.{ComesOn, NotAllCame, ReadsAs, ReadsFrom};
 
-use crate::source_fault::SourceFault;
 use aig_core::{Circuit, ReadError, Source, Window, read_to_end};
+use aig_fault::Stopped;
 use aig_lines::ended_lines;
-use aig_text::{AsciiReader, ReadFault, Uncommented};
+use aig_text::{AsciiReader, Uncommented};
 use std::alloc::Global;
 
 /// A reader that takes the bytes of a file piece by piece.
@@ -52,7 +52,7 @@ pub(crate) trait Pieces: Drop {
         ensures number { next_line self.new ≤ next_line self.old + result }
         ensures valid { is_valid self.new };
 
-    fn finish(self, alloc: Global, bytes: &[u8]) -> Result<Uncommented, ReadFault>
+    fn finish(self, alloc: Global, bytes: &[u8]) -> Result<Uncommented, Stopped>
         requires counted { next_line self + length bytes.now < 2 ^ 64 }
         requires valid { is_valid self }
         ensures read { GivesOrMemory
@@ -85,7 +85,7 @@ impl Pieces for AsciiReader {
         self.advance(bytes)
     }
 
-    fn finish(self, alloc: Global, bytes: &[u8]) -> Result<Uncommented, ReadFault> {
+    fn finish(self, alloc: Global, bytes: &[u8]) -> Result<Uncommented, Stopped> {
         self.finish(alloc, bytes)
     }
 }
@@ -96,14 +96,14 @@ pub(crate) fn fetch_piece<R: Source, P: Pieces>(
     window: &mut Window,
     least: usize,
 ) -> Result<bool, ReadError>
-    requires { CanFail (R.past source.old) }
-    ensures ok { IfOk result (λ more. Filled window.old window.new more (R.past source.old)
-        (R.past source.new)) }
+    ensures ok { IfOk result (λ more. Filled window.old window.new more (R.history source.old)
+        (R.history source.new)) }
     ensures least { IfOk result (λ more. IsTrue more → least ≤ length window.new) }
     ensures bound { OnOk result (R.bound source.new + length window.new
         ≡ R.bound source.old + length window.old) }
     ensures fewer { IfOk result (λ more. IsTrue more → R.bound source.new < R.bound source.old) }
-    ensures err { IfErr result (λ error. GaveSome error (R.past source.old) (R.past source.new)) }
+    ensures err { IfErr result (λ error. GaveSome error (R.history source.old)
+        (R.history source.new)) }
 {
     loop {
         let held = window.as_slice().len();
@@ -122,12 +122,11 @@ pub(crate) fn fetch_all<R: Source>(
     window: Window,
     more: bool,
 ) -> Result<Vec<u8>, ReadError>
-    requires { CanFail (R.past source.old) }
-    ensures ok { IfOk result (λ all. ComesOn window all.items more false (R.past source.old)
-        (R.past source.new)) }
+    ensures ok { IfOk result (λ all. ComesOn window all.items more false (R.history source.old)
+        (R.history source.new)) }
     ensures bound { IfOk result (λ all. vec_len all ≤ R.bound source.old + length window) }
     ensures err { IfErr result (λ error.
-        NotAllCame error more (R.past source.old) (R.past source.new)) }
+        NotAllCame error more (R.history source.old) (R.history source.new)) }
 {
     let mut bytes = window.into_bytes();
     if more {
@@ -142,15 +141,15 @@ fn read_pieces<R: Source, P: Pieces>(
     window: &mut Window,
     reader: &mut P,
 ) -> Result<bool, ReadError>
-    requires source { CanFail (R.past source.old) }
     requires valid { P.is_valid reader.old }
     requires counted { P.next_line reader.old + length window.old + R.bound source.old ≤ 2 ^ 63 }
     ensures ok { IfOk result (λ more. ReadsFrom (P.rest reader.old) (P.rest reader.new)
-        window.old window.new more (R.past source.old) (R.past source.new)) }
+        window.old window.new more (R.history source.old) (R.history source.new)) }
     ensures valid { OnOk result (P.is_valid reader.new) }
     ensures counted { OnOk result
         (P.next_line reader.new + length window.new + R.bound source.new ≤ 2 ^ 63) }
-    ensures err { IfErr result (λ error. GaveSome error (R.past source.old) (R.past source.new)) }
+    ensures err { IfErr result (λ error. GaveSome error (R.history source.old)
+        (R.history source.new)) }
 {
     let mut more = true;
     while more && !reader.is_done() {
@@ -162,7 +161,7 @@ fn read_pieces<R: Source, P: Pieces>(
 }
 
 /// The circuit that the last bytes tell to a reader. Its comment stays in their memory.
-fn finish_with<P: Pieces>(alloc: Global, reader: P, bytes: Vec<u8>) -> Result<Circuit, ReadFault>
+fn finish_with<P: Pieces>(alloc: Global, reader: P, bytes: Vec<u8>) -> Result<Circuit, Stopped>
     requires counted { P.next_line reader + length bytes.items < 2 ^ 64 }
     requires valid { P.is_valid reader }
     ensures { GivesOrMemory (λ c. c) result (P.rest reader bytes.items) }
@@ -178,20 +177,16 @@ pub(crate) fn read_rest<R: Source, P: Pieces>(
     source: &mut R,
     window: Window,
     reader: P,
-) -> Result<Circuit, SourceFault>
-    requires source { CanFail (R.past source.old) }
+) -> Result<Circuit, Stopped>
     requires valid { P.is_valid reader }
     requires counted { P.next_line reader + length window + R.bound source.old ≤ 2 ^ 63 }
     ensures { ReadsAs
         (λ answer bytes. GivesOrMemory (λ c. c) answer (P.rest reader (window ++ bytes))) result
-        (R.past source.old) (R.past source.new) }
+        (R.history source.old) (R.history source.new) }
 {
     let mut reader = reader;
     let mut window = window;
     let more = read_pieces(source, &mut window, &mut reader)?;
     let bytes = fetch_all(source, window, more)?;
-    match finish_with(alloc, reader, bytes) {
-        Ok(circuit) => Ok(circuit),
-        Err(fault) => Err(SourceFault::File(fault)),
-    }
+    finish_with(alloc, reader, bytes)
 }

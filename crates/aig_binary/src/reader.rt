@@ -2,6 +2,7 @@
 ghost use Rattle.std.specs.Prelude.{◌≡◌, ◌+◌, ◌^◌, ◌<◌, ◌≤◌, IfOk, IfErr};
 ghost use Rattle.std.specs.Prelude.{MatchResult, OnOk, length};
 ghost use Rattle.std.specs.List.{range_with_len, sum};
+ghost use Rattle.aig_fault.specs.declared.stopped.Stopped.TheVariants.{OutOfMemory};
 ghost use Rattle.aig_circuit.specs.Wellformed.{largest_index};
 ghost use Rattle.aig_lines.specs.Lines.{lines_of};
 ghost use Rattle.aig_text.specs.declared.section.Section.TheVariants.{Latches};
@@ -9,7 +10,7 @@ ghost use Rattle.aig_text.specs.Sections.{in_binary, sections};
 ghost use Rattle.aig_rows.specs.Outcomes.{GivesOrMemory};
 ghost use Rattle.aig_circuit.specs.declared.circuit.Circuit.{Circuit as CircuitRecord};
 ghost use Rattle.aig_text.specs.Reading.{IsFirstFault, section_at, sections_at};
-ghost use Rattle.aig_rows.specs.Reading.{at_line, want_of_memory};
+ghost use Rattle.aig_rows.specs.Reading.{at_line};
 ghost use Rattle.aig_checked.specs.BinaryOrder.{IsInBinaryOrder};
 ghost use Rattle.aig_binary.specs.BinaryGrammar.{IsBinaryText};
 ghost use Rattle.aig_binary.specs.BinaryReading.{filled, with_definitions};
@@ -20,10 +21,11 @@ ghost use Rattle.aig_binary.specs.Parts.NextStates.{latches_by};
 use crate::pieces::BinaryReader;
 use crate::piecewise::Pieces;
 use aig_core::{Checked, Circuit, Gate, Latch, Listing, Ordered, Var};
+use aig_fault::{Kind, Stopped, refused_at};
 use aig_lines::Cursor;
 use aig_text::{
-    Header, Limits, NextState, Place, ReadFault, ReadKind, SECTIONS, Section, empty_circuit,
-    header, next_states, read_section, tail,
+    Header, Limits, NextState, SECTIONS, Section, empty_circuit, header, next_states, read_section,
+    tail,
 };
 use std::alloc::Global;
 
@@ -31,7 +33,7 @@ use std::alloc::Global;
 pub const BINARY_WORD: &[u8] = b"aig";
 
 /// The header, where its definitions are all the variables.
-fn check_filled(header: Header) -> Result<Header, ReadFault>
+fn check_filled(header: Header) -> Result<Header, Stopped>
     ensures value { result ≡ at_line 1 (filled header) }
     ensures same { IfOk result (λ h. h ≡ header) }
     ensures all { IfOk result (λ h. h.inputs + h.latches + h.gates ≡ header.max_var) }
@@ -40,17 +42,14 @@ fn check_filled(header: Header) -> Result<Header, ReadFault>
     if u64::from(header.max_var) == all {
         return Ok(header);
     }
-    Err(ReadFault {
-        place: Place::Line(1),
-        kind: ReadKind::BadHeader,
-    })
+    Err(refused_at(Kind::BadHeader, 1))
 }
 
 #[tactic(auto, using(aig_checked::proofs::Numbered::range_more))]
-fn inputs(alloc: Global, count: u32) -> Result<Listing<Var>, ReadFault>
+fn inputs(alloc: Global, count: u32) -> Result<Listing<Var>, Stopped>
     requires { count < 2 ^ 31 }
     ensures ok { IfOk result (λ found. found ≡ range_with_len 1 count) }
-    ensures err { IfErr result (λ e. e ≡ want_of_memory) }
+    ensures err { IfErr result (λ e. e ≡ OutOfMemory) }
 {
     let mut found = Listing::from_vec(Vec::with_capacity(alloc, count as usize)?);
     for at in 0..count {
@@ -64,10 +63,10 @@ fn latches(
     alloc: Global,
     variable: u32,
     nexts: &Listing<NextState>,
-) -> Result<Listing<Latch>, ReadFault>
+) -> Result<Listing<Latch>, Stopped>
     requires { variable + length nexts.now < 2 ^ 32 }
     ensures ok { IfOk result (λ found. found ≡ latches_by variable nexts.now) }
-    ensures err { IfErr result (λ e. e ≡ want_of_memory) }
+    ensures err { IfErr result (λ e. e ≡ OutOfMemory) }
 {
     let mut found = Listing::from_vec(Vec::with_capacity(alloc, nexts.len())?);
     let mut var = variable;
@@ -87,7 +86,7 @@ fn read_latches(
     header: &Header,
     circuit: &mut Circuit,
     at: &mut Cursor,
-) -> Result<(), ReadFault>
+) -> Result<(), Stopped>
     requires max_var { header.now.max_var ≤ largest_index }
     requires definitions { header.now.inputs + header.now.latches ≤ header.now.max_var }
     ensures { GivesOrMemory (λ _. (circuit.new, at.new)) result
@@ -106,7 +105,7 @@ fn read_lines(
     header: &Header,
     circuit: &mut Circuit,
     at: &mut Cursor,
-) -> Result<(), ReadFault>
+) -> Result<(), Stopped>
     requires max_var { header.now.max_var ≤ largest_index }
     requires limit { header.now.limit ≤ largest_index }
     requires definitions { header.now.inputs + header.now.latches ≤ header.now.max_var }
@@ -132,7 +131,7 @@ fn read_sections(
     header: &Header,
     circuit: &mut Circuit,
     at: &mut Cursor,
-) -> Result<(), ReadFault>
+) -> Result<(), Stopped>
     requires max_var { header.now.max_var ≤ largest_index }
     requires limit { header.now.limit ≤ largest_index }
     requires definitions { header.now.inputs + header.now.latches ≤ header.now.max_var }
@@ -155,10 +154,10 @@ pub(crate) fn add_definitions(
     header: &Header,
     gates: Listing<Gate>,
     circuit: &mut Circuit,
-) -> Result<(), ReadFault>
+) -> Result<(), Stopped>
     requires { header.now.inputs < 2 ^ 31 }
     ensures ok { OnOk result (circuit.new ≡ with_definitions header.now gates circuit.old) }
-    ensures err { IfErr result (λ e. e ≡ want_of_memory) }
+    ensures err { IfErr result (λ e. e ≡ OutOfMemory) }
 {
     circuit.inputs = inputs(alloc, header.inputs)?;
     circuit.gates = gates;
@@ -169,7 +168,7 @@ pub(crate) fn read_front(
     alloc: Global,
     at: &mut Cursor,
     limits: Limits,
-) -> Result<(Header, Circuit), ReadFault>
+) -> Result<(Header, Circuit), Stopped>
     ensures front { GivesOrMemory (λ x. (x, at.new)) result (front_at limits.max_var at.old) }
     ensures limited { IfOk result (λ x. x.0.inputs + x.0.latches + x.0.gates ≤ largest_index) }
 {
@@ -184,7 +183,7 @@ pub(crate) fn read_front(
 }
 
 /// Whether it is well formed is not checked here.
-fn read_unchecked(alloc: Global, bytes: &[u8], limits: Limits) -> Result<Circuit, ReadFault>
+fn read_unchecked(alloc: Global, bytes: &[u8], limits: Limits) -> Result<Circuit, Stopped>
     ensures { GivesOrMemory (λ c. c) result (binary_at limits.max_var (lines_of bytes.now)) }
 {
     let mut at = Cursor::new(bytes);
@@ -198,11 +197,11 @@ fn read_unchecked(alloc: Global, bytes: &[u8], limits: Limits) -> Result<Circuit
 
 /// Reads a binary file, within these limits. The error is the first fault of the text, or that
 /// memory ran out.
-pub fn read_binary(alloc: Global, bytes: &[u8], limits: Limits) -> Result<Checked, ReadFault>
+pub fn read_binary(alloc: Global, bytes: &[u8], limits: Limits) -> Result<Checked, Stopped>
     ensures ok { IfOk result (λ c. IsBinaryText bytes.now limits.max_var c) }
     ensures ordered { IfOk result (λ c. IsInBinaryOrder c) }
     ensures only { (c : CircuitRecord) → IsBinaryText bytes.now limits.max_var c
-        → MatchResult result (λ d. d ≡ c) (λ e. e ≡ want_of_memory) }
+        → MatchResult result (λ d. d ≡ c) (λ e. e ≡ OutOfMemory) }
     ensures fault { IfErr result (λ e. IsFirstFault e
         (first_binary_fault limits.max_var bytes.now)) }
 {

@@ -1,7 +1,7 @@
 //! A source that is read to its end as a file of either kind.
 ghost use Rattle.std.specs.Prelude.{◌≡◌, ◌+◌, ◌^◌, ◌≤◌, ◌++◌, List, ℕ, IfErr, IfOk, IfSome};
 ghost use Rattle.std.specs.Prelude.{MatchOption, false, length, not, true};
-ghost use Rattle.aig_io.specs.Devices.{CanFail, GaveSome, Past, gave};
+ghost use Rattle.aig_io.specs.Devices.{GaveSome, History, gave};
 ghost use Rattle.aig_io.specs.Windows.{Filled};
 ghost use Rattle.aig_lines.specs.Lines.{lines_of};
 ghost use Rattle.aig_text.specs.Reading.{first_word_is};
@@ -10,14 +10,15 @@ ghost use Rattle.aig_binary.specs.BinaryReading.{binary_reading};
 ghost use Rattle.aig_binary.specs.Begun.{FitsHeader, rest_of};
 ghost use Rattle.aig_binary.specs.Sources.{AnswersFile, ReadsAs, ReadsFrom};
 
-use crate::file::read_file_keeping;
+use crate::file::read_file;
+use crate::gates::is_cut;
 use crate::pieces::BinaryReader;
 use crate::piecewise::{fetch_all, fetch_piece, read_rest};
 use crate::reader::BINARY_WORD;
-use crate::source_fault::SourceFault;
 use aig_core::{Checked, Keep, Ordered, ReadError, Source, Window};
+use aig_fault::Stopped;
 use aig_lines::{Cursor, ended_lines};
-use aig_text::{AsciiReader, Limits, ReadKind, check_read, first_word_is, header};
+use aig_text::{AsciiReader, Limits, check_read, first_word_is, header};
 use std::alloc::Global;
 
 /// How many times what is held there may be before the lines in front of the gates are read anew: a
@@ -37,10 +38,11 @@ fn fit(bytes: &mut Vec<u8>) -> bool
 
 /// The first bytes of a source, with a line at least, and whether it goes on.
 fn fetch_first<R: Source>(alloc: Global, source: &mut R) -> Result<(Window, bool), ReadError>
-    requires { CanFail (R.past source.old) }
-    ensures ok { IfOk result (λ x. R.past source.new ≡ gave x.0 (not x.1) (R.past source.old)) }
+    ensures ok { IfOk result (λ x. R.history source.new
+        ≡ gave x.0 (not x.1) (R.history source.old)) }
     ensures bound { IfOk result (λ x. R.bound source.new + length x.0 ≤ 2 ^ 62) }
-    ensures err { IfErr result (λ error. GaveSome error (R.past source.old) (R.past source.new)) }
+    ensures err { IfErr result (λ error. GaveSome error (R.history source.old)
+        (R.history source.new)) }
 {
     let mut window = Window::new(alloc)?;
     if !window.fill(source)? {
@@ -74,25 +76,25 @@ fn front_len(held: &[u8], limits: Limits) -> usize {
         .min(held.len().saturating_mul(MOST_TIMES))
 }
 
-/// There is no reader where the lines are not right. Answers whether the source goes on. Lines that
-/// are not there yet are read anew when as much is held as the header lets expect, and at least
-/// twice as much: mostly once, and on the whole no more than twice.
+/// There is no reader where the lines are not right. Answers whether the source goes on. Retries
+/// once the window holds what the header predicts, and at least twice as much: mostly once, and on
+/// the whole no more than twice.
 fn begin_reader<R: Source>(
     alloc: Global,
     source: &mut R,
     window: &mut Window,
     limits: Limits,
 ) -> Result<(Option<BinaryReader>, bool), ReadError>
-    requires source { CanFail (R.past source.old) }
     requires counted { length window.old + R.bound source.old ≤ 2 ^ 62 }
     ensures begun { IfOk result (λ found. MatchOption found.0
-        (Filled window.old window.new found.1 (R.past source.old) (R.past source.new))
+        (Filled window.old window.new found.1 (R.history source.old) (R.history source.new))
         (λ r. ReadsFrom (binary_reading limits.max_var) (rest_of r) window.old window.new true
-        (R.past source.old) (R.past source.new))) }
+        (R.history source.old) (R.history source.new))) }
     ensures fits { IfOk result (λ found. IfSome found.0 (λ r. FitsHeader r.header r.gates)) }
     ensures counted { IfOk result (λ found. IfSome found.0
         (λ r. r.number + length window.new + R.bound source.new ≤ 2 ^ 63)) }
-    ensures err { IfErr result (λ error. GaveSome error (R.past source.old) (R.past source.new)) }
+    ensures err { IfErr result (λ error. GaveSome error (R.history source.old)
+        (R.history source.new)) }
 {
     loop {
         let (lines, _) = ended_lines(window.as_slice());
@@ -101,11 +103,9 @@ fn begin_reader<R: Source>(
                 window.pass(used);
                 return Ok((Some(reader), true));
             }
-            Err(fault) => match fault.kind {
-                ReadKind::Truncated => {}
-                ReadKind::OutOfMemory => return Err(ReadError::OutOfMemory),
-                _ => return Ok((None, true)),
-            },
+            Err(Stopped::OutOfMemory) => return Err(ReadError::OutOfMemory),
+            Err(Stopped::Refused(fault)) if is_cut(&fault.kind) => {}
+            Err(_) => return Ok((None, true)),
         }
         let held = window.as_slice();
         let least = front_len(held, limits).max(2 * held.len());
@@ -123,18 +123,16 @@ fn read_whole<R: Source>(
     more: bool,
     limits: Limits,
     keep: Keep,
-) -> Result<Checked, SourceFault>
-    requires { CanFail (R.past source.old) }
-    ensures { (before : Past) → R.past source.old ≡ gave window (not more) before
-        → ReadsAs (AnswersFile limits.max_var) result before (R.past source.new) }
+) -> Result<Checked, Stopped>
+    ensures { (before : History) → R.history source.old ≡ gave window (not more) before
+        → ReadsAs (AnswersFile limits.max_var) result before (R.history source.new) }
 {
     let mut bytes = fetch_all(source, window, more)?;
     if !fit(&mut bytes) {
-        return Err(SourceFault::Source(ReadError::OutOfMemory));
+        return Err(Stopped::OutOfMemory);
     }
     // The text ends here: it is not needed from here on, and may be larger than the circuit.
-    let found = read_file_keeping(alloc, bytes.as_slice(), limits, keep)?;
-    Ok(found)
+    read_file(alloc, bytes.as_slice(), limits, keep)
 }
 
 fn read_binary_file<R: Source>(
@@ -142,13 +140,12 @@ fn read_binary_file<R: Source>(
     source: &mut R,
     window: Window,
     limits: Limits,
-) -> Result<Checked, SourceFault>
-    requires source { CanFail (R.past source.old) }
+) -> Result<Checked, Stopped>
     requires counted { length window + R.bound source.old ≤ 2 ^ 62 }
     requires binary { (more : List ℕ)
         → first_word_is binary_word (lines_of (window ++ more)) ≡ true }
-    ensures { (before : Past) → R.past source.old ≡ gave window false before
-        → ReadsAs (AnswersFile limits.max_var) result before (R.past source.new) }
+    ensures { (before : History) → R.history source.old ≡ gave window false before
+        → ReadsAs (AnswersFile limits.max_var) result before (R.history source.new) }
 {
     let mut window = window;
     let (front, more) = begin_reader(alloc, source, &mut window, limits)?;
@@ -166,9 +163,9 @@ pub fn read_source<R: Source>(
     source: &mut R,
     limits: Limits,
     keep: Keep,
-) -> Result<Checked, SourceFault>
-    requires { CanFail (R.past source.old) }
-    ensures { ReadsAs (AnswersFile limits.max_var) result (R.past source.old) (R.past source.new) }
+) -> Result<Checked, Stopped>
+    ensures { ReadsAs (AnswersFile limits.max_var) result (R.history source.old)
+        (R.history source.new) }
 {
     let (first, more) = fetch_first(alloc, source)?;
     let (lines, _) = ended_lines(first.as_slice());
@@ -182,5 +179,5 @@ pub fn read_source<R: Source>(
     let mut window = first;
     window.pass(used);
     let circuit = read_rest(alloc, source, window, reader)?;
-    Ok(check_read(alloc, circuit, keep)?)
+    check_read(alloc, circuit, keep)
 }

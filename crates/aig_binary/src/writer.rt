@@ -1,8 +1,8 @@
 //! The canonical binary text of a circuit in binary order, written to a sink in blocks.
 ghost use Rattle.std.specs.List.{All, flat_map};
 ghost use Rattle.std.specs.Prelude.{◌≡◌, ◌+◌, ◌-◌, ◌*◌, ◌<◌, ◌≤◌, length, take, OnErr, OnOk};
-ghost use Rattle.aig_io.specs.Output.{Put};
-ghost use Rattle.aig_io.specs.Devices.{CanFail, took, TookBeginning};
+ghost use Rattle.aig_io.specs.Output.{Appended};
+ghost use Rattle.aig_io.specs.Devices.{took, TookBeginning};
 ghost use Rattle.aig_circuit.specs.Wellformed.{IsWithinLimits};
 ghost use Rattle.aig_circuit.specs.declared.circuit.Latch.{Latch as LatchRecord};
 ghost use Rattle.aig_text.specs.AsciiText.{line_text, row_text};
@@ -14,15 +14,14 @@ ghost use Rattle.aig_binary.specs.declared.delta.TheConstants.{LONGEST};
 
 use crate::delta::{LONGEST, write_delta};
 use crate::reader::BINARY_WORD;
-use aig_core::{Circuit, Gate, Latch, Ordered, Output, Sink};
+use aig_core::{Circuit, DeviceFault, Gate, Latch, Ordered, Output, Sink};
 use aig_text::{
-    WriteFault, header_numbers, put_header, put_literal_sections, put_numbers, put_tail,
-    reset_number,
+    header_numbers, put_header, put_literal_sections, put_numbers, put_tail, reset_number,
 };
 
 #[inline(always)]
 fn put_next<W: Sink>(output: &mut Output<W>, latch: Latch)
-    ensures { Put output.old output.new (row_text 0 (next_row latch)) }
+    ensures { Appended output.old output.new (row_text 0 (next_row latch)) }
 {
     let next = u64::from(latch.next.0);
     match reset_number(2 * u64::from(latch.var.0), latch.reset) {
@@ -32,7 +31,7 @@ fn put_next<W: Sink>(output: &mut Output<W>, latch: Latch)
 }
 
 fn put_next_lines<W: Sink>(output: &mut Output<W>, latches: &[Latch])
-    ensures { Put output.old output.new (flat_map
+    ensures { Appended output.old output.new (flat_map
         (λ (l : LatchRecord). row_text 0 (next_row l)) latches.now) }
 {
     for latch in latches {
@@ -41,7 +40,7 @@ fn put_next_lines<W: Sink>(output: &mut Output<W>, latches: &[Latch])
 }
 
 fn put_front_lines<W: Sink>(output: &mut Output<W>, circuit: &Circuit)
-    ensures { Put output.old output.new (flat_map line_text (binary_rows_of circuit.now)) }
+    ensures { Appended output.old output.new (flat_map line_text (binary_rows_of circuit.now)) }
 {
     put_next_lines(output, circuit.latches.as_slice());
     put_literal_sections(output, circuit);
@@ -70,7 +69,7 @@ fn write_gates(bytes: &mut [u8], gates: &[Gate]) -> usize
 /// piece, where how far a piece goes need not be looked up at each gate.
 pub fn put_gates<W: Sink>(output: &mut Output<W>, gates: &[Gate])
     requires { All HasDeltas gates.now }
-    ensures { Put output.old output.new (flat_map gate_text gates.now) }
+    ensures { Appended output.old output.new (flat_map gate_text gates.now) }
 {
     let mut bytes = [0; PIECE * 2 * LONGEST];
     let mut at = 0;
@@ -85,7 +84,7 @@ pub fn put_gates<W: Sink>(output: &mut Output<W>, gates: &[Gate])
 fn put_text<W: Sink>(output: &mut Output<W>, circuit: &Circuit)
     requires within { IsWithinLimits circuit.now }
     requires ordered { IsInBinaryOrder circuit.now }
-    ensures { Put output.old output.new (binary_text circuit.now) }
+    ensures { Appended output.old output.new (binary_text circuit.now) }
 {
     put_header(output, BINARY_WORD, &header_numbers(circuit));
     put_front_lines(output, circuit);
@@ -95,7 +94,7 @@ fn put_text<W: Sink>(output: &mut Output<W>, circuit: &Circuit)
 
 /// Puts the canonical binary text of a circuit.
 pub fn put_binary<W: Sink>(output: &mut Output<W>, ordered: &Ordered)
-    ensures { Put output.old output.new (binary_text ordered.now) }
+    ensures { Appended output.old output.new (binary_text ordered.now) }
 {
     put_text(output, ordered.as_checked().circuit());
 }
@@ -103,11 +102,11 @@ pub fn put_binary<W: Sink>(output: &mut Output<W>, ordered: &Ordered)
 /// Writes the canonical binary text of a circuit, in slices of at most 8,192 bytes. It takes no
 /// memory and fails only where the sink fails; the sink then took a beginning of the text, and is
 /// not called again.
-pub fn write_binary<W: Sink>(ordered: &Ordered, sink: &mut W) -> Result<(), WriteFault>
-    requires { CanFail (W.past sink.old) }
-    ensures ok { OnOk result (W.past sink.new ≡ took (binary_text ordered.now) (W.past sink.old)) }
-    ensures err { OnErr result (TookBeginning (binary_text ordered.now) (W.past sink.old)
-        (W.past sink.new)) }
+pub fn write_binary<W: Sink>(ordered: &Ordered, sink: &mut W) -> Result<(), DeviceFault>
+    ensures ok { OnOk result (W.history sink.new ≡ took (binary_text ordered.now)
+        (W.history sink.old)) }
+    ensures err { OnErr result (TookBeginning (binary_text ordered.now) (W.history sink.old)
+        (W.history sink.new)) }
 {
     let mut output = Output::new(sink);
     put_binary(&mut output, ordered);

@@ -22,7 +22,7 @@ use Rattle.aig_checked.specs.BinaryOrder.{AreNumberedGates, AreOrderedGates, IsI
 use Rattle.aig_checked.specs.Parts.Numbered.{AreFirstInOrder, AreNumbered, AreSectionsInOrder, AreSectionsNumbered}
 use Rattle.aig_checked.specs.Parts.Numbered.{IsGateOf, IsNumberedGateOf}
 
--- numbers, and the next ones behind them
+-- numbers, and the next ones after them
 pub ranges_joined : (a m n : ℕ) → range_with_len a m ++ range_with_len (a + m) n ≡ range_with_len a (m + n)
 ranges_joined a zero n = ap₂ range_with_len (omega arith) (omega arith)
 ranges_joined a (suc m) n =

@@ -97,7 +97,7 @@ impl Checked {
     }
 
     /// The least ready order of the gates, if the check had to make it and was to keep it
-    /// (`check_keeping`): of gates that stand in order it mostly makes none.
+    /// (`Keep`): of gates that stand in order it mostly makes none.
     pub fn order(&self) -> Option<&Order>
         ensures { IfSome result (λ order. IsLeastReadyOrder self.now order.now.list) }
     {

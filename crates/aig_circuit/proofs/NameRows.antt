@@ -1,4 +1,4 @@
--- Rows of symbols, whose lines stand one behind the other: what bytes behind them change, and one row more.
+-- Rows of symbols, whose lines stand one after the other: what bytes after them change, and one row more.
 use Rattle.std.proofs.Common.{◌≡◌, ◌≤◌, ◌-◌, ◌∷◌, ◌++◌, ◌∙◌, ◌+◌, ℕ, List, [], length, drop, take, ap, ap₂, refl, arith}
 use Rattle.std.proofs.Common.{append_assoc, append-nil, decimal, sym, flat_map, slice_range, length-drop, length-append}
 use Rattle.std.proofs.Common.{drop_at, take_all}
@@ -13,7 +13,7 @@ use Rattle.aig_circuit.specs.Symbols.{symbol_in, symbols_in, IsWithin, AreWithin
 abbrev pub symbol_of : Kind → ℕ → List ℕ → Symbol
 symbol_of kind position name = record { kind = kind; position = position; name = name }
 
--- bytes behind a name do not change it
+-- bytes after a name do not change it
 same_name : (bytes more : List ℕ) (start end : ℕ) → start ≤ end → end ≤ length bytes
     → slice_range (bytes ++ more) start end ≡ slice_range bytes start end
 same_name bytes more start end rising within =
@@ -64,7 +64,7 @@ name_between before name behind start end begins ends =
     ∙ take-append-le (length name) name behind (omega arith)
     ∙ take_all (length name) name (omega arith)
 
--- one row more, of a line that is put behind the bytes
+-- one row more, of a line that is put after the bytes
 module _ (s : Symbol) (bytes line : List ℕ) (rows : List StoredSymbol) (are : AreLines bytes rows)
     (is : line ≡ symbol_text s) (all : ℕ) (all_is : all ≡ length (bytes ++ line)) where
   abbrev end : ℕ

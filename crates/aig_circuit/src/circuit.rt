@@ -74,7 +74,7 @@ pub struct Symbol {
 }
 
 /// The justice properties (AIGER 1.9): each is a list of literals. The literals of all properties
-/// stand in one list, one property behind the other, and the sizes tell where each ends.
+/// stand in one list, one property after the other, and the sizes tell where each ends.
 #[derive(Clone, PartialEq, Drop)]
 pub struct Justice {
     /// How many literals each property has.

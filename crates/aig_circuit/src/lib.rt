@@ -16,6 +16,7 @@ pub mod laws;
 mod listing;
 mod literal;
 mod out_of_memory;
+mod stops;
 mod symbols;
 mod value;
 

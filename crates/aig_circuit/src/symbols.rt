@@ -1,6 +1,6 @@
 //! The symbols of a circuit. They are kept as the text that a file has of them: their lines stand
-//! in one list of bytes, one behind the other, so no name has memory of its own, and all are
-//! written at once.
+//! in one list of bytes, one after the other, so no name has memory of its own, and all are written
+//! at once.
 ghost use Rattle.std.specs.Prelude.{◌≡◌, [], ◌∷◌, ◌++◌, length, All, Contains};
 ghost use Rattle.std.specs.Prelude.{IfNone, IfOk, IfSome, OnOk, OnErr};
 ghost use Rattle.std.specs.List.{flat_map};
@@ -31,7 +31,7 @@ struct StoredSymbol {
 /// Symbols, in the order of a file: to a contract the list of them, wherever their lines stand.
 #[derive(Drop)]
 pub struct Symbols {
-    /// The lines in canonical spelling, one behind the other.
+    /// The lines in canonical spelling, one after the other.
     bytes: Vec<u8>,
     rows: Vec<StoredSymbol>,
 }

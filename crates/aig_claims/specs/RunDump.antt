@@ -10,14 +10,14 @@ use Rattle.aig_circuit.specs.declared.value.Val.{Val}
 use Rattle.aig_circuit.specs.declared.value.Val.TheVariants.{Zero, One, X}
 use Rattle.aig_meaning.specs.Meaning.{Row}
 use Rattle.aig_meaning.specs.Trace.{IsTrace}
-use Rattle.aig_step.specs.declared.fault.SimFault.{SimFault}
-use Rattle.aig_step.specs.declared.fault.SimFault.TheVariants as sim_faults
+use Rattle.aig_fault.specs.declared.stopped.Stopped.{Stopped}
+use Rattle.aig_fault.specs.declared.stopped.Stopped.TheVariants as stops
 use Rattle.aig_step.specs.declared.trace.Columns.TheVariants.{Properties}
 use Rattle.aig_step.specs.TraceText.{run_text}
 use Rattle.aig_wave.specs.Wave.{wave_text}
 use Rattle.aig_witness.specs.declared.verdict.Verdict.{Verdict}
 use Rattle.aig_witness.specs.declared.verdict.Verdict.TheVariants.{Confirmed, NotConfirmed}
-use Rattle.aig_witness.specs.Confirming.{Judged}
+use Rattle.aig_witness.specs.Confirming.{Judged, bad_witness}
 use Rattle.aig_witness.specs.Witness.{Claim, first_bad_witness_line}
 
 -- the reset of a latch that starts at this value
@@ -59,12 +59,12 @@ pub record JudgedWith (c : Circuit) (verdict : Verdict) (bytes text : List ℕ) 
   pub judged : Judged c verdict bytes
   pub is_dump : IsWitnessDump c judged.claim verdict text
 
--- Why there is no dump: memory was refused, while bytes came or behind their end; the source failed; or all came, and
+-- Why there is no dump: memory was refused, while bytes came or after their end; the source failed; or all came, and
 -- the line of this number is the first wrong one.
-abbrev pub HasNoDump : Circuit → SimFault → List ℕ → Ending → Type 0
-HasNoDump c sim_faults.OutOfMemory bytes ending = IsUnbroken ending
-HasNoDump c (sim_faults.BadStimulus number) bytes ending = ⊥
-HasNoDump c (sim_faults.BadWitness number) bytes ending =
-    (ending ≡ AtEnd) × (first_bad_witness_line c bytes true ≡ Some number)
-HasNoDump c sim_faults.ReadFailed bytes ending = ending ≡ Broken
-HasNoDump c sim_faults.WriteFailed bytes ending = ⊥
+abbrev pub HasNoDump : Circuit → Stopped → List ℕ → Ending → Type 0
+HasNoDump c stops.OutOfMemory bytes ending = IsUnbroken ending
+HasNoDump c (stops.Refused fault) bytes ending =
+    (number : ℕ) × (fault ≡ bad_witness number) × (ending ≡ AtEnd)
+    × (first_bad_witness_line c bytes true ≡ Some number)
+HasNoDump c stops.ReadFailed bytes ending = ending ≡ Broken
+HasNoDump c stops.WriteFailed bytes ending = ⊥

@@ -10,7 +10,7 @@ use Rattle.aig_rows.proofs.Canonical.{AreDigits, decimal_is_number}
 use Rattle.aig_cnf.specs.ClauseText.{clause_text, clauses_header, literal_text, literals_text, sign_text}
 use Rattle.aig_cnf.specs.Laws.{AreSmall, CnfTextsAreRead}
 
--- digits, and the byte behind them, which is none
+-- digits, and the byte after them, which is none
 record AreSplit (digits others : List ℕ) (stop stop_too : ℕ) (rest rest_too : List ℕ) : Type 0 where
   pub digits_are : digits ≡ others
   pub stops_are : stop ≡ stop_too
@@ -48,7 +48,7 @@ split (d ∷ ds) (e ∷ es) stop stop_too rest rest_too are are_too ends ends_to
       rests_are = later.rests_are;
     }
 
--- two numbers, with what is behind them
+-- two numbers, with what is after them
 record AreRead (m n stop stop_too : ℕ) (rest rest_too : List ℕ) : Type 0 where
   pub numbers_are : m ≡ n
   pub stops_are : stop ≡ stop_too
@@ -127,7 +127,7 @@ literals_read l m rest rest_too small small_too is =
     literal_case (l % 2 == 0) (m % 2 == 0) l m rest rest_too refl refl small small_too
     (sym (literal_parts l rest) ∙ is ∙ literal_parts m rest_too)
 
--- the end of a clause is no literal: behind its 0 comes a line feed
+-- the end of a clause is no literal: after its 0 comes a line feed
 end_case : (even : Bool) (l : ℕ) (rest rest_too : List ℕ) → l < 2 ^ 64
     → (if even then [] else codes "-") ++ (decimal (l / 2 + 1) ++ 32 ∷ rest) ≢ codes "0\n" ++ rest_too
 end_case false l rest rest_too small = λ is.
@@ -173,7 +173,7 @@ clause_read (x ∷ xs) (y ∷ ys) rest rest_too small small_too is =
       rests_are = later.rests_are;
     }
 
--- a clause, and those behind it
+-- a clause, and those after it
 clause_parts : (clause : List ℕ) (clauses : List (List ℕ))
     → flat_map clause_text (clause ∷ clauses) ≡ literals_text clause ++ (codes "0\n" ++ flat_map clause_text clauses)
 clause_parts clause clauses = append_assoc (literals_text clause) (codes "0\n") (flat_map clause_text clauses)

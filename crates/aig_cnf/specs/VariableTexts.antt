@@ -3,7 +3,7 @@ use Rattle.std.specs.Prelude.{◌≡◌, ◌+◌, ◌-◌, ◌*◌, ◌++◌, �
 use Rattle.aig_cnf.specs.declared.variable_text.VariableText.{VariableText}
 use Rattle.aig_cnf.specs.declared.variable_text.TheConstants.{END, LITERAL_SIZE}
 
--- what is behind its digits
+-- what is after its digits
 abbrev pub spaces : List ℕ
 spaces = replicate (2 * LITERAL_SIZE - END) 32
 

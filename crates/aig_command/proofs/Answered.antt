@@ -13,7 +13,8 @@ use Rattle.clap.proofs.OnLiterals.{clap_on_literals}
 use Rattle.clap.proofs.WalkLemmas.{list_any-map}
 use Rattle.aig_command.specs.Aiger.{aiger}
 use Rattle.aig_command.specs.Asked.{Asked, AsksWithinLimits, asked_by, command_of, faults}
-use Rattle.aig_command.specs.Answer.{IsAnswer, IsCommand, IsErrorAnswer, IsUsage, IsWrong, asks_for, is_option, no_names}
+use Rattle.aig_command.specs.Answer.{IsAnswer, IsCommand, IsErrorAnswer, IsUsage, IsWrong, asks_for, is_option}
+use Rattle.aig_command.specs.Answer.{no_names}
 use Rattle.aig_command.specs.Answer.{texts}
 use Rattle.aig_command.specs.declared.request.Command.{Command}
 use Rattle.aig_command.specs.declared.request.Command.TheVariants as commands
@@ -96,7 +97,7 @@ module _ (words : List Text) (kind : ErrorKind) (passes : takes aiger words ≡ 
   refused_command (Ok (commands.Help text)) h =
       (subst (IsWrong words) h.0 (is_wrong (λ memory. cc (h.0))), h.1, h.2, refl)
   refused_command (Ok (commands.Version text)) h =
-      (subst (IsWrong words) h.0 (is_wrong (λ memory. cc (h.0))), h.1, h.2, refl)
+      (subst (IsWrong words) h.0 (is_wrong (λ memory. cc (h.0))), h.1, h.2, h.3, refl)
   refused_command (Ok command) h = absurd h
   refused_command (Err reason) h = tt
 

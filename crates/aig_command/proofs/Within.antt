@@ -281,7 +281,7 @@ subcommands_are_bounded = (
         search rules,
         λ rows h. aigunroll_is_in rows (frames_are_in _ _ refl refl rows h) (limit_is_in _ _ refl refl rows h),
       ),
-      tt,
+      ((search rules, λ rows h. tt), tt),
     ),
   ),
 )

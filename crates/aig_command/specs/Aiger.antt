@@ -78,14 +78,15 @@ aigunroll = with_rules (new_app (codes "aigunroll"))
     ∷ solver_file (codes "refutation") ∷ solver_file (codes "invariant") ∷ bad ∷ flag (codes "sync")
     ∷ max_var ∷ new_rule (codes "source") ∷ new_rule (codes "destination") ∷ [])
 
--- a command that has to be given a subcommand, has none for help, and has a version, as its subcommands have
+-- a command that has to be given a subcommand, answers with help where nothing is given, and has a version, as its
+-- subcommands have; `clap` adds the subcommand `help`
 abbrev pub above : App → App
 above a = record a {
   top = record a.top {
     has_version = true;
     propagate_version = true;
     subcommand_required = true;
-    disable_help_subcommand = true;
+    arg_required_else_help = true;
   };
 }
 

@@ -1,5 +1,5 @@
 -- What is answered to a command line (this project's profile).
-use Rattle.std.specs.Prelude.{◌≡◌, ◌≢◌, ◌<◌, ◌≤◌, ◌||◌, List, Bool, true, false, drop, map, nat_eq, Option, Some, None}
+use Rattle.std.specs.Prelude.{◌≡◌, ◌≢◌, ◌<◌, ◌≤◌, ◌||◌, List, ◌∷◌, ◌++◌, Bool, true, false, drop, map, nat_eq, Option, Some, None}
 use Rattle.std.specs.Prelude.{Result, Ok, Err, codes, option_map, String, string_bytes, string_len, ⊤}
 use Rattle.std.specs.Global.{Global}
 use Rattle.std.specs.List.{list_any, starts_with}
@@ -9,6 +9,7 @@ use Rattle.clap.specs.declared.error.kind.ErrorKind.{ErrorKind}
 use Rattle.clap.specs.declared.error.kind.ErrorKind.TheVariants.{DisplayHelp, DisplayVersion, OutOfMemory}
 use Rattle.aig_command.specs.Aiger.{aiger, most_frames}
 use Rattle.aig_command.specs.Asked.{Asked, Files, asks, command_of, faults, refused}
+use Rattle.aig_command.specs.declared.builder.TheConstants.{VERSION}
 use Rattle.aig_command.specs.declared.request.Invariant.{Invariant}
 use Rattle.aig_command.specs.declared.request.Names.{Names}
 use Rattle.aig_command.specs.declared.request.Reach.{Reach}
@@ -49,11 +50,20 @@ is_option long short word = bytes_eq word long || starts_with nat_eq word short
 abbrev pub asks_for : Text → Text → List Text → Bool
 asks_for long short words = list_any (is_option long short) (drop 1 words)
 
+-- the first argument after the program's name is `help`
+abbrev pub begins_with_help : List Text → Bool
+begins_with_help (name ∷ word ∷ more) = bytes_eq word (codes "help")
+begins_with_help words = false
+
 abbrev pub asks_for_help : List Text → Bool
-asks_for_help = asks_for (codes "--help") (codes "-h")
+asks_for_help words = asks_for (codes "--help") (codes "-h") words || begins_with_help words
 
 abbrev pub asks_for_version : List Text → Bool
 asks_for_version = asks_for (codes "--version") (codes "-V")
+
+-- what the program says of its version
+abbrev pub version_text : Text
+version_text = codes "aiger " ++ VERSION.now ++ codes "\n"
 
 -- `clap` does not take the arguments, and this is what it finds wrong with them
 abbrev pub IsWrong : List Text → ErrorKind → Type 0
@@ -65,7 +75,8 @@ abbrev pub IsCommand : List Text → Names → Command → Type 0
 IsCommand words names (commands.Help text) =
     IsWrong words DisplayHelp × (asks_for_help words ≡ true) × (0 < string_len text) × (names ≡ no_names)
 IsCommand words names (commands.Version text) =
-    IsWrong words DisplayVersion × (asks_for_version words ≡ true) × (0 < string_len text) × (names ≡ no_names)
+    IsWrong words DisplayVersion × (asks_for_version words ≡ true) × (0 < string_len text)
+    × (string_bytes text ≡ version_text) × (names ≡ no_names)
 IsCommand words names command = command_of words ≡ Some (asks (files_of names) command)
 
 -- the arguments are refused for this reason, which has words
@@ -135,6 +146,7 @@ IsErrorAnswer kind words (Ok (commands.Help text)) =
     (kind ≡ DisplayHelp) × (asks_for_help words ≡ true) × (0 < string_len text)
 IsErrorAnswer kind words (Ok (commands.Version text)) =
     (kind ≡ DisplayVersion) × (asks_for_version words ≡ true) × (0 < string_len text)
+    × (string_bytes text ≡ version_text)
 IsErrorAnswer kind words (Err usage.OutOfMemory) = ⊤
 IsErrorAnswer kind words (Err (usage.Words text)) =
     (kind ≢ OutOfMemory) × (kind ≡ DisplayHelp → asks_for_help words ≡ false)

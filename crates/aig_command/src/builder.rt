@@ -10,12 +10,12 @@ use std::alloc::{AllocError, Global};
 
 /// The program's version, the one place in the sources that has it. By its contract the library's
 /// number is the same.
-pub const VERSION: &str = "1.1.0";
+pub const VERSION: &str = "1.2.0";
 
 const ABOUT: &str = "Tools for circuits in the AIGER format";
 
 const AFTER: &str = "\
-What each command does, and examples: aiger COMMAND --help, and man aiger";
+What each command does, and examples: aiger help COMMAND, and man aiger";
 
 const TO_AIG_ABOUT: &str = "Convert an AIGER file to binary or to ASCII";
 
@@ -75,7 +75,7 @@ place of the trace, for a wave viewer. It has all that --properties shows, by
 the names of the symbols, and each line of the trace takes 1 ns. At the end of
 a run the latches show the state that was reached, and all else is z. The
 variable run, of code r, is the number of the run, counted from 0. With
---witness it is the run of the witness from its first state, behind a comment
+--witness it is the run of the witness from its first state, after a comment
 with the answer, and all of it is held in memory.
 
 Exit status:
@@ -95,7 +95,11 @@ Examples, of a model with two inputs, a bad state and no latches:
   aiger aigsim --witness --vcd model.aag witness.txt > w.vcd   its run as waves
   aiger aigsim - steps.txt < model.aag             the model from a stream";
 
-const UNROLL_ABOUT: &str = "Unroll a circuit over time frames, as one circuit without latches";
+const UNROLL_ABOUT: &str = "Unroll a circuit, write clauses, check refutations and invariants";
+
+const UNROLL_USAGE: &str = "\
+aiger aigunroll --frames <K> [OPTIONS] [source] [destination]
+       aiger aigunroll --invariant <FILE> [OPTIONS] [source] [destination]";
 
 const UNROLL_AFTER: &str = "\
 The inputs written are one for the first value of each latch without an initial
@@ -182,7 +186,7 @@ Read the whole stimulus first, and write nothing if a line
 of it is refused";
 
 const PROPERTIES_HELP: &str = "\
-Show bad states and constraints too, behind the rest of
+Show bad states and constraints too, after the rest of
 each line";
 
 const WITNESS_HELP: &str = "\
@@ -229,6 +233,18 @@ fn command<'a>(alloc: Global, name: &'a str, about: &'a str, after: &'a str) -> 
     ensures { HasApp (new_app name.now) result }
 {
     Command::new(alloc, name).about(about).after_help(after)
+}
+
+fn command_with_usage<'a>(
+    alloc: Global,
+    name: &'a str,
+    usage: &'a str,
+    about: &'a str,
+    after: &'a str,
+) -> Command<'a>
+    ensures { HasApp (new_app name.now) result }
+{
+    command(alloc, name, about, after).override_usage(usage)
 }
 
 fn flag<'a>(alloc: Global, name: &'a str, help: &'a str) -> Arg<'a>
@@ -349,7 +365,13 @@ fn aigsim<'a>(alloc: Global) -> Result<Command<'a>, AllocError>
 fn aigunroll<'a>(alloc: Global) -> Result<Command<'a>, AllocError>
     ensures { IfOk result (HasApp aigunroll) }
 {
-    let command = Ok(command(alloc, "aigunroll", UNROLL_ABOUT, UNROLL_AFTER));
+    let command = Ok(command_with_usage(
+        alloc,
+        "aigunroll",
+        UNROLL_USAGE,
+        UNROLL_ABOUT,
+        UNROLL_AFTER,
+    ));
     let command = with_argument(command, frames(alloc));
     let command = with_argument(command, flag(alloc, "ascii", ASCII_HELP));
     let command = with_argument(command, flag(alloc, "cnf", CNF_HELP));
@@ -371,7 +393,7 @@ fn program<'a>(alloc: Global) -> Result<Command<'a>, AllocError>
         .version(VERSION)
         .propagate_version(true)
         .subcommand_required(true)
-        .disable_help_subcommand(true);
+        .arg_required_else_help(true);
     command.bin_name("aiger")
 }
 

@@ -8,6 +8,7 @@
 
 mod builder;
 mod destination;
+mod hints;
 pub mod laws;
 mod options;
 mod proving;

@@ -6,11 +6,13 @@ ghost use Rattle.std.specs.Option.{option_map_or};
 ghost use Rattle.clap.specs.Words.{FailsBy, HasMatchesOf, kind_of, subcommand_rows_of, takes};
 ghost use Rattle.clap.specs.declared.error.kind.ErrorKind.TheVariants.{OutOfMemory};
 ghost use Rattle.aig_command.specs.Aiger.{aiger};
-ghost use Rattle.aig_command.specs.Answer.{asks_for, CanDo, is_option, texts};
+ghost use Rattle.aig_command.specs.Answer.{asks_for, asks_for_help, begins_with_help, CanDo};
+ghost use Rattle.aig_command.specs.Answer.{is_option, texts, version_text};
 ghost use Rattle.aig_command.specs.Answer.{IsAnswer, IsCommand, IsErrorAnswer, IsUsage, no_names};
 ghost use Rattle.aig_command.specs.Asked.{asked_by, asks_sync, AsksWithinLimits, faults, is_set};
 
-use crate::builder::aiger;
+use crate::builder::{VERSION, aiger};
+use crate::hints::with_hint;
 use crate::options::is_set;
 use crate::request::{Command, CommandLine, Names};
 use crate::sim::aigsim;
@@ -88,16 +90,41 @@ fn asks_for(words: &[String], long: &str, short: &str) -> bool
     }
 }
 
-/// The text that `clap` has for the user. That there is one is not in its contracts, so an empty
-/// one has other words.
-fn clap_text(alloc: Global, error: &Error) -> Result<String, AllocError>
+/// Whether the first argument after the program's name asks for help, of a command that may follow.
+fn begins_with_help(words: &[String]) -> bool
+    ensures { result ≡ begins_with_help (texts words.now) }
+{
+    match words {
+        [_, word, ..] => word.as_str() == "help",
+        _ => false,
+    }
+}
+
+fn asks_for_help(words: &[String]) -> bool
+    ensures { result ≡ asks_for_help (texts words.now) }
+{
+    asks_for(words, "--help", "-h") || begins_with_help(words)
+}
+
+/// The text that `clap` has for the user, with a hint where there is one. That `clap` has a text is
+/// not in its contracts, so an empty one has other words.
+fn clap_text(alloc: Global, words: &[String], error: &Error) -> Result<String, AllocError>
     ensures { IfOk result (λ text. 0 < string_len text) }
 {
     let text = format!(in alloc; "{error}")?;
+    let text = with_hint(alloc, words, text.as_str())?;
     if text.is_empty() {
         return String::from_str(alloc, "error: no such command\n");
     }
     Ok(text)
+}
+
+/// The program and its version, also after a command.
+fn version_text(alloc: Global) -> Result<String, AllocError>
+    ensures some { IfOk result (λ text. 0 < string_len text) }
+    ensures is { IfOk result (λ text. string_bytes text ≡ version_text) }
+{
+    format!(in alloc; "aiger {VERSION}\n")
 }
 
 /// The answer to arguments that `clap` does not take.
@@ -108,13 +135,13 @@ fn error_answer(alloc: Global, words: &[String], error: &Error) -> Result<Comman
     match error.kind() {
         ErrorKind::OutOfMemory => Err(Usage::OutOfMemory),
         // No contract of `clap` says that only such an argument makes it answer with help.
-        ErrorKind::DisplayHelp if asks_for(words, "--help", "-h") => {
-            Ok(Command::Help(clap_text(alloc, error)?))
+        ErrorKind::DisplayHelp if asks_for_help(words) => {
+            Ok(Command::Help(clap_text(alloc, words, error)?))
         }
         ErrorKind::DisplayVersion if asks_for(words, "--version", "-V") => {
-            Ok(Command::Version(clap_text(alloc, error)?))
+            Ok(Command::Version(version_text(alloc)?))
         }
-        _ => Err(Usage::Words(clap_text(alloc, error)?)),
+        _ => Err(Usage::Words(clap_text(alloc, words, error)?)),
     }
 }
 

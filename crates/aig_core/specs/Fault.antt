@@ -5,8 +5,11 @@ use Rattle.std.specs.Option.{option_map, option_or}
 use Rattle.std.specs.Ordering.{nat_cmp}
 use Rattle.std.specs.FinSet as set
 use Rattle.aig_circuit.specs.declared.circuit.Circuit.{Circuit}
-use Rattle.aig_core.specs.declared.fault.CheckFault.{CheckFault}
-use Rattle.aig_core.specs.declared.fault.CheckFault.TheVariants.{Redefined, Undefined, Cyclic, OutOfMemory}
+use Rattle.aig_fault.specs.Stopping.{refusal}
+use Rattle.aig_fault.specs.declared.fault.Place.TheVariants.{Whole}
+use Rattle.aig_fault.specs.declared.kind.Kind.TheVariants.{Redefined, Undefined, Cyclic}
+use Rattle.aig_fault.specs.declared.stopped.Stopped.{Stopped}
+use Rattle.aig_fault.specs.declared.stopped.Stopped.TheVariants.{OutOfMemory}
 use Rattle.aig_circuit.specs.Literal.{variable_of}
 use Rattle.aig_circuit.specs.Wellformed.{defined_variables, used_literals}
 use Rattle.aig_topo.specs.Order.{first_cyclic}
@@ -30,21 +33,32 @@ abbrev pub first_unknown : set.FinSet nat_cmp → List ℕ → Option ℕ
 first_unknown variables [] = None
 first_unknown variables (x ∷ xs) = if is_known variables x then first_unknown variables xs else Some x
 
+-- a variable that is defined twice, a literal that is used and not defined, and a gate that depends on a cycle, by its
+-- literal
+abbrev pub redefined : ℕ → Stopped
+redefined variable = refusal Redefined Whole variable
+
+abbrev pub undefined : ℕ → Stopped
+undefined literal = refusal Undefined Whole literal
+
+abbrev pub cyclic : ℕ → Stopped
+cyclic literal = refusal Cyclic Whole literal
+
 -- the first redefinition, where these variables were defined before
-abbrev pub first_redefinition : set.FinSet nat_cmp → List ℕ → Option CheckFault
-first_redefinition seen variables = option_map Redefined (first_repeat seen variables)
+abbrev pub first_redefinition : set.FinSet nat_cmp → List ℕ → Option Stopped
+first_redefinition seen variables = option_map redefined (first_repeat seen variables)
 
 -- the first undefined literal, where these variables are defined
-abbrev pub first_undefined : set.FinSet nat_cmp → List ℕ → Option CheckFault
-first_undefined variables literals = option_map Undefined (first_unknown variables literals)
+abbrev pub first_undefined : set.FinSet nat_cmp → List ℕ → Option Stopped
+first_undefined variables literals = option_map undefined (first_unknown variables literals)
 
 -- the first redefinition, or else the first undefined literal, or else the first gate that depends on a cycle
-abbrev pub first_structural_fault : Circuit → Option CheckFault
+abbrev pub first_structural_fault : Circuit → Option Stopped
 first_structural_fault c =
     option_or (first_redefinition set.empty (defined_variables c))
     (option_or (first_undefined (with_all set.empty (defined_variables c)) (used_literals c))
-    (option_map Cyclic (first_cyclic c.gates)))
+    (option_map cyclic (first_cyclic c.gates)))
 
 -- a fault that is reported is this one, unless memory was refused
-abbrev pub IsFault : CheckFault → Option CheckFault → Type 0
+abbrev pub IsFault : Stopped → Option Stopped → Type 0
 IsFault reported first = (reported ≡ OutOfMemory) ⊎ (first ≡ Some reported)

@@ -4,7 +4,6 @@ use Rattle.std.specs.List.{AllByRecursion, slice_get, sum}
 use Rattle.std.specs.FinSet as set
 use Rattle.aig_circuit.specs.declared.circuit.Circuit.{Circuit}
 use Rattle.aig_circuit.specs.declared.circuit.Gate.{Gate}
-use Rattle.aig_core.specs.declared.fault.CheckFault.TheVariants.{Redefined, Undefined, Cyclic}
 use Rattle.aig_circuit.specs.Literal.{literal_of}
 use Rattle.aig_circuit.specs.Wellformed.{IsWellFormed, IsAmong, AreDistinct, IsKnown, HasRank}
 use Rattle.aig_circuit.specs.Wellformed.{defined_variables, used_literals}
@@ -12,6 +11,7 @@ use Rattle.aig_circuit.specs.declared.circuit.Justice.{Justice}
 use Rattle.aig_circuit.specs.Justice.{end_to_end, properties_of}
 use Rattle.aig_circuit.specs.Form.{IsInForm}
 use Rattle.aig_core.specs.Fault.{first_structural_fault, first_repeat, first_unknown, with_all}
+use Rattle.aig_core.specs.Fault.{redefined, undefined, cyclic}
 use Rattle.aig_topo.specs.Order.{IsLeastReadyOrder, ends_within}
 
 -- a circuit in form is well formed exactly where it has no fault
@@ -102,20 +102,20 @@ IsFullyDefined c = AreDistinct (defined_variables c) × AllByRecursion (IsKnown 
 
 -- the first fault is a redefinition exactly where a variable is defined twice, and then it is of the first such one
 abbrev pub RedefinedExactly : Type 0
-RedefinedExactly = (c : Circuit) (v : ℕ) → (first_structural_fault c ≡ Some (Redefined v))
+RedefinedExactly = (c : Circuit) (v : ℕ) → (first_structural_fault c ≡ Some (redefined v))
     ↔ IsFirstRepeat (defined_variables c) v
 
 -- it is an undefined literal exactly where none is defined twice and a literal is unknown, and then the first such one
 abbrev pub UndefinedExactly : Type 0
-UndefinedExactly = (c : Circuit) (literal : ℕ) → (first_structural_fault c ≡ Some (Undefined literal))
+UndefinedExactly = (c : Circuit) (literal : ℕ) → (first_structural_fault c ≡ Some (undefined literal))
     ↔ (AreDistinct (defined_variables c) × IsFirstUnknown (defined_variables c) (used_literals c) literal)
 
 -- it is a cycle exactly where neither is so and the order leaves out a gate, and then the first such one is reported
 abbrev pub CyclicExactly : Type 0
 CyclicExactly = (c : Circuit) (order : List ℕ) (literal : ℕ) → IsLeastReadyOrder c order
-    → (first_structural_fault c ≡ Some (Cyclic literal)) ↔ (IsFullyDefined c × IsFirstLeftOut c.gates order literal)
+    → (first_structural_fault c ≡ Some (cyclic literal)) ↔ (IsFullyDefined c × IsFirstLeftOut c.gates order literal)
 
 -- it is a cycle, of whichever gate, exactly where neither is so and the gates have no rank
 abbrev pub CycleExactlyWhereNoRank : Type 0
 CycleExactlyWhereNoRank = (c : Circuit)
-    → ((literal : ℕ) × (first_structural_fault c ≡ Some (Cyclic literal))) ↔ (IsFullyDefined c × (¬ HasRank c.gates))
+    → ((literal : ℕ) × (first_structural_fault c ≡ Some (cyclic literal))) ↔ (IsFullyDefined c × (¬ HasRank c.gates))

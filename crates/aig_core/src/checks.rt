@@ -1,7 +1,7 @@
 //! The check of circuits.
 ghost use Rattle.std.specs.Prelude.{◌≡◌, ◌≢◌, ◌↔◌, ◌+◌, ◌*◌, ◌≤◌, IsTrue, IfOk, IfErr, OnOk};
 ghost use Rattle.std.specs.Prelude.{None, length};
-ghost use Rattle.aig_core.specs.declared.fault.CheckFault.TheVariants.{OutOfMemory as WantOfMemory};
+ghost use Rattle.aig_fault.specs.declared.stopped.Stopped.TheVariants.{OutOfMemory as WantOfMemory};
 ghost use Rattle.aig_circuit.specs.Wellformed.{AreDistinct, IsWellFormed, defined_variables};
 ghost use Rattle.aig_circuit.specs.Form.{IsInForm};
 ghost use Rattle.aig_core.specs.Fault.{first_structural_fault, IsFault};
@@ -9,33 +9,14 @@ ghost use Rattle.aig_core.specs.Steps.{steps_a_gate};
 
 use crate::checks::distinct::{is_defined_once_by_parts, is_spread};
 use crate::checks::faults::{find_fault, find_redefinition};
-use crate::fault::CheckFault;
 use aig_checked::Checked;
 use aig_circuit::{Circuit, OutOfMemory};
+use aig_fault::Stopped;
 use aig_topo::Steps;
 use std::alloc::Global;
 
 mod distinct;
 mod faults;
-
-/// Checks a circuit in form. The error has the circuit as it was, and its first fault or that
-/// memory ran out. No order of the gates is kept (`check_keeping`).
-pub fn check(
-    alloc: Global,
-    circuit: Circuit,
-    steps: &mut Steps,
-) -> Result<Checked, (Circuit, CheckFault)>
-    requires in_form { IsInForm circuit }
-    ensures ok { IfOk result (λ checked. checked ≡ circuit) }
-    ensures well_formed { OnOk result (IsWellFormed circuit) }
-    ensures ok_faultless { OnOk result (first_structural_fault circuit ≡ None) }
-    ensures handed_back { IfErr result (λ e. e.0 ≡ circuit) }
-    ensures fault { IfErr result (λ e. IsFault e.1 (first_structural_fault circuit)) }
-    ensures refused { IfErr result (λ e. e.1 ≢ WantOfMemory → ¬ IsWellFormed circuit) }
-    ensures few { steps.new.count ≤ steps.old.count + 2 * length circuit.gates }
-{
-    check_keeping(alloc, circuit, Keep::Circuit, steps)
-}
 
 /// What a check keeps.
 #[derive(Clone, Copy)]
@@ -47,13 +28,14 @@ pub enum Keep {
     Order,
 }
 
-/// Checks a circuit in form, as `check` does, and keeps what is wanted of it later.
-pub fn check_keeping(
+/// Checks a circuit in form, and keeps what is wanted of it later. The error has the circuit as it
+/// was, and its first fault or that memory ran out.
+pub fn check(
     alloc: Global,
     circuit: Circuit,
     keep: Keep,
     steps: &mut Steps,
-) -> Result<Checked, (Circuit, CheckFault)>
+) -> Result<Checked, (Circuit, Stopped)>
     requires in_form { IsInForm circuit }
     ensures ok { IfOk result (λ checked. checked ≡ circuit) }
     ensures well_formed { OnOk result (IsWellFormed circuit) }
@@ -78,7 +60,7 @@ pub fn is_defined_once(alloc: Global, circuit: &Circuit) -> Result<bool, OutOfMe
     }
     match find_redefinition(alloc, circuit) {
         Ok(()) => Ok(true),
-        Err(CheckFault::Redefined(_)) => Ok(false),
+        Err(Stopped::Refused(_)) => Ok(false),
         Err(_) => Err(OutOfMemory),
     }
 }

@@ -2,19 +2,17 @@
 //! the order of gates (`aig_topo`), circuits that are well formed (`aig_checked`) and the devices
 //! of `aig_io` are reached here too.
 //!
-//! Others call `check` and `check_keeping`, which make a `Checked` of a `Circuit` or report its
-//! first fault; and `Names`, what symbols named so far.
+//! Others call `check`, which makes a `Checked` of a `Circuit` or reports its first fault; and
+//! `Names`, what symbols named so far.
 //!
 //! The definition that matters most is `first_structural_fault`.
 #![tactic(auto)]
 
 mod checks;
-mod fault;
 pub mod laws;
 mod names;
 
-pub use crate::checks::{Keep, check, check_keeping, is_defined_once};
-pub use crate::fault::CheckFault;
+pub use crate::checks::{Keep, check, is_defined_once};
 pub use crate::names::{NamedCounts, Names};
 pub use aig_checked::{
     Checked, Ordered, copy_comment, copy_justice, copy_symbols, is_in_binary_order,

@@ -1,4 +1,4 @@
--- A bad line of what was read at first is a bad line of all of it, whatever comes behind.
+-- A bad line of what was read at first is a bad line of all of it, whatever comes after.
 use Rattle.std.proofs.Common.{◌≡◌, ◌∙◌, ◌++◌, ◌∷◌, ◌==◌, ◌||◌, ℕ, suc, List, [], Bool, true, false, filter, length}
 use Rattle.std.proofs.Common.{take, drop, Option, None, Some, Result, Ok, Err, refl, ap, sym, subst, take-append-drop}
 use Rattle.std.specs.List.{AllByRecursion}
@@ -13,7 +13,7 @@ use Rattle.aig_witness.specs.Witness.{Nothing, witness_of, wrong_line}
 abbrev All : Bool → List Line → Type 0
 All feed ls = AllByRecursion (λ (l : Line). l.ended ≡ feed) ls
 
--- the lines of a text, cut where the last line feed is, and those of the text with more behind it
+-- the lines of a text, cut where the last line feed is, and those of the text with more after it
 record Parted (xs ys : List ℕ) : Type 0 where
   whole : List Line
   begun : List Line

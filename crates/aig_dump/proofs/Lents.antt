@@ -1,12 +1,14 @@
 -- What a source over bytes in memory gave, once it was read.
-use Rattle.std.proofs.Common.{◌≡◌, ◌∙◌, ◌⊎◌, ◌+◌, ◌<◌, ℕ, List, Bool, false, OnOk, ap, IfErr, IfOk, Result}
-use Rattle.std.proofs.Common.{Ok, Err, inl, inr, refl, subst, arith, None, Some, length, take, true}
-use Rattle.aig_io.specs.Devices.{Origin, Past, unused}
+use Rattle.std.proofs.Common.{◌≡◌, ◌∙◌, ◌+◌, ◌<◌, ℕ, List, Bool, false, OnOk, ap, IfErr, IfOk, Result}
+use Rattle.std.proofs.Common.{Ok, Err, refl, subst, arith, None, Some, length, take, true}
+use Rattle.aig_io.specs.Devices.{History, Origin, unused}
 use Rattle.aig_io.specs.Lent.{HasGiven, lent}
-use Rattle.aig_io.specs.Runs.{All, AtEnd, Broken, Ending, IsUnbroken, Open, Ran, Read, Taking, came, is_at_end}
+use Rattle.aig_io.specs.Runs.{All, AtEnd, Broken, Delivery, Ending, IsUnbroken, Open, Read, Transferred, came}
+use Rattle.aig_io.specs.Runs.{is_at_end}
 use Rattle.aig_circuit.specs.declared.circuit.Circuit.{Circuit}
-use Rattle.aig_step.specs.declared.fault.SimFault.{SimFault}
-use Rattle.aig_step.specs.declared.fault.SimFault.TheVariants as sim_faults
+use Rattle.aig_fault.specs.declared.fault.Fault.{Fault}
+use Rattle.aig_fault.specs.declared.stopped.Stopped.{Stopped}
+use Rattle.aig_fault.specs.declared.stopped.Stopped.TheVariants as stops
 use Rattle.aig_step.specs.declared.trace.Columns.TheVariants.{Properties}
 use Rattle.aig_step.specs.Outcome.{IsTraceUpTo, first_bad_line}
 use Rattle.aig_wave.specs.Wave.{wave_text}
@@ -14,17 +16,17 @@ use Rattle.aig_witness.specs.declared.verdict.Verdict.{Verdict}
 use Rattle.aig_witness.specs.Confirming.{ConfirmSays}
 use Rattle.aig_witness.specs.Witness.{first_bad_witness_line}
 use Rattle.aig_dump.specs.Dumped.{DumpSays, TraceSaysAs}
-use Rattle.aig_dump.specs.InMemory.{IsBadStimulus, IsBadWitness, IsDumpFor, IsVerdictFor, WantsMemory}
+use Rattle.aig_dump.specs.InMemory.{IsBadStimulus, IsBadWitness, IsDumpFor, IsVerdictFor, StopsInMemory}
 use Rattle.aig_dump.proofs.Behind.{bad_line_stays, wrong_line_stays}
 
 -- a simulation that succeeded read all, found no bad line, and traced all
 all_traced : (batch : Bool) (c : Circuit) (done : Unit {0}) (bytes : List ℕ) (ending : Ending) (trace : List ℕ)
-    (taking : Taking) → TraceSaysAs batch c Properties (Ok done) bytes ending trace taking
-    → (ending ≡ AtEnd) × (taking ≡ All) × IsTraceUpTo c Properties bytes true None trace
-all_traced true c done bytes ending trace taking says = says
-all_traced false c done bytes ending trace taking says = says
+    (delivery : Delivery) → TraceSaysAs batch c Properties (Ok done) bytes ending trace delivery
+    → (ending ≡ AtEnd) × (delivery ≡ All) × IsTraceUpTo c Properties bytes true None trace
+all_traced true c done bytes ending trace delivery says = says
+all_traced false c done bytes ending trace delivery says = says
 
-module _ (input : List ℕ) (now : Past) (given : HasGiven now) where
+module _ (input : List ℕ) (now : History) (given : HasGiven now) where
   -- what was read to its end is all of the input, and else a beginning of it
   pub all_read : (bytes : List ℕ) → now ≡ came bytes AtEnd (unused (lent input)) → bytes ≡ input
   all_read bytes is =
@@ -57,53 +59,49 @@ module _ (input : List ℕ) (now : Past) (given : HasGiven now) where
       (subst (λ bs. first_bad_witness_line c bs false ≡ Some k) (part_read bytes is) first)
   wrong_line c bytes Broken k whole is first = absurd whole
 
-  pub dumped : (batch : Bool) (c : Circuit) (r : Result (Unit {0}) SimFault) (origin : Origin) (sink_now : Past)
-      → Ran (DumpSays batch c r) (unused (lent input)) now (unused origin) sink_now
+  pub dumped : (batch : Bool) (c : Circuit) (r : Result (Unit {0}) Stopped) (origin : Origin) (sink_now : History)
+      → Transferred (DumpSays batch c r) (unused (lent input)) now (unused origin) sink_now
       → OnOk r ((first_bad_line c input true ≡ None) × IsDumpFor c input sink_now.bytes)
   dumped batch c (Ok done) origin sink_now ran =
       let sent = ran.says in
       let d = sent.says.1 in
-      let says = all_traced batch c done ran.bytes ran.ending d.trace d.taking d.says in
+      let says = all_traced batch c done ran.bytes ran.ending d.trace d.delivery d.says in
       let read = all_read ran.bytes (rw says.0 at ran.came) in
-      let text : sink_now.bytes ≡ sent.text = ap (λ (p : Past). p.bytes) (rw sent.says.0 at sent.sent) in
+      let text : sink_now.bytes ≡ sent.text = ap (λ (p : History). p.bytes) (rw sent.says.0 at sent.sent) in
       let is : sent.text ≡ wave_text c d.trace true = rw says.1 at d.is_dump in
       subst (λ (bytes : List ℕ). (first_bad_line c bytes true ≡ None) × IsDumpFor c bytes sink_now.bytes) read
       (says.2.first, (d.trace, says.2.is_text, text ∙ is))
   dumped batch c (Err fault) origin sink_now ran = tt
 
-  bad_stimulus : (batch : Bool) (c : Circuit) (line : ℕ) (bytes : List ℕ) (ending : Ending) (trace : List ℕ)
-      (taking : Taking)
-      → TraceSaysAs batch c Properties (Err (sim_faults.BadStimulus line)) bytes ending trace taking
-      → now ≡ came bytes ending (unused (lent input)) → first_bad_line c input true ≡ Some line
-  bad_stimulus true c line bytes ending trace taking says is = bad_line c bytes ending line says.0.0 is says.0.1
-  bad_stimulus false c line bytes ending trace taking says is = bad_line c bytes ending line says.0 is says.2.first
+  bad_stimulus : (batch : Bool) (c : Circuit) (fault : Fault) (bytes : List ℕ) (ending : Ending) (trace : List ℕ)
+      (delivery : Delivery)
+      → TraceSaysAs batch c Properties (Err (stops.Refused fault)) bytes ending trace delivery
+      → now ≡ came bytes ending (unused (lent input)) → IsBadStimulus c input fault
+  bad_stimulus true c fault bytes ending trace delivery ((line, told, whole, first), none) is =
+      (line, told, bad_line c bytes ending line whole is first)
+  bad_stimulus false c fault bytes ending trace delivery (line, told, whole, all, traced) is =
+      (line, told, bad_line c bytes ending line whole is traced.first)
 
-  pub not_dumped : (batch : Bool) (c : Circuit) (r : Result (Unit {0}) SimFault) (sink sink_now : Past)
-      → Ran (DumpSays batch c r) (unused (lent input)) now sink sink_now
-      → IfErr r (λ fault. IsBadStimulus c input fault ⊎ WantsMemory fault)
+  pub not_dumped : (batch : Bool) (c : Circuit) (r : Result (Unit {0}) Stopped) (sink sink_now : History)
+      → Transferred (DumpSays batch c r) (unused (lent input)) now sink sink_now
+      → IfErr r (StopsInMemory (IsBadStimulus c input))
   not_dumped batch c (Ok done) sink sink_now ran = tt
-  not_dumped batch c (Err (sim_faults.BadStimulus line)) sink sink_now ran =
+  not_dumped batch c (Err (stops.Refused fault)) sink sink_now ran =
       let d = ran.says.says.1 in
-      inl (line, refl, bad_stimulus batch c line ran.bytes ran.ending d.trace d.taking d.says ran.came)
-  not_dumped true c (Err (sim_faults.BadWitness line)) sink sink_now ran = absurd ran.says.says.1.says.0
-  not_dumped false c (Err (sim_faults.BadWitness line)) sink sink_now ran = absurd ran.says.says.1.says
-  not_dumped batch c (Err sim_faults.OutOfMemory) sink sink_now ran = inr (inl refl)
-  not_dumped batch c (Err sim_faults.ReadFailed) sink sink_now ran = inr (inr (inl refl))
-  not_dumped batch c (Err sim_faults.WriteFailed) sink sink_now ran = inr (inr (inr refl))
+      bad_stimulus batch c fault ran.bytes ran.ending d.trace d.delivery d.says ran.came
+  not_dumped batch c (Err stopped) sink sink_now ran = tt
 
-  pub judged : (c : Circuit) (r : Result Verdict SimFault) → Read (ConfirmSays c r) (unused (lent input)) now
+  pub judged : (c : Circuit) (r : Result Verdict Stopped) → Read (ConfirmSays c r) (unused (lent input)) now
       → IfOk r (IsVerdictFor c input)
   judged c (Ok verdict) read =
       let bytes = all_read read.bytes (rw read.says.0 at read.came) in
       subst (λ bs. IsVerdictFor c bs verdict) bytes (read.says.1.claim, read.says.1.says, read.says.1.is_verdict)
   judged c (Err fault) read = tt
 
-  pub not_judged : (c : Circuit) (r : Result Verdict SimFault) → Read (ConfirmSays c r) (unused (lent input)) now
-      → IfErr r (λ fault. IsBadWitness c input fault ⊎ WantsMemory fault)
+  pub not_judged : (c : Circuit) (r : Result Verdict Stopped) → Read (ConfirmSays c r) (unused (lent input)) now
+      → IfErr r (StopsInMemory (IsBadWitness c input))
   not_judged c (Ok verdict) read = tt
-  not_judged c (Err (sim_faults.BadWitness line)) read =
-      inl (line, refl, wrong_line c read.bytes read.ending line read.says.0 read.came read.says.1)
-  not_judged c (Err (sim_faults.BadStimulus line)) read = absurd read.says
-  not_judged c (Err sim_faults.OutOfMemory) read = inr (inl refl)
-  not_judged c (Err sim_faults.ReadFailed) read = inr (inr (inl refl))
-  not_judged c (Err sim_faults.WriteFailed) read = absurd read.says
+  not_judged c (Err (stops.Refused fault)) read =
+      let (line, told, whole, first) = read.says in
+      (line, told, wrong_line c read.bytes read.ending line whole read.came first)
+  not_judged c (Err stopped) read = tt

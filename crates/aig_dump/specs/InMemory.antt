@@ -1,27 +1,27 @@
 -- What came of bytes that are all there: of a stimulus or of a witness file.
-use Rattle.std.specs.Prelude.{◌≡◌, ◌⊎◌, ℕ, List, true, Some}
+use Rattle.std.specs.Prelude.{◌≡◌, ℕ, List, true, Some, ⊤}
 use Rattle.aig_circuit.specs.declared.circuit.Circuit.{Circuit}
-use Rattle.aig_step.specs.declared.fault.SimFault.{SimFault}
-use Rattle.aig_step.specs.declared.fault.SimFault.TheVariants.{BadStimulus, BadWitness, OutOfMemory, ReadFailed}
-use Rattle.aig_step.specs.declared.fault.SimFault.TheVariants.{WriteFailed}
+use Rattle.aig_fault.specs.declared.fault.Fault.{Fault}
+use Rattle.aig_fault.specs.declared.stopped.Stopped.{Stopped}
+use Rattle.aig_fault.specs.declared.stopped.Stopped.TheVariants.{Refused}
 use Rattle.aig_step.specs.declared.trace.Columns.TheVariants.{Properties}
-use Rattle.aig_step.specs.Outcome.{first_bad_line}
+use Rattle.aig_step.specs.Outcome.{bad_stimulus, first_bad_line}
 use Rattle.aig_step.specs.TraceText.{IsTraceText}
 use Rattle.aig_wave.specs.Wave.{wave_text}
 use Rattle.aig_claims.specs.RunDump.{IsRunDump}
 use Rattle.aig_witness.specs.declared.verdict.Verdict.{Verdict}
-use Rattle.aig_witness.specs.Confirming.{Judged}
+use Rattle.aig_witness.specs.Confirming.{Judged, bad_witness}
 use Rattle.aig_witness.specs.Witness.{Claim, IsVerdict, SaysClaim, first_bad_witness_line}
 
 -- This line of the stimulus is the first bad one.
-abbrev pub IsBadStimulus : Circuit → (stimulus : List ℕ) → SimFault → Type 0
+abbrev pub IsBadStimulus : Circuit → (stimulus : List ℕ) → Fault → Type 0
 IsBadStimulus c stimulus fault =
-    (line : ℕ) × (fault ≡ BadStimulus line) × (first_bad_line c stimulus true ≡ Some line)
+    (line : ℕ) × (fault ≡ bad_stimulus line) × (first_bad_line c stimulus true ≡ Some line)
 
--- This line of the witness file is the first wrong one, or the one that is missing behind it.
-abbrev pub IsBadWitness : Circuit → (witness : List ℕ) → SimFault → Type 0
+-- This line of the witness file is the first wrong one, or the one that is missing after it.
+abbrev pub IsBadWitness : Circuit → (witness : List ℕ) → Fault → Type 0
 IsBadWitness c witness fault =
-    (line : ℕ) × (fault ≡ BadWitness line) × (first_bad_witness_line c witness true ≡ Some line)
+    (line : ℕ) × (fault ≡ bad_witness line) × (first_bad_witness_line c witness true ≡ Some line)
 
 -- these bytes are the dump of the trace of a whole stimulus
 abbrev pub IsDumpFor : Circuit → (stimulus bytes : List ℕ) → Type 0
@@ -36,6 +36,8 @@ IsVerdictFor c witness verdict = (claim : Claim) × SaysClaim c witness claim ×
 abbrev pub JudgedRun : Circuit → Verdict → (witness run : List ℕ) → Type 0
 JudgedRun c verdict witness run = (judged : Judged c verdict witness) × IsRunDump c judged.claim run
 
--- The fault blames no line. Then memory was refused, since no device in memory fails for another reason.
-abbrev pub WantsMemory : SimFault → Type 0
-WantsMemory fault = (fault ≡ OutOfMemory) ⊎ ((fault ≡ ReadFailed) ⊎ (fault ≡ WriteFailed))
+-- The input has a fault of which this holds; or memory was refused, since no device in memory fails for another
+-- reason.
+abbrev pub StopsInMemory : (Fault → Type 0) → Stopped → Type 0
+StopsInMemory Holds (Refused fault) = Holds fault
+StopsInMemory Holds stopped = ⊤

@@ -1,20 +1,19 @@
 //! Verdicts and dumps from bytes to bytes.
-ghost use Rattle.std.specs.Prelude.{◌≡◌, ◌⊎◌, IfErr, IfOk, None, true};
+ghost use Rattle.std.specs.Prelude.{◌≡◌, IfErr, IfOk, None, true};
 ghost use Rattle.aig_step.specs.Outcome.{first_bad_line};
 ghost use Rattle.aig_dump.specs.InMemory.{IsBadStimulus, IsBadWitness, IsDumpFor};
-ghost use Rattle.aig_dump.specs.InMemory.{IsVerdictFor, WantsMemory};
+ghost use Rattle.aig_dump.specs.InMemory.{IsVerdictFor, StopsInMemory};
 
 use crate::tracing::write_dump;
 use aig_core::{Checked, SliceSource, VecSink};
-use aig_step::SimFault;
+use aig_fault::Stopped;
 use aig_witness::{Verdict, confirm};
 use std::alloc::Global;
 
 /// The verdict on a witness file.
-pub fn verdict_on(alloc: Global, found: &Checked, witness: &[u8]) -> Result<Verdict, SimFault>
+pub fn verdict_on(alloc: Global, found: &Checked, witness: &[u8]) -> Result<Verdict, Stopped>
     ensures ok { IfOk result (IsVerdictFor found.now witness.now) }
-    ensures err { IfErr result (λ fault. IsBadWitness found.now witness.now fault
-        ⊎ WantsMemory fault) }
+    ensures err { IfErr result (StopsInMemory (IsBadWitness found.now witness.now)) }
 {
     let mut source = SliceSource::new(witness)?;
     let judged = confirm(alloc, found, &mut source);
@@ -29,11 +28,10 @@ pub(crate) fn dump_as(
     batch: bool,
     found: &Checked,
     stimulus: &[u8],
-) -> Result<Vec<u8>, SimFault>
+) -> Result<Vec<u8>, Stopped>
     ensures none_bad { IfOk result (λ _. first_bad_line found.now stimulus.now true ≡ None) }
     ensures text { IfOk result (λ text. IsDumpFor found.now stimulus.now text.items) }
-    ensures err { IfErr result (λ fault. IsBadStimulus found.now stimulus.now fault
-        ⊎ WantsMemory fault) }
+    ensures err { IfErr result (StopsInMemory (IsBadStimulus found.now stimulus.now)) }
 {
     let mut source = SliceSource::new(stimulus)?;
     let mut sink = VecSink::new(alloc);
@@ -44,11 +42,10 @@ pub(crate) fn dump_as(
 }
 
 /// The dump of the trace of a stimulus.
-pub fn dump(alloc: Global, found: &Checked, stimulus: &[u8]) -> Result<Vec<u8>, SimFault>
+pub fn dump(alloc: Global, found: &Checked, stimulus: &[u8]) -> Result<Vec<u8>, Stopped>
     ensures none_bad { IfOk result (λ _. first_bad_line found.now stimulus.now true ≡ None) }
     ensures text { IfOk result (λ text. IsDumpFor found.now stimulus.now text.items) }
-    ensures err { IfErr result (λ fault. IsBadStimulus found.now stimulus.now fault
-        ⊎ WantsMemory fault) }
+    ensures err { IfErr result (StopsInMemory (IsBadStimulus found.now stimulus.now)) }
 {
     dump_as(alloc, true, found, stimulus)
 }

@@ -1,19 +1,19 @@
 //! The dump of the run that a witness file claims.
-ghost use Rattle.std.specs.Prelude.{◌≡◌, ◌⊎◌, ◌∷◌, ℕ, IfErr, IfOk, List};
+ghost use Rattle.std.specs.Prelude.{◌≡◌, ◌∷◌, ℕ, IfErr, IfOk, List};
 ghost use Rattle.aig_circuit.specs.declared.circuit.Circuit.{Circuit};
+ghost use Rattle.aig_fault.specs.Stopping.{StopsFor};
 ghost use Rattle.aig_lines.specs.Lines.{Line as LineRecord, line as made_line, lines_of};
 ghost use Rattle.aig_rows.specs.Messages.{message_text};
 ghost use Rattle.aig_step.specs.Stimulus.{text_of};
-ghost use Rattle.aig_step.specs.declared.fault.SimFault.TheVariants as faults;
 ghost use Rattle.aig_witness.specs.Witness.{Claim, IsVerdict, SaysClaim};
 ghost use Rattle.aig_claims.specs.RunDump.{IsRunDump, comment_line};
-ghost use Rattle.aig_dump.specs.InMemory.{IsBadWitness, WantsMemory};
+ghost use Rattle.aig_dump.specs.InMemory.{IsBadWitness, StopsInMemory};
 
 use crate::in_memory::{dump_as, verdict_on};
 use aig_claims::started_by;
 use aig_core::{Checked, OutOfMemory};
+use aig_fault::Stopped;
 use aig_lines::{Line, split_line, without_return};
-use aig_step::SimFault;
 use aig_text::Message;
 use aig_witness::Verdict;
 use std::alloc::Global;
@@ -69,13 +69,13 @@ fn run_dump(alloc: Global, found: Checked, witness: &[u8]) -> Result<Vec<u8>, Ou
 }
 
 /// Why there is no dump, where there is no verdict: a wrong line, or else that memory was refused.
-fn reason_for_no_dump(fault: SimFault) -> SimFault
-    ensures { (c : Circuit) (witness : List ℕ) → IsBadWitness c witness fault ⊎ WantsMemory fault
-        → IsBadWitness c witness result ⊎ (result ≡ faults.OutOfMemory) }
+fn reason_for_no_dump(stopped: Stopped) -> Stopped
+    ensures { (c : Circuit) (witness : List ℕ) → StopsInMemory (IsBadWitness c witness) stopped
+        → StopsFor (IsBadWitness c witness) result }
 {
-    match fault {
-        SimFault::BadWitness(line) => SimFault::BadWitness(line),
-        _ => SimFault::OutOfMemory,
+    match stopped {
+        Stopped::Refused(fault) => Stopped::Refused(fault),
+        _ => Stopped::OutOfMemory,
     }
 }
 
@@ -85,17 +85,16 @@ pub fn judge_and_dump(
     alloc: Global,
     found: Checked,
     witness: &[u8],
-) -> Result<(Verdict, Vec<u8>), SimFault>
+) -> Result<(Verdict, Vec<u8>), Stopped>
     ensures ok { IfOk result (λ made. (claim : Claim) × SaysClaim found witness.now claim
         × IsVerdict found claim made.0 × IsRunDump found claim made.1.items) }
-    ensures err { IfErr result (λ fault. IsBadWitness found witness.now fault
-        ⊎ (fault ≡ faults.OutOfMemory)) }
+    ensures err { IfErr result (StopsFor (IsBadWitness found witness.now)) }
 {
     match verdict_on(alloc, &found, witness) {
         Ok(verdict) => Ok((verdict, run_dump(alloc, found, witness)?)),
-        Err(fault) => {
+        Err(stopped) => {
             drop(found); // for the proof
-            Err(reason_for_no_dump(fault))
+            Err(reason_for_no_dump(stopped))
         }
     }
 }

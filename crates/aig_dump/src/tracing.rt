@@ -1,13 +1,13 @@
 //! What a simulation writes: its trace, or the dump of that.
 ghost use Rattle.std.specs.Prelude.{◌≡◌, Err, if◌then◌else◌};
-ghost use Rattle.aig_io.specs.Devices.{CanFail};
-ghost use Rattle.aig_io.specs.Runs.{Ran};
-ghost use Rattle.aig_step.specs.declared.fault.SimFault.TheVariants.{WriteFailed};
+ghost use Rattle.aig_fault.specs.declared.stopped.Stopped.TheVariants.{WriteFailed};
+ghost use Rattle.aig_io.specs.Runs.{Transferred};
 ghost use Rattle.aig_dump.specs.Dumped.{DumpSays, TraceSaysAs};
 
 use aig_batch::simulate_batched;
 use aig_core::{Checked, Sink, Source};
-use aig_step::{Columns, SimFault};
+use aig_fault::Stopped;
+use aig_step::Columns;
 use aig_trace::simulate;
 use aig_wave::{WaveMemory, WaveSink};
 use std::alloc::Global;
@@ -21,13 +21,12 @@ pub fn write_trace<R: Source, W: Sink>(
     columns: Columns,
     stimulus: &mut R,
     output: &mut W,
-) -> Result<(), SimFault>
-    requires stimulus { CanFail (R.past stimulus.old) }
-    requires output { CanFail (W.past output.old) }
-    ensures stimulus { (R.past stimulus.new).origin ≡ (R.past stimulus.old).origin }
-    ensures output { (W.past output.new).origin ≡ (W.past output.old).origin }
-    ensures ran { Ran (TraceSaysAs batch found.now columns result)
-        (R.past stimulus.old) (R.past stimulus.new) (W.past output.old) (W.past output.new) }
+) -> Result<(), Stopped>
+    ensures stimulus { (R.history stimulus.new).origin ≡ (R.history stimulus.old).origin }
+    ensures output { (W.history output.new).origin ≡ (W.history output.old).origin }
+    ensures transferred { Transferred (TraceSaysAs batch found.now columns result)
+        (R.history stimulus.old) (R.history stimulus.new) (W.history output.old)
+        (W.history output.new) }
 {
     if batch {
         simulate_batched(alloc, found, columns, stimulus, output)
@@ -37,11 +36,11 @@ pub fn write_trace<R: Source, W: Sink>(
 }
 
 /// What came of a dump: an output that failed counts first.
-fn outcome_of_dump(ran: Result<(), SimFault>, output_failed: bool) -> Result<(), SimFault>
+fn outcome_of_dump(ran: Result<(), Stopped>, output_failed: bool) -> Result<(), Stopped>
     ensures { result ≡ (if output_failed then Err WriteFailed else ran) }
 {
     if output_failed {
-        return Err(SimFault::WriteFailed);
+        return Err(Stopped::WriteFailed);
     }
     ran
 }
@@ -54,15 +53,14 @@ pub fn write_dump<R: Source, W: Sink>(
     found: &Checked,
     stimulus: &mut R,
     output: &mut W,
-) -> Result<(), SimFault>
-    requires stimulus { CanFail (R.past stimulus.old) }
-    requires output { CanFail (W.past output.old) }
-    ensures stimulus { (R.past stimulus.new).origin ≡ (R.past stimulus.old).origin }
-    ensures ran { Ran (DumpSays batch found.now result)
-        (R.past stimulus.old) (R.past stimulus.new) (W.past output.old) (W.past output.new) }
+) -> Result<(), Stopped>
+    ensures stimulus { (R.history stimulus.new).origin ≡ (R.history stimulus.old).origin }
+    ensures transferred { Transferred (DumpSays batch found.now result)
+        (R.history stimulus.old) (R.history stimulus.new) (W.history output.old)
+        (W.history output.new) }
 {
     let Ok(room) = WaveMemory::new(alloc, found) else {
-        return Err(SimFault::OutOfMemory);
+        return Err(Stopped::OutOfMemory);
     };
     let mut wave = WaveSink::new(room, output);
     let ran = write_trace(

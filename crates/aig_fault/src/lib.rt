@@ -8,8 +8,10 @@
 mod fault;
 mod kind;
 mod message;
+mod stopped;
 mod words;
 
 pub use crate::fault::{Fault, Place};
 pub use crate::kind::{KINDS, Kind};
 pub use crate::message::Message;
+pub use crate::stopped::{Stopped, refused, refused_at, refused_whole};

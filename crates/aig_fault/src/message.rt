@@ -1,6 +1,6 @@
 //! What messages are made of.
 ghost use Rattle.std.specs.Prelude.{◌≡◌, ◌++◌, ◌+◌, ◌-◌, ◌^◌, ◌<◌, Some, decimal};
-ghost use Rattle.aig_io.specs.Output.{Put};
+ghost use Rattle.aig_io.specs.Output.{Appended};
 ghost use Rattle.aig_fault.specs.Words.{message_text, number_text};
 
 use aig_io::{Output, Sink};
@@ -46,7 +46,7 @@ impl Message {
 
     /// Puts the text.
     pub fn put<W: Sink>(&self, output: &mut Output<W>)
-        ensures { Put output.old output.new (message_text self.now) }
+        ensures { Appended output.old output.new (message_text self.now) }
     {
         output.put(self.before.as_bytes());
         put_any_number(output, self.number);
@@ -56,7 +56,7 @@ impl Message {
 
 /// A number, where there is one.
 fn put_any_number<W: Sink>(output: &mut Output<W>, number: Option<u64>)
-    ensures { Put output.old output.new (number_text number) }
+    ensures { Appended output.old output.new (number_text number) }
 {
     if let Some(number) = number {
         output.put_number(number);

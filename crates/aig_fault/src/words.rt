@@ -1,6 +1,6 @@
 //! The words of each fault.
 ghost use Rattle.std.specs.Prelude.{◌≡◌, ◌++◌};
-ghost use Rattle.aig_io.specs.Output.{Put};
+ghost use Rattle.aig_io.specs.Output.{Appended};
 ghost use Rattle.aig_fault.specs.Words.{fault_text, kind_text, message_text, place_text};
 
 use crate::fault::{Fault, Place};
@@ -85,7 +85,7 @@ impl Fault {
 
     /// Puts its words.
     pub fn put<W: Sink>(&self, output: &mut Output<W>)
-        ensures { Put output.old output.new (fault_text self.now) }
+        ensures { Appended output.old output.new (fault_text self.now) }
     {
         let (place, kind) = self.words();
         place.put(output);

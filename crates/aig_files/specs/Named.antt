@@ -1,7 +1,7 @@
 -- Files with a name as devices, by the files of their system (this project's devices).
 use Rattle.std.specs.Prelude.{◌≡◌, ◌<◌, ◌≤◌, ◌^◌, ◌==◌, ◌++◌, ◌∷◌, ℕ, zero, suc, List, [], length, take}
 use Rattle.std.specs.Prelude.{Bool, true, false, not, Option, None, Some, Result, Ok, Err}
-use Rattle.aig_io.specs.Devices.{Origin, Past, no_file}
+use Rattle.aig_io.specs.Devices.{History, Origin, no_file}
 use Rattle.aig_io.specs.Files.{End, Files, OpenFile, Use, ended, used}
 use Rattle.aig_io.specs.Files.{Left, NotKept, NotMade, NotOpened, ReadFailed, Whole, WriteFailed, Written}
 use Rattle.aig_files.specs.declared.stage.Stage.{Stage}
@@ -38,9 +38,9 @@ bytes_at stages.Failed files = (newest files.uses).bytes
 abbrev pub named : ℕ → List ℕ → List Use → Origin
 named lender name before = record no_file { lender = lender; name = Some name; before = before }
 
--- the past of a device at this stage
-abbrev pub past_at : ℕ → List ℕ → Stage → Files → ℕ → ℕ → Past
-past_at lender name stage files ends failures = record {
+-- the history of a device at this stage
+abbrev pub history_at : ℕ → List ℕ → Stage → Files → ℕ → ℕ → History
+history_at lender name stage files ends failures = record {
   origin = named lender name (uses_before stage files);
   bytes = bytes_at stage files;
   ends = ends;
@@ -127,21 +127,24 @@ abbrev pub closing : {T E : Type 0} → Result T E → End
 closing (Ok closed) = Written
 closing (Err fault) = NotKept
 
--- the use of the file behind a device, where it ended so, over the uses before it
+-- the use of the file after a device, where it ended so, over the uses before it
 abbrev pub uses_after : Option (List ℕ) → List ℕ → End → List Use → List Use
 uses_after None bytes end before = before
 uses_after (Some name) bytes end before = used name bytes end ∷ before
 
--- No file is open, and the newest use is that of the device with this past: it ended so.
-abbrev pub used_as : End → Past → Files
-used_as end past = record { uses = uses_after past.origin.name past.bytes end past.origin.before; current = None }
+-- No file is open, and the newest use is that of the device with this history: it ended so.
+abbrev pub used_as : End → History → Files
+used_as end history = record {
+  uses = uses_after history.origin.name history.bytes end history.origin.before;
+  current = None;
+}
 
 -- What the files show of a device that was let go, of a file that was written or read: it was read to its end; or its
 -- use failed; or its use ended so, where it gave or took bytes, and otherwise the file was not touched.
-pub record IsShown (written : Bool) (end : End) (past : Past) (files : Files) : Type 0 where
-  pub whole : 0 < past.ends → files ≡ used_as Whole past
-  pub failed : 0 < past.failures
-      → (failure : End) × IsFailure written past.bytes failure × (files ≡ used_as failure past)
-  pub used : past.ends ≡ 0 → past.failures ≡ 0 → 0 < length past.bytes → files ≡ used_as end past
-  pub untouched : past.ends ≡ 0 → past.failures ≡ 0 → past.bytes ≡ []
-      → files ≡ record { uses = past.origin.before; current = None }
+pub record IsShown (written : Bool) (end : End) (history : History) (files : Files) : Type 0 where
+  pub whole : 0 < history.ends → files ≡ used_as Whole history
+  pub failed : 0 < history.failures
+      → (failure : End) × IsFailure written history.bytes failure × (files ≡ used_as failure history)
+  pub used : history.ends ≡ 0 → history.failures ≡ 0 → 0 < length history.bytes → files ≡ used_as end history
+  pub untouched : history.ends ≡ 0 → history.failures ≡ 0 → history.bytes ≡ []
+      → files ≡ record { uses = history.origin.before; current = None }

@@ -6,7 +6,7 @@ ghost use Rattle.aig_files.specs.Named.{closing, is_open, IsAt, IsShown, let_go,
 
 use crate::access::FileAccess;
 use crate::stage::Stage;
-use aig_io::{DeviceFault, Sink};
+use aig_io::{DeviceFault, Record, Sink};
 use std::marker::Model;
 
 /// The file with a name as a sink. It is made, or cut to nothing, at the first byte that is sent:
@@ -15,21 +15,22 @@ pub struct NamedSink<'a, A: FileAccess> {
     access: &'a mut A,
     name: &'a str,
     stage: Stage,
-    failures: u64,
+    failures: Record,
 }
 
 impl<'a, A: FileAccess> Model for NamedSink<'a, A> {
     ghost use Rattle.std.specs.Prelude.{true};
-    ghost use Rattle.aig_io.specs.Devices.{Past};
-    ghost use Rattle.aig_files.specs.Named.{bytes_at, IsAt, HasCounted, past_at};
+    ghost use Rattle.aig_io.specs.Devices.{History};
+    ghost use Rattle.aig_io.specs.Notes.{sum_of};
+    ghost use Rattle.aig_files.specs.Named.{bytes_at, IsAt, HasCounted, history_at};
 
-    ghost Value = { Past };
+    ghost Value = { History };
 
     ghost view = { λ s.
-        past_at s.access.ghost_name s.name.now s.stage (A.files s.access.now) 0 s.failures };
+        history_at s.access.ghost_name s.name.now s.stage (A.files s.access.now) 0 (sum_of s.failures.notes) };
 
     ghost invariant = { λ s. IsAt true s.name.now s.stage (A.files s.access.now)
-        × HasCounted s.stage (bytes_at s.stage (A.files s.access.now)) 0 s.failures };
+        × HasCounted s.stage (bytes_at s.stage (A.files s.access.now)) 0 (sum_of s.failures.notes) };
 }
 
 impl<'a, A: FileAccess> NamedSink<'a, A> {
@@ -43,7 +44,7 @@ impl<'a, A: FileAccess> NamedSink<'a, A> {
             access,
             name,
             stage: Stage::Untouched,
-            failures: 0,
+            failures: Record::new(),
         }
     }
 
@@ -101,19 +102,15 @@ fn write_named<A: FileAccess>(
 }
 
 impl<A: FileAccess> Sink for NamedSink<'_, A> {
-    ghost past = { λ s. s };
+    ghost history = { λ s. s };
 
     fn send(&mut self, bytes: &[u8]) -> Result<usize, DeviceFault> {
         let answer = write_named(self.access, self.name, self.stage, bytes);
         self.stage = Stage::Open;
         if answer.is_err() {
             self.stage = Stage::Failed;
-            self.failures += 1;
+            self.failures.note(&[1], &[]);
         }
         answer
-    }
-
-    fn failures(&self) -> u64 {
-        self.failures
     }
 }

@@ -16,25 +16,25 @@ pub struct NamedSource<'a, A: FileAccess> {
     name: &'a str,
     stage: Stage,
     left: u64,
-    failures: u64,
+    failures: Record,
     ends: Record,
 }
 
 impl<'a, A: FileAccess> Model for NamedSource<'a, A> {
     ghost use Rattle.std.specs.Prelude.{◌≡◌, ◌+◌, ◌^◌, false, length};
-    ghost use Rattle.aig_io.specs.Devices.{Past};
+    ghost use Rattle.aig_io.specs.Devices.{History};
     ghost use Rattle.aig_io.specs.Notes.{sum_of};
-    ghost use Rattle.aig_files.specs.Named.{bytes_at, IsAt, HasCounted, past_at};
+    ghost use Rattle.aig_files.specs.Named.{bytes_at, IsAt, HasCounted, history_at};
 
-    ghost Value = { Past };
+    ghost Value = { History };
 
     ghost view = { λ s.
-        past_at s.access.ghost_name s.name.now s.stage (A.files s.access.now)
-        (sum_of s.ends.notes) s.failures };
+        history_at s.access.ghost_name s.name.now s.stage (A.files s.access.now)
+        (sum_of s.ends.notes) (sum_of s.failures.notes) };
 
     ghost invariant = { λ s. IsAt false s.name.now s.stage (A.files s.access.now)
         × HasCounted s.stage (bytes_at s.stage (A.files s.access.now))
-        (sum_of s.ends.notes) s.failures
+        (sum_of s.ends.notes) (sum_of s.failures.notes)
         × (s.left + length (bytes_at s.stage (A.files s.access.now)) ≡ 2 ^ 62) };
 }
 
@@ -50,7 +50,7 @@ impl<'a, A: FileAccess> NamedSource<'a, A> {
             name,
             stage: Stage::Untouched,
             left: 1 << 62,
-            failures: 0,
+            failures: Record::new(),
             ends: Record::new(),
         }
     }
@@ -115,7 +115,7 @@ fn read_named<A: FileAccess>(
 }
 
 impl<A: FileAccess> Source for NamedSource<'_, A> {
-    ghost past = { λ s. s };
+    ghost history = { λ s. s };
 
     ghost bound = { λ s. 2 ^ 62 - length s.bytes };
 
@@ -133,13 +133,9 @@ impl<A: FileAccess> Source for NamedSource<'_, A> {
             }
             Err(fault) => {
                 self.stage = Stage::Failed;
-                self.failures += 1;
+                self.failures.note(&[1], &[]);
                 Err(fault)
             }
         }
-    }
-
-    fn failures(&self) -> u64 {
-        self.failures
     }
 }

@@ -8,7 +8,7 @@ use Rattle.aig_image.specs.Relabelled.{relabelled, relabelled_gate, NamesOnly}
 use Rattle.aig_image.specs.Reordered.{reordered, operands_sorted, has_smaller_first, with_operands_exchanged}
 use Rattle.aig_image.specs.Reordered.{converted, restored, ArePlaces, positions_of}
 
--- two relabellings, one behind the other, are one
+-- two relabellings, one after the other, are one
 abbrev pub RelabellingsCompose : Type 0
 RelabellingsCompose = (f g : ℕ → ℕ) (c : Circuit) → relabelled g (relabelled f c) ≡ relabelled (λ v. g (f v)) c
 

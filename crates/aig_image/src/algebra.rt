@@ -5,7 +5,7 @@ ghost use Rattle.aig_image.specs.Algebra.{RestoredIsConverted, FormIsKept};
 ghost use Rattle.aig_image.specs.Algebra.{OrderKeepsForm, ExchangeKeepsForm};
 ghost use Rattle.aig_image.specs.Algebra.{PlacesHavePositions};
 
-/// Two relabellings, one behind the other, are one.
+/// Two relabellings, one after the other, are one.
 pub fn relabellings_compose()
     ensures { RelabellingsCompose }
 {}

@@ -1,7 +1,7 @@
 //! The binary image of a circuit: the same circuit by other variables and in another order.
 //!
 //! Others call `binary_image` and `into_binary`, which make the image, and `relabel`, which gives a
-//! circuit other variables in its own memory. `aig_order` also calls `Renumbering` and
+//! circuit other variables in its own memory. `aig_convert` also calls `Renumbering` and
 //! `sort_operands`.
 //!
 //! The definitions that matter most are `relabelled`, `reordered` and `IsBinaryImage`.

@@ -122,7 +122,7 @@ impl Placed {
     }
 
     /// The gates of the image. They are made in the order in which they stand, and each is put
-    /// where its number belongs: so what it is made of is read one behind the other.
+    /// where its number belongs: so what it is made of is read one after the other.
     fn gates(&self, alloc: Global, gates: &[Gate], order: &[u32]) -> Result<Vec<Gate>, AllocError>
         requires small { AreSmall self.now }
         requires many { length gates.now ≡ length order.now }

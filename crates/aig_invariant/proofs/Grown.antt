@@ -29,7 +29,7 @@ inputs_stay (q ∷ qs) c = inputs_stay qs (with_cube q c)
 pub variables_stay : (ls : List Latch) → map (λ (l : Latch). l.var) (map freed ls) ≡ map (λ (l : Latch). l.var) ls
 variables_stay ls = simp map-map
 
--- one more behind those of a list, before others
+-- one more after those of a list, before others
 one_more : (f : ℕ → Val) (ls : List ℕ) (l : ℕ) (v : Val) (vs : List Val) → f l ≡ v
     → map f (ls ++ l ∷ []) ++ vs ≡ map f ls ++ v ∷ vs
 one_more f [] l v vs is = ap (λ (x : Val). x ∷ vs) is

@@ -12,11 +12,11 @@ use Rattle.aig_circuit.specs.declared.circuit.Latch.{Latch}
 use Rattle.aig_circuit.specs.declared.circuit.Reset.{Reset}
 use Rattle.aig_circuit.specs.declared.value.Val.{Val}
 use Rattle.aig_circuit.specs.declared.value.Val.TheVariants.{Zero, One, X}
+use Rattle.aig_fault.specs.declared.fault.Fault.{Fault}
+use Rattle.aig_fault.specs.declared.kind.Kind.TheVariants.{BadInvariant, MetAtStart, NotEachLatch}
 use Rattle.aig_lines.specs.Lines.{Line, line}
-use Rattle.aig_invariant.specs.declared.fault.InvariantFault.{InvariantFault}
-use Rattle.aig_invariant.specs.declared.fault.InvariantFault.TheVariants as faults
 use Rattle.aig_invariant.specs.Invariant.{is_off_start, starts_apart, Cube}
-use Rattle.aig_invariant.specs.InvariantText.{asked_value, cube_in, cubes_from, is_passed, joined, row_says}
+use Rattle.aig_invariant.specs.InvariantText.{asked_value, cube_in, cubes_from, fault_in, is_passed, joined, row_says}
 use Rattle.aig_invariant.specs.Parts.Rows.{IsRightLine, IsWrongLine, are_values, cube_at, cubes_at, is_row, is_value}
 use Rattle.aig_invariant.specs.Parts.Rows.{row_of, value_or_x}
 
@@ -32,7 +32,7 @@ not_end bs other = elim (bytes_eq bs one_end) as (λ t. bytes_eq bs one_end ≡ 
   | false ↦ λ is. refl
 ] refl
 
--- one character behind which this comes
+-- one character after which this comes
 abbrev behind_character : ℕ → Option Cube → Option Cube
 behind_character b rest = option_and_then (λ (v : Val). option_map (λ (vs : Cube). v ∷ vs) rest) (asked_value b)
 
@@ -128,26 +128,26 @@ row_is text = elim (cases_lt (length text) 2) [
 -- what is said of these lines is said of those
 pub record Leads (starts : List Reset) (n : ℕ) (ls : List Line) (m : ℕ) (ms : List Line) : Type 0 where
   pub ok : cubes_from starts m ms ≡ Ok (cubes_at ms) → cubes_from starts n ls ≡ Ok (cubes_at ls)
-  pub err : (fault : InvariantFault) → cubes_from starts m ms ≡ Err fault → cubes_from starts n ls ≡ Err fault
+  pub err : (fault : Fault) → cubes_from starts m ms ≡ Err fault → cubes_from starts n ls ≡ Err fault
 
 pub leads_on : {starts : List Reset} {n m k : ℕ} {ls ms ks : List Line} → Leads starts n ls m ms
     → Leads starts m ms k ks → Leads starts n ls k ks
 leads_on a b = record { ok = λ e. a.ok (b.ok e); err = λ fault e. a.err fault (b.err fault e) }
 
 -- by the test whether a line is passed over
-abbrev from_line : Bool → Result Cube InvariantFault → Result (List Cube) InvariantFault
-    → Result (List Cube) InvariantFault
+abbrev from_line : Bool → Result Cube Fault → Result (List Cube) Fault
+    → Result (List Cube) Fault
 from_line passed said rest = if passed then rest else joined said rest
 
 abbrev with_its : Bool → Cube → List Cube → List Cube
 with_its passed cube rest = if passed then rest else cube ∷ rest
 
-line_ok : (passed : Bool) (said : Result Cube InvariantFault) (cube : Cube) (cubes : List Cube)
+line_ok : (passed : Bool) (said : Result Cube Fault) (cube : Cube) (cubes : List Cube)
     → (passed ≡ false → said ≡ Ok cube) → from_line passed said (Ok cubes) ≡ Ok (with_its passed cube cubes)
 line_ok true said cube cubes right = refl
 line_ok false said cube cubes right = rw (right refl) refl
 
-line_err : (passed : Bool) (said : Result Cube InvariantFault) (cube : Cube) (fault : InvariantFault)
+line_err : (passed : Bool) (said : Result Cube Fault) (cube : Cube) (fault : Fault)
     → (passed ≡ false → said ≡ Ok cube) → from_line passed said (Err fault) ≡ Err fault
 line_err true said cube fault right = refl
 line_err false said cube fault right = rw (right refl) refl
@@ -163,7 +163,7 @@ right_line starts n text ended ls right = record {
       ∙ line_err (is_passed text) (row_says starts n (cube_in text)) (cube_at text) fault right;
 }
 
-pub wrong_line : (starts : List Reset) (n : ℕ) (text : List ℕ) (ended : Bool) (ls : List Line) (fault : InvariantFault)
+pub wrong_line : (starts : List Reset) (n : ℕ) (text : List ℕ) (ended : Bool) (ls : List Line) (fault : Fault)
     → IsWrongLine starts n text fault → cubes_from starts n (line text ended ∷ ls) ≡ Err fault
 wrong_line starts n text ended ls fault wrong = rw (wrong.0, wrong.1) refl
 
@@ -195,7 +195,7 @@ off_next i ls row d of_latches of_row =
 -- ---- what is said of a row
 
 pub says_bad : (starts : List Reset) (n : ℕ) (text : List ℕ) → is_row text ≡ false
-    → row_says starts n (cube_in text) ≡ Err (faults.BadLine n)
+    → row_says starts n (cube_in text) ≡ Err (fault_in BadInvariant n)
 says_bad starts n text bad = rw (row_is text, bad) refl
 
 many : (text : List ℕ) → length (cube_at text) ≡ length (row_of text)
@@ -208,7 +208,7 @@ same_number : (m n : ℕ) → m ≡ n → (m == n) ≡ true
 same_number m n same = search (rules, same)
 
 pub says_other : (starts : List Reset) (n : ℕ) (text : List ℕ) → is_row text ≡ true
-    → length (row_of text) ≢ length starts → row_says starts n (cube_in text) ≡ Err (faults.OtherLength n)
+    → length (row_of text) ≢ length starts → row_says starts n (cube_in text) ≡ Err (fault_in NotEachLatch n)
 says_other starts n text is apart =
     let false_then : (length (cube_at text) == length starts) ≡ false =
     differs (length (cube_at text)) (length starts) (λ e. apart (sym (many text) ∙ e)) in
@@ -216,7 +216,7 @@ says_other starts n text is apart =
 
 pub says_off : (starts : List Reset) (n : ℕ) (text : List ℕ) (off_start : Bool) → is_row text ≡ true
     → length (row_of text) ≡ length starts → off_start ≡ is_off_start starts (cube_at text)
-    → row_says starts n (cube_in text) ≡ (if off_start then Ok (cube_at text) else Err (faults.MetAtStart n))
+    → row_says starts n (cube_in text) ≡ (if off_start then Ok (cube_at text) else Err (fault_in MetAtStart n))
 says_off starts n text off_start is same off_is =
     let fits : (length (cube_at text) == length starts) ≡ true =
     same_number (length (cube_at text)) (length starts) (many text ∙ same) in

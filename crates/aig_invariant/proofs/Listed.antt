@@ -4,18 +4,18 @@ use Rattle.std.proofs.Common.{if◌then◌else◌, length, refl, subst}
 use Rattle.std.specs.List.{All}
 use Rattle.std.proofs.lemmas.List.Elements.{All-cons, All-nil}
 use Rattle.aig_circuit.specs.declared.circuit.Reset.{Reset}
+use Rattle.aig_fault.specs.declared.fault.Fault.{Fault}
+use Rattle.aig_fault.specs.declared.kind.Kind.TheVariants.{MetAtStart, NotEachLatch}
 use Rattle.aig_lines.specs.Lines.{Line, lines_of}
-use Rattle.aig_invariant.specs.declared.fault.InvariantFault.{InvariantFault}
-use Rattle.aig_invariant.specs.declared.fault.InvariantFault.TheVariants as faults
 use Rattle.aig_invariant.specs.Invariant.{Cube, is_off_start}
-use Rattle.aig_invariant.specs.InvariantText.{cube_in, cubes_from, cubes_of, is_passed, joined, judged, row_says}
+use Rattle.aig_invariant.specs.InvariantText.{cube_in, cubes_from, cubes_of, fault_in, is_passed, joined, judged, row_says}
 
 module _ (starts : List Reset) where
   abbrev pub IsOff : Cube → Type 0
   IsOff cube = is_off_start starts cube ≡ true
 
   by_tests : (long off : Bool) (number : ℕ) (cube q : Cube) → is_off_start starts cube ≡ off
-      → (if long then if off then Ok cube else Err (faults.MetAtStart number) else Err (faults.OtherLength number))
+      → (if long then if off then Ok cube else Err (fault_in MetAtStart number) else Err (fault_in NotEachLatch number))
       ≡ Ok q → IsOff q
   by_tests false off number cube q e is = cc
   by_tests true false number cube q e is = cc
@@ -25,7 +25,7 @@ module _ (starts : List Reset) where
   judged_off number cube q is =
       by_tests (length cube == length starts) (is_off_start starts cube) number cube q refl is
 
-  joined_off : (row : Result Cube InvariantFault) (rest : Result (List Cube) InvariantFault) (cubes : List Cube)
+  joined_off : (row : Result Cube Fault) (rest : Result (List Cube) Fault) (cubes : List Cube)
       → joined row rest ≡ Ok cubes → ((q : Cube) → row ≡ Ok q → IsOff q)
       → ((qs : List Cube) → rest ≡ Ok qs → All IsOff qs) → All IsOff cubes
   joined_off (Err fault) rest cubes is here later = cc
@@ -34,7 +34,7 @@ module _ (starts : List Reset) where
       let same : q ∷ qs ≡ cubes = cc in
       subst (All IsOff) same (All-cons IsOff q qs (here q refl) (later qs refl))
 
-  by_line : (passed : Bool) (number : ℕ) (row : Option Cube) (rest : Result (List Cube) InvariantFault)
+  by_line : (passed : Bool) (number : ℕ) (row : Option Cube) (rest : Result (List Cube) Fault)
       (cubes : List Cube) → (if passed then rest else joined (row_says starts number row) rest) ≡ Ok cubes
       → ((qs : List Cube) → rest ≡ Ok qs → All IsOff qs) → All IsOff cubes
   by_line true number row rest cubes is later = later cubes is

@@ -25,8 +25,8 @@ use Rattle.aig_cnf.proofs.Existing.{IsSure}
 use Rattle.aig_unroll.specs.Unrolled.{IsUnrolled, resets_of}
 use Rattle.aig_reach.proofs.Setting.{all_stay, are_sure, sure, sure_starts}
 use Rattle.aig_reach.proofs.Whole.{unsatisfiable_means_none}
-use Rattle.aig_search.specs.Alone.{with_bad_alone}
-use Rattle.aig_search.proofs.BadAlone.{alone_is_well_formed, verdict_there}
+use Rattle.aig_replay.specs.Alone.{with_bad_alone}
+use Rattle.aig_replay.proofs.BadAlone.{alone_is_well_formed, verdict_there}
 use Rattle.aig_witness.specs.declared.verdict.Verdict.TheVariants.{Confirmed}
 use Rattle.aig_witness.specs.Witness.{Claim, IsBad, IsHeld, IsVerdict}
 use Rattle.aig_witness.proofs.Verdicts.{each_long}

@@ -37,7 +37,7 @@ is_off_start [] cube = false
 is_off_start (r ∷ rs) [] = false
 is_off_start (r ∷ rs) (v ∷ vs) = starts_apart r v || is_off_start rs vs
 
--- the circuit with gates behind its own that chain these literals, and the literal that is 1 where all of them are
+-- the circuit with gates after its own that chain these literals, and the literal that is 1 where all of them are
 abbrev pub with_conjunction : List ℕ → Circuit → Circuit
 with_conjunction literals c = record c {
   max_var = c.max_var + length literals;

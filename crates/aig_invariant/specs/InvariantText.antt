@@ -7,9 +7,12 @@ use Rattle.std.specs.Str.{bytes_eq}
 use Rattle.aig_circuit.specs.declared.circuit.Reset.{Reset}
 use Rattle.aig_circuit.specs.declared.value.Val.{Val}
 use Rattle.aig_circuit.specs.declared.value.Val.TheVariants.{Zero, One, X}
+use Rattle.aig_fault.specs.Stopping.{fault_at}
+use Rattle.aig_fault.specs.declared.fault.Fault.{Fault}
+use Rattle.aig_fault.specs.declared.fault.Place.TheVariants as places
+use Rattle.aig_fault.specs.declared.kind.Kind.{Kind}
+use Rattle.aig_fault.specs.declared.kind.Kind.TheVariants.{BadInvariant, MetAtStart, NotEachLatch}
 use Rattle.aig_lines.specs.Lines.{Line, lines_of}
-use Rattle.aig_invariant.specs.declared.fault.InvariantFault.{InvariantFault}
-use Rattle.aig_invariant.specs.declared.fault.InvariantFault.TheVariants as faults
 use Rattle.aig_invariant.specs.Invariant.{Cube, is_off_start}
 
 -- whether a line says nothing of a cube
@@ -28,29 +31,33 @@ cube_in (b ∷ bs) =
     if bytes_eq (b ∷ bs) (codes " 1") then Some []
     else option_and_then (λ (v : Val). option_map (λ (vs : Cube). v ∷ vs) (cube_in bs)) (asked_value b)
 
+-- this is wrong with the line of this number
+abbrev pub fault_in : Kind → ℕ → Fault
+fault_in kind number = fault_at kind (places.Line number) 0
+
 -- the cube, where it is one of an invariant over latches that start so
-abbrev pub judged : List Reset → ℕ → Cube → Result Cube InvariantFault
+abbrev pub judged : List Reset → ℕ → Cube → Result Cube Fault
 judged starts number cube =
     if length cube == length starts then
-    if is_off_start starts cube then Ok cube else Err (faults.MetAtStart number)
-    else Err (faults.OtherLength number)
+    if is_off_start starts cube then Ok cube else Err (fault_in MetAtStart number)
+    else Err (fault_in NotEachLatch number)
 
-abbrev pub row_says : List Reset → ℕ → Option Cube → Result Cube InvariantFault
-row_says starts number None = Err (faults.BadLine number)
+abbrev pub row_says : List Reset → ℕ → Option Cube → Result Cube Fault
+row_says starts number None = Err (fault_in BadInvariant number)
 row_says starts number (Some cube) = judged starts number cube
 
 -- the cubes with one more before them, where neither has a fault
-abbrev pub joined : Result Cube InvariantFault → Result (List Cube) InvariantFault → Result (List Cube) InvariantFault
+abbrev pub joined : Result Cube Fault → Result (List Cube) Fault → Result (List Cube) Fault
 joined (Err fault) rest = Err fault
 joined (Ok cube) (Err fault) = Err fault
 joined (Ok cube) (Ok cubes) = Ok (cube ∷ cubes)
 
 -- the cubes of lines, the first of which has this number; or what is wrong with the first wrong one
-abbrev pub cubes_from : List Reset → ℕ → List Line → Result (List Cube) InvariantFault
+abbrev pub cubes_from : List Reset → ℕ → List Line → Result (List Cube) Fault
 cubes_from starts number [] = Ok []
 cubes_from starts number (l ∷ ls) =
     if is_passed l.text then cubes_from starts (number + 1) ls
     else joined (row_says starts number (cube_in l.text)) (cubes_from starts (number + 1) ls)
 
-abbrev pub cubes_of : List Reset → List ℕ → Result (List Cube) InvariantFault
+abbrev pub cubes_of : List Reset → List ℕ → Result (List Cube) Fault
 cubes_of starts bytes = cubes_from starts 1 (lines_of bytes)

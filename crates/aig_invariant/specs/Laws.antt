@@ -3,23 +3,23 @@ use Rattle.std.specs.Prelude.{ℕ, List, Bool, Option}
 use Rattle.aig_circuit.specs.declared.circuit.Circuit.{Circuit}
 use Rattle.aig_circuit.specs.Wellformed.{IsWellFormed}
 use Rattle.aig_cnf.specs.Clauses.{Satisfies, bad_clauses}
-use Rattle.aig_search.specs.Alone.{HasAsked, asked_of}
-use Rattle.aig_search.specs.Laws.{IsOfAsked}
+use Rattle.aig_replay.specs.Alone.{HasSelected, selected_of}
+use Rattle.aig_replay.specs.Laws.{IsOfSelected}
 use Rattle.aig_unroll.specs.Unrolled.{IsUnrolled}
 use Rattle.aig_witness.specs.declared.verdict.Verdict.TheVariants.{Confirmed}
 use Rattle.aig_witness.specs.Witness.{Claim, IsVerdict}
 use Rattle.aig_invariant.specs.Invariant.{Cube, with_invariant}
 use Rattle.aig_invariant.specs.Outcome.{HasCubes}
 
--- no claim of what is asked for, or of any bad state where nothing is, is confirmed at any step of any run
+-- no claim of the selected bad state, or of any where none is selected, is confirmed at any step of any run
 abbrev pub IsNever : Circuit → Option ℕ → Type 0
-IsNever c asked = (claim : Claim) (step : ℕ) → IsOfAsked asked claim → ¬ IsVerdict c claim (Confirmed step)
+IsNever c selected = (claim : Claim) (step : ℕ) → IsOfSelected selected claim → ¬ IsVerdict c claim (Confirmed step)
 
 -- Where nothing satisfies the clauses of the circuit with an invariant, unrolled over one frame, no claim of the
 -- circuit is confirmed at any step, with x or without.
 abbrev pub InvariantsMeanNever : Type 0
-InvariantsMeanNever = (c d : Circuit) (asked : Option ℕ) (bytes : List ℕ) (cubes : List Cube) → IsWellFormed c
-    → HasAsked asked c → HasCubes (asked_of asked c) bytes cubes
-    → IsWellFormed (with_invariant cubes (asked_of asked c)) → IsWellFormed d
-    → IsUnrolled (with_invariant cubes (asked_of asked c)) 1 d → ((a : ℕ → Bool) → ¬ Satisfies a (bad_clauses d))
-    → IsNever c asked
+InvariantsMeanNever = (c d : Circuit) (selected : Option ℕ) (bytes : List ℕ) (cubes : List Cube) → IsWellFormed c
+    → HasSelected selected c → HasCubes (selected_of selected c) bytes cubes
+    → IsWellFormed (with_invariant cubes (selected_of selected c)) → IsWellFormed d
+    → IsUnrolled (with_invariant cubes (selected_of selected c)) 1 d → ((a : ℕ → Bool) → ¬ Satisfies a (bad_clauses d))
+    → IsNever c selected

@@ -1,6 +1,5 @@
 pub mod Invariant
 pub mod InvariantText
-pub mod Messages
 pub mod Outcome
 pub mod Parts
 pub mod Laws

@@ -14,9 +14,9 @@ ghost use Rattle.aig_invariant.specs.Outcome.{IsOverfull};
 ghost use Rattle.aig_invariant.specs.Parts.Growing.{AreTheLatches, IsRefused, with_line};
 ghost use Rattle.aig_invariant.specs.Parts.Rows.{cubes_at, value_or_x};
 
-use crate::fault::InvariantFault;
 use crate::row::{is_passed, row_of};
 use aig_core::{Circuit, Gate, LARGEST, Latch, Listing, Lit, Reset, Var};
+use aig_fault::{Kind, Stopped, refused_whole};
 use aig_lines::split_line;
 use std::alloc::{AllocError, Global};
 
@@ -100,7 +100,7 @@ fn chain(circuit: &mut Circuit, literals: &[Lit]) -> Result<Lit, AllocError>
 }
 
 /// The same, unless there are too many.
-fn conjoin(circuit: &mut Circuit, literals: &[Lit]) -> Result<Lit, InvariantFault>
+fn conjoin(circuit: &mut Circuit, literals: &[Lit]) -> Result<Lit, Stopped>
     ensures grown { OnOk result (circuit.new ≡ with_conjunction literals.now circuit.old) }
     ensures chain { IfOk result (λ chain. chain ≡ conjunction literals.now circuit.old) }
     ensures room { OnOk result (circuit.old.max_var + length literals.now ≤ LARGEST) }
@@ -108,19 +108,19 @@ fn conjoin(circuit: &mut Circuit, literals: &[Lit]) -> Result<Lit, InvariantFaul
         (IsRefused (LARGEST < circuit.old.max_var + length literals.now)) }
 {
     if circuit.max_var as usize + literals.len() > LARGEST as usize {
-        return Err(InvariantFault::TooLarge);
+        return Err(refused_whole(Kind::TooLargeInvariant));
     }
     Ok(chain(circuit, literals)?)
 }
 
 /// Adds a literal to a list, unless it has too many.
-fn list(literals: &mut Listing<Lit>, literal: Lit) -> Result<(), InvariantFault>
+fn list(literals: &mut Listing<Lit>, literal: Lit) -> Result<(), Stopped>
     ensures listed { OnOk result (literals.new ≡ literals.old ++ literal ∷ []) }
     ensures room { OnOk result (length literals.old < LARGEST) }
     ensures err { IfErr result (IsRefused (LARGEST ≤ length literals.old)) }
 {
     if literals.len() >= LARGEST as usize {
-        return Err(InvariantFault::TooLarge);
+        return Err(refused_whole(Kind::TooLargeInvariant));
     }
     literals.push(literal)?;
     Ok(())
@@ -133,7 +133,7 @@ fn add_cube(
     latches: &Latches,
     row: &[u8],
     asked: &mut Vec<Lit>,
-) -> Result<(), InvariantFault>
+) -> Result<(), Stopped>
     requires formed { IsWellFormed circuit.old }
     requires latches { AreTheLatches latches.now circuit.old }
     ensures formed { OnOk result (IsWellFormed circuit.new) }
@@ -156,7 +156,7 @@ fn add_line(
     latches: &Latches,
     text: &[u8],
     asked: &mut Vec<Lit>,
-) -> Result<(), InvariantFault>
+) -> Result<(), Stopped>
     requires formed { IsWellFormed circuit.old }
     requires latches { AreTheLatches latches.now circuit.old }
     ensures formed { OnOk result (IsWellFormed circuit.new) }
@@ -175,7 +175,7 @@ fn add_cubes(
     circuit: &mut Circuit,
     latches: &Latches,
     bytes: &[u8],
-) -> Result<(), InvariantFault>
+) -> Result<(), Stopped>
     requires formed { IsWellFormed circuit.old }
     requires latches { AreTheLatches latches.now circuit.old }
     ensures formed { OnOk result (IsWellFormed circuit.new) }
@@ -215,7 +215,7 @@ pub(crate) fn free_latches(circuit: Circuit) -> Circuit
 }
 
 /// Adds what the cubes of an invariant's lines ask of a circuit.
-pub(crate) fn grow(alloc: Global, circuit: &mut Circuit, bytes: &[u8]) -> Result<(), InvariantFault>
+pub(crate) fn grow(alloc: Global, circuit: &mut Circuit, bytes: &[u8]) -> Result<(), Stopped>
     requires { IsWellFormed circuit.old }
     ensures formed { OnOk result (IsWellFormed circuit.new) }
     ensures grown { OnOk result

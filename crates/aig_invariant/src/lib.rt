@@ -10,11 +10,9 @@
 //! The definitions that matter most are `with_invariant` and `InvariantsMeanNever`.
 #![tactic(auto)]
 
-mod fault;
 mod growth;
 pub mod laws;
 mod reader;
 mod row;
 
-pub use crate::fault::InvariantFault;
 pub use crate::reader::with_invariant;

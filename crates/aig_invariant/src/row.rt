@@ -2,13 +2,13 @@
 ghost use Rattle.std.specs.Prelude.{◌≡◌, map, Err, IfErr, Ok, OnOk};
 ghost use Rattle.aig_circuit.specs.declared.circuit.Latch.{Latch as LatchRecord};
 ghost use Rattle.aig_invariant.specs.Invariant.{is_off_start, starts_apart};
-ghost use Rattle.aig_invariant.specs.InvariantText.{cube_in, is_passed, row_says};
-ghost use Rattle.aig_invariant.specs.Parts.Rows.{IsOfLine, IsRightLine, IsWrongLine};
+ghost use Rattle.aig_invariant.specs.InvariantText.{cube_in, fault_in, is_passed, row_says};
+ghost use Rattle.aig_invariant.specs.Parts.Rows.{IsRightLine, IsWrongLine};
 ghost use Rattle.aig_invariant.specs.Parts.Rows.{are_values, cube_at, is_row, is_value, row_of};
 ghost use Rattle.aig_invariant.specs.Parts.Rows.{value_or_x};
 
-use crate::fault::InvariantFault;
 use aig_core::{Latch, Reset};
+use aig_fault::{Fault, Kind, Place};
 
 /// Whether a line says nothing of a cube.
 pub(crate) fn is_passed(text: &[u8]) -> bool
@@ -35,7 +35,7 @@ fn are_values(row: &[u8]) -> bool
     true
 }
 
-/// The characters of a row, without the space and the 1 behind them.
+/// The characters of a row, without the space and the 1 after them.
 pub(crate) fn row_of(text: &[u8]) -> &[u8]
     ensures { result.now ≡ row_of text.now }
 {
@@ -75,34 +75,43 @@ fn is_off_start(latches: &[Latch], row: &[u8]) -> bool
     false
 }
 
+/// What is wrong with the line of this number.
+fn fault_in(kind: Kind, number: u64) -> Fault
+    ensures { result ≡ fault_in kind number }
+{
+    Fault {
+        kind,
+        place: Place::Line(number),
+        subject: 0,
+    }
+}
+
 /// Whether a line, which has this number, is a row with a cube that no first state meets.
-fn judge_row(latches: &[Latch], text: &[u8], number: u64) -> Result<(), InvariantFault>
+fn judge_row(latches: &[Latch], text: &[u8], number: u64) -> Result<(), Fault>
     ensures ok { OnOk result (row_says (map (λ (l : LatchRecord). l.reset) latches.now) number
         (cube_in text.now) ≡ Ok (cube_at text.now)) }
     ensures err { IfErr result (λ fault. row_says (map (λ (l : LatchRecord). l.reset) latches.now)
         number (cube_in text.now) ≡ Err fault) }
-    ensures of_line { IfErr result IsOfLine }
 {
     if !is_row(text) {
-        return Err(InvariantFault::BadLine(number));
+        return Err(fault_in(Kind::BadInvariant, number));
     }
     let row = row_of(text);
     if row.len() != latches.len() {
-        return Err(InvariantFault::OtherLength(number));
+        return Err(fault_in(Kind::NotEachLatch, number));
     }
     if !is_off_start(latches, row) {
-        return Err(InvariantFault::MetAtStart(number));
+        return Err(fault_in(Kind::MetAtStart, number));
     }
     Ok(())
 }
 
 /// Whether a line, which has this number, says nothing of a cube or is such a row.
-pub(crate) fn judge_line(latches: &[Latch], text: &[u8], number: u64) -> Result<(), InvariantFault>
+pub(crate) fn judge_line(latches: &[Latch], text: &[u8], number: u64) -> Result<(), Fault>
     ensures ok { OnOk result (IsRightLine (map (λ (l : LatchRecord). l.reset) latches.now) number
         text.now) }
     ensures err { IfErr result (IsWrongLine (map (λ (l : LatchRecord). l.reset) latches.now) number
         text.now) }
-    ensures of_line { IfErr result IsOfLine }
 {
     if is_passed(text) {
         return Ok(());

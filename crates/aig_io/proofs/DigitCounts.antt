@@ -1,6 +1,7 @@
 -- How many digits a number has.
 use Rattle.std.proofs.Common.{◌≡◌, ◌+◌, ◌/◌, ◌%◌, ◌<◌, ◌≤◌, ◌^◌, ◌∷◌, ◌∙◌, rules, ℕ, [], length, arith, ap}
-use Rattle.std.proofs.Common.{length-append, decimal}
+use Rattle.std.proofs.Common.{zero, suc, length-append, decimal}
+use Rattle.std.proofs.Math.Nat.{pow-suc}
 use Rattle.std.proofs.lemmas.Fmt.{decimal_digit, decimal_step}
 
 length_step : (n : ℕ) → 10 ≤ n → n < 2 ^ 64 → length (decimal n) ≡ length (decimal (n / 10)) + 1
@@ -12,32 +13,19 @@ longer n k high small before = length_step n high small ∙ ap (λ m. m + 1) bef
 pub length_1 : (n : ℕ) → n < 10 → length (decimal n) ≡ 1
 length_1 n low = ap length (decimal_digit n low)
 
-pub length_2 : (n : ℕ) → 10 ≤ n → n < 100 → length (decimal n) ≡ 2
-length_2 n high low = longer n 1 (omega arith) (omega arith) (length_1 (n / 10) (omega arith))
+some : (k : ℕ) → 0 < 10 ^ k
+some zero = omega arith
+some (suc k) = omega (arith, pow-suc 10 k, some k)
 
-pub length_3 : (n : ℕ) → 100 ≤ n → n < 1000 → length (decimal n) ≡ 3
-length_3 n high low = longer n 2 (omega arith) (omega arith) (length_2 (n / 10) (omega arith) (omega arith))
-
-pub length_4 : (n : ℕ) → 1000 ≤ n → n < 10000 → length (decimal n) ≡ 4
-length_4 n high low = longer n 3 (omega arith) (omega arith) (length_3 (n / 10) (omega arith) (omega arith))
-
-pub length_5 : (n : ℕ) → 10000 ≤ n → n < 100000 → length (decimal n) ≡ 5
-length_5 n high low = longer n 4 (omega arith) (omega arith) (length_4 (n / 10) (omega arith) (omega arith))
-
-pub length_6 : (n : ℕ) → 100000 ≤ n → n < 1000000 → length (decimal n) ≡ 6
-length_6 n high low = longer n 5 (omega arith) (omega arith) (length_5 (n / 10) (omega arith) (omega arith))
-
-pub length_7 : (n : ℕ) → 1000000 ≤ n → n < 10000000 → length (decimal n) ≡ 7
-length_7 n high low = longer n 6 (omega arith) (omega arith) (length_6 (n / 10) (omega arith) (omega arith))
-
-pub length_8 : (n : ℕ) → 10000000 ≤ n → n < 100000000 → length (decimal n) ≡ 8
-length_8 n high low = longer n 7 (omega arith) (omega arith) (length_7 (n / 10) (omega arith) (omega arith))
-
-pub length_9 : (n : ℕ) → 100000000 ≤ n → n < 1000000000 → length (decimal n) ≡ 9
-length_9 n high low = longer n 8 (omega arith) (omega arith) (length_8 (n / 10) (omega arith) (omega arith))
-
-pub length_10 : (n : ℕ) → 1000000000 ≤ n → n < 10000000000 → length (decimal n) ≡ 10
-length_10 n high low = longer n 9 (omega arith) (omega arith) (length_9 (n / 10) (omega arith) (omega arith))
+-- so many digits, from two on
+pub spans : (k n : ℕ) → 10 ^ suc k ≤ n → n < 10 ^ suc (suc k) → n < 2 ^ 64 → length (decimal n) ≡ k + 2
+spans zero n high low small = longer n 1 (omega arith) small (length_1 (n / 10) (omega arith))
+spans (suc k) n high low small =
+    let tens = pow-suc 10 (suc (suc k)) in
+    let ten = pow-suc 10 (suc k) in
+    let one = pow-suc 10 k in
+    let before = spans k (n / 10) (omega arith) (omega arith) (omega arith) in
+    longer n (k + 2) (omega (arith, some k)) small before ∙ omega arith
 
 -- without its last five digits
 five_less : (n : ℕ) → 100000 ≤ n → n < 2 ^ 64 → length (decimal n) ≡ length (decimal (n / 100000)) + 5

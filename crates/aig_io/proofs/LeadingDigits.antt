@@ -199,7 +199,7 @@ shifted (suc zeros) text =
     ap (λ k. (48 + 256 * word) / 2 ^ k) long ∙ sym (shr-shr (48 + 256 * word) 8 (8 * zeros))
     ∙ ap (λ w. w / 2 ^ (8 * zeros)) byte ∙ shifted zeros text
 
--- zeros behind the text do not change the word
+-- zeros after the text do not change the word
 zeros_behind : (text : List ℕ) (count : ℕ) → number_l 256 (text ++ replicate count 0) ≡ number_l 256 text
 zeros_behind [] zero = refl
 zeros_behind [] (suc count) = ap (λ w. 0 + 256 * w) (zeros_behind [] count)
@@ -252,7 +252,7 @@ some_power : (count : ℕ) → 0 < 10 ^ count
 some_power zero = omega arith
 some_power (suc count) = omega (arith, pow-suc 10 count, some_power count)
 
--- the last digits of a number come behind those of what is left without them
+-- the last digits of a number come after those of what is left without them
 last_of : (count n : ℕ) → 10 ^ count ≤ n → n < 2 ^ 64
     → decimal n ≡ decimal (n / 10 ^ count) ++ map (λ d. 48 + d) (last_digits count n)
 last_of zero n some fits = search rules
@@ -278,7 +278,7 @@ pub double_text : (n : ℕ) → 10 ^ 8 ≤ n → n < 2 ^ 64
 double_text n some fits = last_of 8 n some fits
     ∙ ap (λ (ds : List ℕ). decimal (n / 100_000_000) ++ map (λ d. 48 + d) ds) (sym (same_last n))
 
--- a text behind a beginning, and what follows it
+-- a text after a beginning, and what follows it
 pub text_stands : (at m : ℕ) (front text behind after : List ℕ) → length front ≡ at → m ≡ at + length text
     → take m (front ++ ((text ++ behind) ++ after)) ≡ front ++ text
 text_stands at m front text behind after long end = search (rules, take-append-add, append_assoc, take-append_seam)

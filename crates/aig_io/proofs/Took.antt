@@ -10,7 +10,7 @@ use Rattle.std.proofs.Math.Seq.{take-append-add}
 use Rattle.std.proofs.lemmas.Bool.{lt-ltb}
 use Rattle.aig_io.specs.declared.device.DeviceFault.{DeviceFault}
 use Rattle.aig_io.specs.Memory.{one_call_later, source_after}
-use Rattle.aig_io.specs.Devices.{GaveSome, Past, after_fetch, failed_once, gave, gave_all, no_file, took, Origin}
+use Rattle.aig_io.specs.Devices.{GaveSome, History, after_fetch, failed_once, gave, gave_all, no_file, took, Origin}
 use Rattle.aig_io.specs.declared.transfer.ReadError.{ReadError}
 use Rattle.aig_io.specs.declared.transfer.ReadError.TheVariants as errors
 use Rattle.aig_io.specs.declared.transfer.ReadError.TheVariants.{OutOfMemory}
@@ -21,35 +21,35 @@ use Rattle.aig_io.specs.Windows.{Filled}
 rest_is : (bs : List ℕ) (n : ℕ) → take (length bs - n) (drop n bs) ≡ drop n bs
 rest_is bs n = take_all (length bs - n) (drop n bs) (omega (arith, length-drop n bs))
 
-pub took_twice : (a b c : Past) (xs ys : List ℕ) → b ≡ took xs a → c ≡ took ys b → c ≡ took (xs ++ ys) a
+pub took_twice : (a b c : History) (xs ys : List ℕ) → b ≡ took xs a → c ≡ took ys b → c ≡ took (xs ++ ys) a
 took_twice a b c xs ys p q =
     q ∙ ap (took ys) p ∙ ap (λ (zs : List ℕ). record a { bytes = zs }) (append_assoc a.bytes xs ys)
 
 -- bytes that came one part after another
-pub gave_then : (ended : Bool) (xs ys : List ℕ) (a b c : Past) → b ≡ took xs a → c ≡ gave ys ended b
+pub gave_then : (ended : Bool) (xs ys : List ℕ) (a b c : History) → b ≡ took xs a → c ≡ gave ys ended b
     → c ≡ gave (xs ++ ys) ended a
 gave_then true xs ys a b c p q =
     q ∙ ap (gave_all ys) p
     ∙ ap (λ (bytes : List ℕ). record a { bytes = bytes; ends = a.ends + 1 }) (append_assoc a.bytes xs ys)
 gave_then false xs ys a b c p q = took_twice a b c xs ys p q
 
-pub some_later : (error : ReadError) (xs : List ℕ) (a b c : Past) → b ≡ took xs a → GaveSome error b c
+pub some_later : (error : ReadError) (xs : List ℕ) (a b c : History) → b ≡ took xs a → GaveSome error b c
     → GaveSome error a c
 some_later errors.Source xs a b c p (bytes, q) =
     (xs ++ bytes, q ∙ ap failed_once (took_twice a b (took bytes b) xs bytes p refl))
 some_later errors.OutOfMemory xs a b c p (bytes, ended, q) = (xs ++ bytes, ended, gave_then ended xs bytes a b c p q)
 
 -- it took nothing yet
-pub took_none : (a : Past) → a ≡ took [] a
+pub took_none : (a : History) → a ≡ took [] a
 took_none a = ap (λ (bytes : List ℕ). record a { bytes = bytes }) (sym (append-nil a.bytes))
 
 -- the first n bytes, and then k of the slice from n on
-pub took_more : (a b c : Past) (bs : List ℕ) (n k : ℕ) → b ≡ took (take n bs) a
+pub took_more : (a b c : History) (bs : List ℕ) (n k : ℕ) → b ≡ took (take n bs) a
     → c ≡ took (take k (take (length bs - n) (drop n bs))) b → c ≡ took (take (n + k) bs) a
 took_more a b c bs n k p q = rw take-add (took_twice a b c _ _ p (rw rest_is at q))
 
 -- a fetch that is not at the end gives bytes
-pub gave_next : (into : List ℕ) (n : ℕ) (a : Past) → 0 < n → after_fetch {E = DeviceFault} into (Ok n) a
+pub gave_next : (into : List ℕ) (n : ℕ) (a : History) → 0 < n → after_fetch {E = DeviceFault} into (Ok n) a
     ≡ took (take n into) a
 gave_next into zero a p =
     let none : ⊥ = omega (arith, p) in
@@ -65,13 +65,13 @@ pub fetched : (bs into : List ℕ) (at n ends failures piece : ℕ) (before late
     ≡ one_call_later before
     → 0 < n → take n into ≡ take n (drop at bs)
     → record {
-      past = record { origin = no_file; bytes = take (at + n) bs; ends = ends; failures = failures };
+      history = record { origin = no_file; bytes = take (at + n) bs; ends = ends; failures = failures };
       coming = drop (at + n) bs;
       piece = piece;
       fails_in = later;
     }
     ≡ source_after into (Ok n) (record {
-      past = record {
+      history = record {
         origin = no_file;
         bytes = take at bs;
         ends = ends;
@@ -91,15 +91,15 @@ fetched bs into at n ends failures piece before later counted some front =
     ) refl
 
 -- in reading, where memory was refused then
-pub gave_more : (a b c : Past) (xs ys : List ℕ) → b ≡ took xs a → c ≡ took ys b → GaveSome OutOfMemory a c
+pub gave_more : (a b c : History) (xs ys : List ℕ) → b ≡ took xs a → c ≡ took ys b → GaveSome OutOfMemory a c
 gave_more a b c xs ys p q = (xs ++ ys, false, took_twice a b c xs ys p q)
 
-pub memory_refused : {T : Type 0} (r : Result T ReadError) (a b : Past) → IsErrAnd r (λ e. e ≡ OutOfMemory)
+pub memory_refused : {T : Type 0} (r : Result T ReadError) (a b : History) → IsErrAnd r (λ e. e ≡ OutOfMemory)
     → GaveSome OutOfMemory a b → IfErr r (λ e. GaveSome e a b)
 memory_refused (Ok x) a b is some = tt
 memory_refused (Err e) a b is some = rw is some
 
-pub gave_none : (a : Past) → GaveSome OutOfMemory a a
+pub gave_none : (a : History) → GaveSome OutOfMemory a a
 gave_none a = ([], false, took_none a)
 
 -- What a source over bytes that are lent gave.
@@ -110,7 +110,7 @@ pub lent_fetched : (bs into : List ℕ) (at n ends : ℕ) → 0 < n → take n i
     ≡ after_fetch {E = DeviceFault} into (Ok n)
     (record { origin = lent bs; bytes = take at bs; ends = ends; failures = 0 })
 lent_fetched bs into at n ends some front =
-    let before : Past = record { origin = lent bs; bytes = take at bs; ends = ends; failures = 0 } in
+    let before : History = record { origin = lent bs; bytes = take at bs; ends = ends; failures = 0 } in
     rw (gave_next into n before some, front, take-add) refl
 
 -- the origin tells the bytes
@@ -149,16 +149,16 @@ fetched_behind xs into behind now len n is fits few =
     ∙ ap (λ (bytes : List ℕ). take len xs ++ bytes) (take-append-le n into behind few)
     ∙ ap (λ (bytes : List ℕ). bytes ++ take n into) is
 
-pub gave_fetched : (into : List ℕ) (n : ℕ) (a : Past)
+pub gave_fetched : (into : List ℕ) (n : ℕ) (a : History)
     → after_fetch {E = DeviceFault} into (Ok n) a ≡ gave (take n into) (not (nat_lt 0 n)) a
 gave_fetched into zero a =
     ap (λ (bytes : List ℕ). record a { bytes = bytes; ends = a.ends + 1 }) (sym (append-nil a.bytes))
 gave_fetched into (suc n) a = rw (lt-ltb 0 (suc n) (omega arith)) refl
 
-filled_none : (u : List ℕ) (a : Past) → Filled u u true a a
+filled_none : (u : List ℕ) (a : History) → Filled u u true a a
 filled_none u a = record { given = []; held = sym (append-nil u); gave = took_none a }
 
-pub filled_then : (u v w : List ℕ) (more : Bool) (a b c : Past) → Filled u v true a b → Filled v w more b c
+pub filled_then : (u v w : List ℕ) (more : Bool) (a b c : History) → Filled u v true a b → Filled v w more b c
     → Filled u w more a c
 filled_then u v w more a b c f g = record {
   given = f.given ++ g.given;

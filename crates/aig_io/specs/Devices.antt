@@ -1,5 +1,5 @@
 -- What a source gave and a sink took, whatever they are (this project's devices).
-use Rattle.std.specs.Prelude.{◌≡◌, ◌+◌, ◌-◌, ◌<◌, ◌^◌, ◌++◌, ℕ, zero, suc, List, [], Bool, true, false, take}
+use Rattle.std.specs.Prelude.{◌≡◌, ◌+◌, ◌++◌, ℕ, zero, suc, List, [], Bool, true, false, take}
 use Rattle.std.specs.Prelude.{Option, None, Result, Ok, Err}
 use base.Stored.{Gv, gnil}
 use Rattle.aig_io.specs.Files.{Use}
@@ -18,60 +18,56 @@ pub record Origin : Type 0 where
 abbrev pub no_file : Origin
 no_file = record { lender = 0; name = None; before = []; stands_on = gnil }
 
--- A device's past: the bytes that it gave or took since it was made, how often it answered that it is at its end, and
--- how often it failed. Each call of it changes one of these.
-pub record Past : Type 0 where
+-- A device's history: the bytes that it gave or took since it was made, how often it answered that it is at its end,
+-- and how often it failed. Each call of it changes one of these.
+pub record History : Type 0 where
   pub origin : Origin
   pub bytes : List ℕ
   pub ends : ℕ
   pub failures : ℕ
 
 -- no call was made yet
-abbrev pub unused : Origin → Past
+abbrev pub unused : Origin → History
 unused origin = record { origin = origin; bytes = []; ends = 0; failures = 0 }
-
--- one more failure can be counted
-abbrev pub CanFail : Past → Type 0
-CanFail past = past.failures < 2 ^ 64 - 1
 
 -- how many bytes a sink is handed at most in one slice
 abbrev pub block_size : ℕ
 block_size = 8192
 
 -- after a fetch into these bytes that answered so
-abbrev pub after_fetch : {E : Type 0} → List ℕ → Result ℕ E → Past → Past
-after_fetch into (Ok zero) past = record past { ends = past.ends + 1 }
-after_fetch into (Ok (suc n)) past = record past { bytes = past.bytes ++ take (suc n) into }
-after_fetch into (Err fault) past = record past { failures = past.failures + 1 }
+abbrev pub after_fetch : {E : Type 0} → List ℕ → Result ℕ E → History → History
+after_fetch into (Ok zero) history = record history { ends = history.ends + 1 }
+after_fetch into (Ok (suc n)) history = record history { bytes = history.bytes ++ take (suc n) into }
+after_fetch into (Err fault) history = record history { failures = history.failures + 1 }
 
 -- after a send of these bytes that answered so
-abbrev pub after_send : {E : Type 0} → List ℕ → Result ℕ E → Past → Past
-after_send bytes (Ok n) past = record past { bytes = past.bytes ++ take n bytes }
-after_send bytes (Err fault) past = record past { failures = past.failures + 1 }
+abbrev pub after_send : {E : Type 0} → List ℕ → Result ℕ E → History → History
+after_send bytes (Ok n) history = record history { bytes = history.bytes ++ take n bytes }
+after_send bytes (Err fault) history = record history { failures = history.failures + 1 }
 
 -- it gave these bytes, and answered that it is at its end
-abbrev pub gave_all : List ℕ → Past → Past
-gave_all bytes past = record past { bytes = past.bytes ++ bytes; ends = past.ends + 1 }
+abbrev pub gave_all : List ℕ → History → History
+gave_all bytes history = record history { bytes = history.bytes ++ bytes; ends = history.ends + 1 }
 
 -- it took these bytes
-abbrev pub took : List ℕ → Past → Past
-took bytes past = record past { bytes = past.bytes ++ bytes }
+abbrev pub took : List ℕ → History → History
+took bytes history = record history { bytes = history.bytes ++ bytes }
 
 -- it gave these bytes, and answered that it is at its end, or it did not so far
-abbrev pub gave : List ℕ → Bool → Past → Past
-gave bytes true past = gave_all bytes past
-gave bytes false past = took bytes past
+abbrev pub gave : List ℕ → Bool → History → History
+gave bytes true history = gave_all bytes history
+gave bytes false history = took bytes history
 
 -- it failed
-abbrev pub failed_once : Past → Past
-failed_once past = record past { failures = past.failures + 1 }
+abbrev pub failed_once : History → History
+failed_once history = record history { failures = history.failures + 1 }
 
--- It gave some bytes, and reading it failed so: it failed itself; or memory was refused, before its end or behind it.
-abbrev pub GaveSome : ReadError → (before after : Past) → Type 0
+-- It gave some bytes, and reading it failed so: it failed itself; or memory was refused, before its end or after it.
+abbrev pub GaveSome : ReadError → (before after : History) → Type 0
 GaveSome errors.Source before after = (bytes : List ℕ) × (after ≡ failed_once (took bytes before))
 GaveSome errors.OutOfMemory before after = (bytes : List ℕ) × (ended : Bool) × (after ≡ gave bytes ended before)
 
 -- it took a beginning of these bytes, and failed
-pub record TookBeginning (bytes : List ℕ) (before after : Past) : Type 0 where
+pub record TookBeginning (bytes : List ℕ) (before after : History) : Type 0 where
   pub count : ℕ
-  pub past : after ≡ failed_once (took (take count bytes) before)
+  pub history : after ≡ failed_once (took (take count bytes) before)

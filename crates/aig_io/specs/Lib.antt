@@ -6,7 +6,6 @@ pub mod Notes
 pub mod Output
 pub mod Digits
 pub mod Memory
-pub mod Streams
 pub mod Laws
 pub mod Lent
 pub mod Messages

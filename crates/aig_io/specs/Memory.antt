@@ -1,13 +1,13 @@
 -- Devices in memory, as their callers see them (this project's devices).
 use Rattle.std.specs.Prelude.{◌-◌, ◌==◌, ℕ, List, Bool, false, Option, None, Some, min, max, length}
 use Rattle.std.specs.Prelude.{Err, Ok, Result, drop, if◌then◌else◌}
-use Rattle.aig_io.specs.Devices.{Past, after_fetch, after_send, no_file, unused}
+use Rattle.aig_io.specs.Devices.{History, after_fetch, after_send, no_file, unused}
 use Rattle.aig_io.specs.declared.device.DeviceFault.{DeviceFault}
 
 -- `coming` are the bytes that it still gives, at most `piece` in a call; `fails_in` counts the calls before the one
 -- that fails
 pub record SourceInMemory : Type 0 where
-  pub past : Past
+  pub history : History
   pub coming : List ℕ
   pub piece : ℕ
   pub fails_in : Option ℕ
@@ -15,7 +15,7 @@ pub record SourceInMemory : Type 0 where
 -- it has room for `room` more bytes, and takes at most `piece` in a call; `longest` is the longest slice that it was
 -- handed
 pub record SinkInMemory : Type 0 where
-  pub past : Past
+  pub history : History
   pub room : ℕ
   pub piece : ℕ
   pub longest : ℕ
@@ -42,7 +42,7 @@ moved (Err fault) = 0
 
 abbrev pub new_source : List ℕ → ℕ → ℕ → SourceInMemory
 new_source bytes piece fails_at =
-    record { past = unused no_file; coming = bytes; piece = piece; fails_in = calls_before fails_at }
+    record { history = unused no_file; coming = bytes; piece = piece; fails_in = calls_before fails_at }
 
 -- how many bytes a call gives that does not fail
 abbrev pub given : SourceInMemory → ℕ → ℕ
@@ -51,14 +51,14 @@ given s room = min (min s.piece room) (length s.coming)
 -- after a fetch into these bytes that answered so
 abbrev pub source_after : List ℕ → Result ℕ DeviceFault → SourceInMemory → SourceInMemory
 source_after into answer s = record s {
-  past = after_fetch into answer s.past;
+  history = after_fetch into answer s.history;
   coming = drop (moved answer) s.coming;
   fails_in = one_call_later s.fails_in;
 }
 
 abbrev pub new_sink : ℕ → ℕ → ℕ → SinkInMemory
 new_sink room piece fails_at =
-    record { past = unused no_file; room = room; piece = piece; longest = 0; fails_in = calls_before fails_at }
+    record { history = unused no_file; room = room; piece = piece; longest = 0; fails_in = calls_before fails_at }
 
 -- how many of the bytes a call takes that does not fail
 abbrev pub accepted : SinkInMemory → List ℕ → ℕ
@@ -67,7 +67,7 @@ accepted s bytes = min (min s.piece (length bytes)) s.room
 -- after a send of these bytes that answered so
 abbrev pub sink_after : List ℕ → Result ℕ DeviceFault → SinkInMemory → SinkInMemory
 sink_after bytes answer s = record s {
-  past = after_send bytes answer s.past;
+  history = after_send bytes answer s.history;
   room = s.room - moved answer;
   longest = max s.longest (length bytes);
   fails_in = one_call_later s.fails_in;

@@ -12,16 +12,17 @@ use std::marker::Model;
 #[derive(Drop)]
 pub struct VecSink {
     bytes: Vec<u8>,
-    failures: u64,
+    failures: Record,
 }
 
 impl Model for VecSink {
-    ghost use Rattle.aig_io.specs.Devices.{Past, no_file};
+    ghost use Rattle.aig_io.specs.Devices.{History, no_file};
+    ghost use Rattle.aig_io.specs.Notes.{sum_of};
 
-    ghost Value = { Past };
+    ghost Value = { History };
 
     ghost view = { λ s.
-        record { origin = no_file; bytes = s.bytes.items; ends = 0; failures = s.failures } };
+        record { origin = no_file; bytes = s.bytes.items; ends = 0; failures = sum_of s.failures.notes } };
 }
 
 impl VecSink {
@@ -31,7 +32,7 @@ impl VecSink {
     {
         VecSink {
             bytes: Vec::new(alloc),
-            failures: 0,
+            failures: Record::new(),
         }
     }
 
@@ -41,7 +42,7 @@ impl VecSink {
     {
         Ok(VecSink {
             bytes: Vec::with_capacity(alloc, room)?,
-            failures: 0,
+            failures: Record::new(),
         })
     }
 
@@ -54,18 +55,14 @@ impl VecSink {
 }
 
 impl Sink for VecSink {
-    ghost past = { λ s. s };
+    ghost history = { λ s. s };
 
     fn send(&mut self, bytes: &[u8]) -> Result<usize, DeviceFault> {
         if self.bytes.extend_from_slice(bytes).is_err() {
-            self.failures += 1;
+            self.failures.note(&[1], &[]);
             return Err(DeviceFault);
         }
         Ok(bytes.len())
-    }
-
-    fn failures(&self) -> u64 {
-        self.failures
     }
 }
 
@@ -85,7 +82,7 @@ impl<'a> Model for SliceSource<'a> {
     ghost Value = { Lent };
 
     ghost view = { λ s. record {
-      past = record {
+      history = record {
         origin = lent s.bytes.now;
         bytes = take s.at s.bytes.now;
         ends = sum_of s.ends.notes;
@@ -101,7 +98,7 @@ impl<'a> Model for SliceSource<'a> {
 impl<'a> SliceSource<'a> {
     /// A source of these bytes. There are not more than 2^62 of them, which no memory holds.
     pub fn new(bytes: &'a [u8]) -> Result<Self, AllocError>
-        ensures { IfOk result (λ source. source.past ≡ unused (lent bytes.now)) }
+        ensures { IfOk result (λ source. source.history ≡ unused (lent bytes.now)) }
     {
         if bytes.len() > 1 << 62 {
             return Err(AllocError);
@@ -115,14 +112,14 @@ impl<'a> SliceSource<'a> {
 
     /// It gave a beginning of its bytes, and once it answered that it is at its end, all of them.
     pub fn gives_its_bytes(&self)
-        ensures { HasGiven self.now.past }
+        ensures { HasGiven self.now.history }
     {
         let _bytes = self.bytes;
     }
 }
 
 impl Source for SliceSource<'_> {
-    ghost past = { λ s. s.past };
+    ghost history = { λ s. s.history };
 
     ghost bound = { λ s. s.left };
 
@@ -134,10 +131,5 @@ impl Source for SliceSource<'_> {
             self.ends.note(&[1], &[]);
         }
         Ok(count)
-    }
-
-    fn failures(&self) -> u64 {
-        let _bytes = self.bytes;
-        0
     }
 }

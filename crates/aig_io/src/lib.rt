@@ -5,7 +5,7 @@
 //! `Sink`: `SliceSource` and `VecSink` over memory, `ReadSource` and `WriteSink` over std's readers
 //! and writers, and for tests `MemorySource` and `MemorySink`, of which a chosen call can fail.
 //!
-//! The definitions that matter most are `Past`, `TookBeginning` and `Put`.
+//! The definitions that matter most are `History`, `TookBeginning` and `Appended`.
 #![tactic(auto)]
 
 mod block;

@@ -1,7 +1,7 @@
 //! Devices in memory.
 ghost use Rattle.std.specs.Prelude.{◌≡◌, ◌^◌, ◌<◌, ◌≤◌, ◌↔◌, false, length, take};
 ghost use Rattle.std.specs.Prelude.{IsTrue, IfOk, is_ok, vec_len};
-ghost use Rattle.aig_io.specs.Devices.{block_size, CanFail};
+ghost use Rattle.aig_io.specs.Devices.{block_size};
 ghost use Rattle.aig_io.specs.Memory.{accepted, given, is_due, new_sink, new_source};
 ghost use Rattle.aig_io.specs.Memory.{one_call_later, sink_after};
 ghost use Rattle.aig_io.specs.Memory.{source_after};
@@ -18,7 +18,7 @@ pub struct MemorySource {
     at: usize,
     piece: usize,
     calls_before: Option<u64>,
-    failures: u64,
+    failures: Record,
     log: Record,
 }
 
@@ -31,11 +31,11 @@ impl Model for MemorySource {
     ghost Value = { SourceInMemory };
 
     ghost view = { λ s. record {
-      past = record {
+      history = record {
         origin = no_file;
         bytes = take s.at s.bytes.items;
         ends = sum_of s.log.notes;
-        failures = s.failures;
+        failures = sum_of s.failures.notes;
       };
       coming = drop s.at s.bytes.items;
       piece = s.piece;
@@ -58,7 +58,7 @@ impl MemorySource {
             at: 0,
             piece,
             calls_before: fails_at.checked_sub(1),
-            failures: 0,
+            failures: Record::new(),
             log: Record::new(),
         }
     }
@@ -79,13 +79,12 @@ fn fails_now(calls_before: &mut Option<u64>) -> bool
 }
 
 impl Source for MemorySource {
-    ghost past = { λ s. s.past };
+    ghost history = { λ s. s.history };
 
     ghost bound = { λ s. length s.coming };
 
     fn fetch(&mut self, into: &mut [u8]) -> Result<usize, DeviceFault>
         requires room { 0 < length into.old }
-        requires countable { CanFail self.old.past }
         ensures chosen { IsTrue (is_ok result) ↔ (is_due self.old.fails_in ≡ false) }
         ensures count { IfOk result (λ n. n ≡ given self.old (length into.old)) }
         ensures bytes { IfOk result (λ n. take n into.new ≡ take n self.old.coming) }
@@ -94,7 +93,7 @@ impl Source for MemorySource {
         ensures state { self.new ≡ source_after into.new result self.old }
     {
         if fails_now(&mut self.calls_before) {
-            self.failures += 1;
+            self.failures.note(&[1], &[]);
             return Err(DeviceFault);
         }
         let count = self.piece.min(into.len()).min(self.bytes.len() - self.at);
@@ -104,10 +103,6 @@ impl Source for MemorySource {
             self.log.note(&[1], &[]);
         }
         Ok(count)
-    }
-
-    fn failures(&self) -> u64 {
-        self.failures
     }
 }
 
@@ -120,18 +115,19 @@ pub struct MemorySink {
     piece: usize,
     longest: usize,
     calls_before: Option<u64>,
-    failures: u64,
+    failures: Record,
 }
 
 impl Model for MemorySink {
     ghost use Rattle.std.specs.Prelude.{vec_len, vec_capacity, ◌<◌, ◌≤◌, ◌+◌};
     ghost use Rattle.aig_io.specs.Devices.{no_file};
     ghost use Rattle.aig_io.specs.Memory.{SinkInMemory};
+    ghost use Rattle.aig_io.specs.Notes.{sum_of};
 
     ghost Value = { SinkInMemory };
 
     ghost view = { λ s. record {
-      past = record { origin = no_file; bytes = s.taken.items; ends = 0; failures = s.failures };
+      history = record { origin = no_file; bytes = s.taken.items; ends = 0; failures = sum_of s.failures.notes };
       room = s.room;
       piece = s.piece;
       longest = s.longest;
@@ -154,13 +150,13 @@ impl MemorySink {
             piece,
             longest: 0,
             calls_before: fails_at.checked_sub(1),
-            failures: 0,
+            failures: Record::new(),
         })
     }
 
     /// The bytes that it took.
     pub fn bytes(&self) -> &[u8]
-        ensures { result.now ≡ self.now.past.bytes }
+        ensures { result.now ≡ self.now.history.bytes }
     {
         self.taken.as_slice()
     }
@@ -174,12 +170,11 @@ impl MemorySink {
 }
 
 impl Sink for MemorySink {
-    ghost past = { λ s. s.past };
+    ghost history = { λ s. s.history };
 
     fn send(&mut self, bytes: &[u8]) -> Result<usize, DeviceFault>
         requires some { 0 < length bytes.now }
         requires short { length bytes.now ≤ block_size }
-        requires countable { CanFail self.old.past }
         ensures moves { IfOk result (λ n. 0 < n) }
         ensures chosen { IsTrue (is_ok result) ↔
             ((is_due self.old.fails_in ≡ false) × (0 < self.old.room)) }
@@ -189,7 +184,7 @@ impl Sink for MemorySink {
         self.longest = self.longest.max(bytes.len());
         let count = self.piece.min(bytes.len()).min(self.room);
         if fails_now(&mut self.calls_before) || count == 0 {
-            self.failures += 1;
+            self.failures.note(&[1], &[]);
             return Err(DeviceFault);
         }
         if self.taken.extend_from_slice(&bytes[..count]).is_err() {
@@ -197,9 +192,5 @@ impl Sink for MemorySink {
         }
         self.room -= count;
         Ok(count)
-    }
-
-    fn failures(&self) -> u64 {
-        self.failures
     }
 }

@@ -2,8 +2,7 @@
 ghost use Rattle.std.specs.Prelude.{◌≡◌, ◌+◌, ◌-◌, ◌*◌, ◌%◌, ◌<◌, ◌≤◌, [], ◌++◌};
 ghost use Rattle.std.specs.Prelude.{length, take, false, decimal, codes};
 ghost use Rattle.std.specs.Prelude.{is_err};
-ghost use Rattle.aig_io.specs.Devices.{CanFail};
-ghost use Rattle.aig_io.specs.Output.{output_to, Put, row_text};
+ghost use Rattle.aig_io.specs.Output.{Appended, output_to, row_text};
 ghost use Rattle.aig_io.specs.declared.block.TheConstants.{ROOM};
 ghost use Rattle.aig_io.specs.declared.digits.TheConstants.{MOST_DIGITS};
 
@@ -24,22 +23,17 @@ pub struct Output<'a, W: Sink> {
 }
 
 impl<'a, W: Sink> Model for Output<'a, W> {
-    ghost use Rattle.std.specs.Prelude.{◌≡◌, false};
-    ghost use Rattle.aig_io.specs.Devices.{CanFail};
     ghost use Rattle.aig_io.specs.Output.{Out, output_to};
 
     ghost Value = { Out W };
 
-    ghost view = { λ o. output_to W.past o.sink o.block o.failed };
-
-    ghost invariant = { λ o. o.failed ≡ false → CanFail (W.past o.sink.now) };
+    ghost view = { λ o. output_to W.history o.sink o.block o.failed };
 }
 
 impl<'a, W: Sink> Output<'a, W> {
     /// Nothing is on its way yet.
     pub fn new(sink: &'a mut W) -> Self
-        requires { CanFail (W.past sink.old) }
-        ensures { result ≡ output_to W.past sink.entry [] false }
+        ensures { result ≡ output_to W.history sink.entry [] false }
     {
         Output {
             block: Block::new(),
@@ -51,7 +45,7 @@ impl<'a, W: Sink> Output<'a, W> {
     /// Sends what is held, unless the sink failed before.
     #[inline(never)]
     fn send_held(&mut self)
-        ensures put { Put self.old self.new [] }
+        ensures put { Appended self.old self.new [] }
         ensures empty { self.new.held ≡ [] }
     {
         if !self.failed {
@@ -71,7 +65,7 @@ impl<'a, W: Sink> Output<'a, W> {
     /// Sends what is held. Ok means that the sink took all that was put. After a failure it sends
     /// nothing, and reports the failure again.
     pub fn flush(&mut self) -> Result<(), DeviceFault>
-        ensures put { Put self.old self.new [] }
+        ensures put { Appended self.old self.new [] }
         ensures empty { self.new.held ≡ [] }
         ensures reported { self.new.failed ≡ is_err result }
     {
@@ -85,7 +79,7 @@ impl<'a, W: Sink> Output<'a, W> {
     /// Sends what is held, and hands the sink back. Ok means that the sink took all that was put.
     pub fn finish(mut self) -> (Result<(), DeviceFault>, &'a mut W)
         ensures same { result.1.ghost_name ≡ self.entry.name }
-        ensures put { Put self.entry (output_to W.past result.1 [] (is_err result.0)) [] }
+        ensures put { Appended self.entry (output_to W.history result.1 [] (is_err result.0)) [] }
     {
         let sent = self.flush();
         (sent, self.into_sink())
@@ -94,7 +88,7 @@ impl<'a, W: Sink> Output<'a, W> {
     /// Hands the sink back. What is held is dropped.
     pub fn into_sink(self) -> &'a mut W
         ensures same { result.ghost_name ≡ self.entry.name }
-        ensures sink { self.entry ≡ output_to W.past result self.entry.held self.entry.failed }
+        ensures sink { self.entry ≡ output_to W.history result self.entry.held self.entry.failed }
     {
         let Output {
             block: _,
@@ -108,7 +102,7 @@ impl<'a, W: Sink> Output<'a, W> {
     fn send_straight(&mut self, bytes: &[u8])
         requires empty { self.old.held ≡ [] }
         requires short { length bytes.now ≤ ROOM }
-        ensures put { Put self.old self.new bytes.now }
+        ensures put { Appended self.old self.new bytes.now }
         ensures empty { self.new.held ≡ [] }
     {
         if !self.failed {
@@ -123,7 +117,7 @@ impl<'a, W: Sink> Output<'a, W> {
         ensures left { 0 < length bytes.now → result < length bytes.now }
         ensures fits { length bytes.now ≤ result + ROOM }
         ensures whole { result % ROOM ≡ 0 }
-        ensures put { Put self.old self.new (take result bytes.now) }
+        ensures put { Appended self.old self.new (take result bytes.now) }
         ensures empty { self.new.held ≡ [] }
     {
         let mut at = 0;
@@ -139,7 +133,7 @@ impl<'a, W: Sink> Output<'a, W> {
         requires empty { self.old.held ≡ [] }
         ensures left { 0 < length bytes.now
             → length self.new.held ≡ (length bytes.now - 1) % ROOM + 1 }
-        ensures put { Put self.old self.new bytes.now }
+        ensures put { Appended self.old self.new bytes.now }
     {
         let at = self.send_blocks(bytes);
         self.block.fill(bytes.split_at(at).1);
@@ -149,7 +143,7 @@ impl<'a, W: Sink> Output<'a, W> {
     #[inline(never)]
     fn put_past(&mut self, bytes: &[u8])
         requires { ROOM < length self.old.held + length bytes.now }
-        ensures put { Put self.old self.new bytes.now }
+        ensures put { Appended self.old self.new bytes.now }
         ensures left { length self.new.held
             ≡ (length self.old.held + length bytes.now - 1) % ROOM + 1 }
     {
@@ -161,7 +155,7 @@ impl<'a, W: Sink> Output<'a, W> {
     /// Adds bytes. What is held is sent only when the block is full and another byte comes.
     #[inline]
     pub fn put(&mut self, bytes: &[u8])
-        ensures put { Put self.old self.new bytes.now }
+        ensures put { Appended self.old self.new bytes.now }
         ensures kept { length self.old.held + length bytes.now ≤ ROOM
             → self.new.sink ≡ self.old.sink }
         ensures left { 0 < length bytes.now
@@ -176,7 +170,7 @@ impl<'a, W: Sink> Output<'a, W> {
 
     /// Adds a number in decimal.
     pub fn put_number(&mut self, number: u64)
-        ensures put { Put self.old self.new (decimal number) }
+        ensures put { Appended self.old self.new (decimal number) }
         ensures kept { length self.old.held + MOST_DIGITS ≤ ROOM → self.new.sink ≡ self.old.sink }
         ensures left { length self.new.held
             ≡ (length self.old.held + length (decimal number) - 1) % ROOM + 1 }
@@ -192,7 +186,7 @@ impl<'a, W: Sink> Output<'a, W> {
 
     /// Adds a space and a number.
     fn put_spaced_number(&mut self, number: u64)
-        ensures put { Put self.old self.new (codes " " ++ decimal number) }
+        ensures put { Appended self.old self.new (codes " " ++ decimal number) }
         ensures left { length self.new.held
             ≡ (length self.old.held + length (codes " " ++ decimal number) - 1) % ROOM + 1 }
     {
@@ -203,7 +197,7 @@ impl<'a, W: Sink> Output<'a, W> {
     /// Adds a line of numbers, where the block may have no room for the longest.
     #[inline(never)]
     fn put_row_past(&mut self, first: u64, others: &[u64])
-        ensures put { Put self.old self.new (row_text first others.now) }
+        ensures put { Appended self.old self.new (row_text first others.now) }
         ensures left { length self.new.held
             ≡ (length self.old.held + length (row_text first others.now) - 1) % ROOM + 1 }
     {
@@ -218,7 +212,7 @@ impl<'a, W: Sink> Output<'a, W> {
     #[inline(always)]
     pub fn put_row(&mut self, first: u64, others: &[u64])
         requires { (length others.now + 1) * (MOST_DIGITS + 1) ≤ ROOM }
-        ensures put { Put self.old self.new (row_text first others.now) }
+        ensures put { Appended self.old self.new (row_text first others.now) }
         ensures kept { length self.old.held + (length others.now + 1) * (MOST_DIGITS + 1) ≤ ROOM
             → self.new ≡ record self.old { held = self.old.held ++ row_text first others.now } }
         ensures left { length self.new.held
@@ -236,7 +230,7 @@ impl<'a, W: Sink> Output<'a, W> {
     fn put_long_line<L: Line>(&mut self, room: &mut [u8], line: &L, state: &mut L::State)
         requires whole { L.is_whole line.now state.old }
         requires room { L.size line.now state.old ≤ length room.old }
-        ensures put { Put self.old self.new (L.text line.now state.old) }
+        ensures put { Appended self.old self.new (L.text line.now state.old) }
         ensures left { 0 < length (L.text line.now state.old) → length self.new.held
             ≡ (length self.old.held + length (L.text line.now state.old) - 1) % ROOM + 1 }
         ensures state { L.leads line.now state.old state.new }
@@ -252,7 +246,7 @@ impl<'a, W: Sink> Output<'a, W> {
     pub fn put_line<L: Line>(&mut self, room: &mut [u8], line: &L, state: &mut L::State)
         requires whole { L.is_whole line.now state.old }
         requires room { L.size line.now state.old ≤ length room.old }
-        ensures put { Put self.old self.new (L.text line.now state.old) }
+        ensures put { Appended self.old self.new (L.text line.now state.old) }
         ensures left { 0 < length (L.text line.now state.old) → length self.new.held
             ≡ (length self.old.held + length (L.text line.now state.old) - 1) % ROOM + 1 }
         ensures state { L.leads line.now state.old state.new }

@@ -27,6 +27,7 @@ impl Record {
     }
 
     /// Notes a call, by its number, with the bytes that it had.
+    #[inline(always)]
     pub fn note(&mut self, _numbers: &[u64], _bytes: &[u8])
         ensures { self.new.notes ≡ note_of _numbers.now _bytes.now ∷ self.old.notes }
     {}

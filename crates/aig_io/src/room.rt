@@ -6,7 +6,7 @@ use std::alloc::AllocError;
 /// How many bytes there is room for at first, and how much room is added where there is little.
 pub(crate) const PIECE: usize = 65536;
 
-/// Makes room behind so many bytes, where there is little. It is cleared, so it grows by pieces:
+/// Makes room after so many bytes, where there is little. It is cleared, so it grows by pieces:
 /// one is still in the cache when bytes come, and what a file does not fill is not cleared.
 pub(crate) fn make_room(bytes: &mut Vec<u8>, len: usize) -> Result<(), AllocError>
     requires within { len ≤ vec_len bytes.old }

@@ -1,7 +1,7 @@
 //! The readers and writers of std as devices.
 ghost use Rattle.std.specs.Prelude.{◌≡◌, ◌≤◌, ◌^◌};
 ghost use Rattle.aig_io.specs.Devices.{no_file, unused};
-ghost use Rattle.aig_io.specs.Notes.{noted};
+ghost use Rattle.aig_io.specs.Notes.{noted, sum_of};
 
 use crate::device::{DeviceFault, Sink, Source};
 use crate::record::Record;
@@ -12,7 +12,7 @@ use std::io::{Read, Write};
 pub struct ReadSource<R> {
     reader: R,
     left: u64,
-    failures: u64,
+    failures: Record,
     log: Record,
     ghost limited: { left ≤ 2 ^ 62 },
 }
@@ -22,25 +22,25 @@ impl<R> ReadSource<R> {
     pub fn new(reader: R) -> Self
         ensures reader { result.reader ≡ reader }
         ensures left { result.left ≡ 2 ^ 62 }
-        ensures unused { noted result.log.notes result.failures ≡ unused no_file }
+        ensures unused { noted result.log.notes (sum_of result.failures.notes) ≡ unused no_file }
     {
         ReadSource {
             reader,
             left: 1 << 62,
-            failures: 0,
+            failures: Record::new(),
             log: Record::new(),
         }
     }
 }
 
 impl<R: Read> Source for ReadSource<R> {
-    ghost past = { λ s. noted s.log.notes s.failures };
+    ghost history = { λ s. noted s.log.notes (sum_of s.failures.notes) };
 
     ghost bound = { λ s. s.left };
 
     fn fetch(&mut self, into: &mut [u8]) -> Result<usize, DeviceFault> {
         if self.left == 0 {
-            self.failures += 1;
+            self.failures.note(&[1], &[]);
             return Err(DeviceFault);
         }
         let room = self.left.min(into.len() as u64) as usize;
@@ -55,14 +55,10 @@ impl<R: Read> Source for ReadSource<R> {
                 Ok(count)
             }
             Err(_) => {
-                self.failures += 1;
+                self.failures.note(&[1], &[]);
                 Err(DeviceFault)
             }
         }
-    }
-
-    fn failures(&self) -> u64 {
-        self.failures
     }
 }
 
@@ -70,7 +66,7 @@ impl<R: Read> Source for ReadSource<R> {
 #[derive(Drop)]
 pub struct WriteSink<W> {
     writer: W,
-    failures: u64,
+    failures: Record,
     log: Record,
 }
 
@@ -78,18 +74,18 @@ impl<W> WriteSink<W> {
     /// A sink to the writer.
     pub fn new(writer: W) -> Self
         ensures writer { result.writer ≡ writer }
-        ensures unused { noted result.log.notes result.failures ≡ unused no_file }
+        ensures unused { noted result.log.notes (sum_of result.failures.notes) ≡ unused no_file }
     {
         WriteSink {
             writer,
-            failures: 0,
+            failures: Record::new(),
             log: Record::new(),
         }
     }
 }
 
 impl<W: Write> Sink for WriteSink<W> {
-    ghost past = { λ s. noted s.log.notes s.failures };
+    ghost history = { λ s. noted s.log.notes (sum_of s.failures.notes) };
 
     fn send(&mut self, bytes: &[u8]) -> Result<usize, DeviceFault> {
         match self.writer.write(bytes) {
@@ -98,13 +94,9 @@ impl<W: Write> Sink for WriteSink<W> {
                 Ok(count)
             }
             _ => {
-                self.failures += 1;
+                self.failures.note(&[1], &[]);
                 Err(DeviceFault)
             }
         }
-    }
-
-    fn failures(&self) -> u64 {
-        self.failures
     }
 }

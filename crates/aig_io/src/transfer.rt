@@ -1,7 +1,7 @@
 //! All bytes of a source, and all bytes to a sink.
 ghost use Rattle.std.specs.Prelude.{◌≡◌, ◌+◌, ◌≤◌, false, length, vec_len, Some};
 ghost use Rattle.std.specs.Prelude.{IfErr, IfOk, OnErr, OnOk};
-ghost use Rattle.aig_io.specs.Devices.{block_size, CanFail, gave_all, GaveSome};
+ghost use Rattle.aig_io.specs.Devices.{block_size, gave_all, GaveSome};
 ghost use Rattle.aig_io.specs.Devices.{took, TookBeginning};
 ghost use Rattle.aig_io.specs.Messages.{read_error_text};
 ghost use Rattle.aig_io.specs.Windows.{Filled};
@@ -54,11 +54,11 @@ impl From<AllocError> for ReadError {
 
 /// Adds all that the source still gives, unless it or an allocation fails: then some may be lost.
 pub fn read_to_end<R: Source>(source: &mut R, bytes: &mut Vec<u8>) -> Result<(), ReadError>
-    requires { CanFail (R.past source.old) }
     ensures ok { OnOk result (Filled bytes.old.items bytes.new.items false
-        (R.past source.old) (R.past source.new)) }
+        (R.history source.old) (R.history source.new)) }
     ensures bound { OnOk result (vec_len bytes.new ≤ R.bound source.old + vec_len bytes.old) }
-    ensures err { IfErr result (λ error. GaveSome error (R.past source.old) (R.past source.new)) }
+    ensures err { IfErr result (λ error. GaveSome error (R.history source.old)
+        (R.history source.new)) }
 {
     let mut len = bytes.len();
     loop {
@@ -74,9 +74,10 @@ pub fn read_to_end<R: Source>(source: &mut R, bytes: &mut Vec<u8>) -> Result<(),
 
 /// Reads all that the source still gives, unless it or an allocation fails: then some may be lost.
 pub fn read_all<R: Source>(alloc: Global, source: &mut R) -> Result<Vec<u8>, ReadError>
-    requires { CanFail (R.past source.old) }
-    ensures ok { IfOk result (λ all. R.past source.new ≡ gave_all all.items (R.past source.old)) }
-    ensures err { IfErr result (λ error. GaveSome error (R.past source.old) (R.past source.new)) }
+    ensures ok { IfOk result (λ all. R.history source.new
+        ≡ gave_all all.items (R.history source.old)) }
+    ensures err { IfErr result (λ error. GaveSome error (R.history source.old)
+        (R.history source.new)) }
 {
     let mut all = Vec::new(alloc);
     read_to_end(source, &mut all)?;
@@ -86,9 +87,8 @@ pub fn read_all<R: Source>(alloc: Global, source: &mut R) -> Result<Vec<u8>, Rea
 /// Sends all bytes. On an error the sink took a beginning of them.
 pub(crate) fn send_all<W: Sink>(sink: &mut W, bytes: &[u8]) -> Result<(), DeviceFault>
     requires short { length bytes.now ≤ block_size }
-    requires countable { CanFail (W.past sink.old) }
-    ensures ok { OnOk result (W.past sink.new ≡ took bytes.now (W.past sink.old)) }
-    ensures err { OnErr result (TookBeginning bytes.now (W.past sink.old) (W.past sink.new)) }
+    ensures ok { OnOk result (W.history sink.new ≡ took bytes.now (W.history sink.old)) }
+    ensures err { OnErr result (TookBeginning bytes.now (W.history sink.old) (W.history sink.new)) }
 {
     let mut at = 0;
     while at < bytes.len() {

@@ -1,7 +1,7 @@
 //! A window over the bytes of a source.
 ghost use Rattle.std.specs.Prelude.{◌≡◌, ◌+◌, ◌^◌, ◌<◌, ◌≤◌, ◌++◌, []};
 ghost use Rattle.std.specs.Prelude.{drop, length, IfErr, IfOk, IsTrue, OnOk};
-ghost use Rattle.aig_io.specs.Devices.{CanFail, GaveSome};
+ghost use Rattle.aig_io.specs.Devices.{GaveSome};
 ghost use Rattle.aig_io.specs.Windows.{Filled};
 
 use crate::device::Source;
@@ -10,7 +10,7 @@ use crate::transfer::ReadError;
 use std::alloc::{AllocError, Global};
 use std::marker::Model;
 
-/// Bytes that a source gave, not let go yet, and room behind them.
+/// Bytes that a source gave, not let go yet, and room after them.
 #[derive(Drop)]
 pub struct Window {
     bytes: Vec<u8>,
@@ -66,16 +66,15 @@ impl Window {
 
     /// Fetches more bytes, and answers whether any came. None come at the end of the source.
     pub fn fill<R: Source>(&mut self, source: &mut R) -> Result<bool, ReadError>
-        requires { CanFail (R.past source.old) }
         ensures ok { IfOk result (λ more.
-            Filled self.old self.new more (R.past source.old) (R.past source.new)) }
+            Filled self.old self.new more (R.history source.old) (R.history source.new)) }
         ensures bound { OnOk result
             (R.bound source.new + length self.new ≡ R.bound source.old + length self.old) }
         ensures fewer { IfOk result (λ more.
             IsTrue more → R.bound source.new < R.bound source.old) }
         ensures limited { OnOk result (R.bound source.old ≤ 2 ^ 62) }
         ensures err { IfErr result (λ error.
-            GaveSome error (R.past source.old) (R.past source.new)) }
+            GaveSome error (R.history source.old) (R.history source.new)) }
     {
         make_room(&mut self.bytes, self.len)?;
         let count = source.fetch(&mut self.bytes[self.len..])?;

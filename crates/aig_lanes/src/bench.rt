@@ -23,7 +23,7 @@ use aig_circuit::OutOfMemory;
 use aig_step::{Columns, Machine};
 use std::alloc::Global;
 
-/// A step of each run that has it. What it shows is kept, and the state behind it.
+/// A step of each run that has it. What it shows is kept, and the state after it.
 fn take_step(
     machine: &Machine,
     shown: &LaneColumns,

@@ -1,5 +1,5 @@
 //! The inputs of runs as bits. They are made run by run, where the lines of a stimulus stand one
-//! behind the other: a step of all runs takes a line of each, and those lie far apart.
+//! after the other: a step of all runs takes a line of each, and those lie far apart.
 ghost use Rattle.std.specs.Prelude.{◌≡◌, ◌+◌, ◌<◌, ◌≤◌, ℕ, IfOk, List, []};
 ghost use Rattle.std.specs.Prelude.{length, slice_index_or, slice_set};
 ghost use Rattle.std.specs.List.{All};
@@ -35,7 +35,7 @@ fn other_than(text: &[u8], first: usize, character: u8) -> u64
         .to_bitmask()
 }
 
-/// The characters from one on, fewer than 64, and zeros behind them.
+/// The characters from one on, fewer than 64, and zeros after them.
 fn pad(text: &[u8], first: usize) -> [u8; 64]
     requires { first ≤ length text.now × length text.now < first + 64 }
     ensures { (k : ℕ) → first + k < length text.now

@@ -21,7 +21,7 @@ use std::simd::Simd;
 use std::simd::prelude::*;
 
 /// Eight inputs in all lanes: a byte for each lane, with a bit for each input. Eight bytes more
-/// stand behind them, so that the same lane of these inputs and of the next do not share a place of
+/// stand after them, so that the same lane of these inputs and of the next do not share a place of
 /// the processor's cache.
 type Eight = [u8; 264];
 

@@ -27,9 +27,9 @@ use aig_circuit::{Circuit, Latch, Listing, Lit, OutOfMemory, Reset, Val};
 use aig_step::{Columns, Machine, write_text_column};
 use std::alloc::{AllocError, Global};
 
-/// What steps show. In the lanes of a sheet it stands step behind step: the state, the outputs, and
-/// the bad states and constraints where they are asked for. Behind the last step stands the state
-/// that comes after it, so that the next state of a step is the state of the one behind it.
+/// What steps show. In the lanes of a sheet it stands step after step: the state, the outputs, and
+/// the bad states and constraints where they are asked for. After the last step stands the state
+/// that comes after it, so that the next state of a step is the state of the one after it.
 #[derive(Drop)]
 pub struct LaneColumns {
     columns: Columns,
@@ -43,8 +43,7 @@ pub struct LaneColumns {
     resets: Vec<Lit>,
     /// Where the values of variables stand in a table.
     pub(crate) places: Places,
-    /// What is put for a step, over places: what it shows beside its state, and the state behind
-    /// it.
+    /// What is put for a step, over places: what it shows beside its state, and the state after it.
     literals: Vec<Lit>,
     ghost counted: { outputs + (bad + constraints) + length resets.items ≡ length literals.items },
 }
@@ -69,7 +68,7 @@ fn planes_of_literals(planes: &[Plane], literals: &[Lit], first: usize) -> [Plan
     eight
 }
 
-/// Eight are put at once; what stands behind the last one is put over by what is put next.
+/// Writes eight at a time; the surplus is overwritten.
 fn show_literals(literals: &[Lit], planes: &[Plane], sheet: &mut Sheet, at: usize)
     requires fits { at + length literals.now < 2 ^ 64 }
     requires below { All (IsLiteralBelow (length planes.now / 2)) literals.now }
@@ -210,7 +209,7 @@ impl LaneColumns {
         put_literal_planes(&self.resets, table, state);
     }
 
-    /// Puts what a step shows beside its state, and the state behind it.
+    /// Puts what a step shows beside its state, and the state after it.
     pub fn show(&self, table: &[Plane], state: &mut [Plane], sheet: &mut Sheet, step: usize)
         requires state { length state.old ≡ 2 * length self.now.resets.items }
         requires fits { (step + 1) * shown_size self.now < 2 ^ 64 }

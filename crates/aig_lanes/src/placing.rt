@@ -62,8 +62,8 @@ fn last_readers(
     Some(last)
 }
 
-/// Whether a search is worth its time for so many steps, each of which gains by it. It takes longer
-/// the more gates read one that stands far before them; where most do, there are no few places.
+/// Whether a search pays off for so many steps, each of which gains by it: it does unless most
+/// gates read distant gates, where it takes long and finds no few places.
 fn is_worth(first: usize, pairs: &[Pair], steps: usize) -> bool
     requires { first + length pairs.now ≤ 2 ^ 32 }
 {
@@ -102,7 +102,7 @@ struct Placing {
     places: Vec<u32>,
     /// Of each place the variable that stands there.
     holders: Vec<u32>,
-    /// Places whose variables nothing reads any more, and behind them room for more.
+    /// Places whose variables nothing reads any more, and after them room for more.
     free: Vec<u32>,
     /// How many places are free.
     free_count: usize,

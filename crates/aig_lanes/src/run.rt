@@ -21,7 +21,7 @@ pub struct FullRow {
     pub inputs: Listing<Val>,
     /// The values of the outputs.
     pub outputs: Listing<Val>,
-    /// The state behind the step.
+    /// The state after the step.
     pub next: Listing<Val>,
     /// The values of bad states.
     pub bad: Listing<Val>,

@@ -71,9 +71,9 @@ fn flat(rows: [u8x32; 8]) -> [u8; 256]
 }
 
 /// The bytes of every other plane from this one on: eight for the first eight lanes, one of each
-/// plane, then eight for the next eight lanes, and so on. A weaving moves the last bit of a byte's
-/// place to the front of the place. So three of them bring the number of the plane, which was
-/// before the number of the byte in it, behind that.
+/// plane, then eight for the next eight lanes, and so on. A weaving is a perfect shuffle: it moves
+/// the last bit of a byte's place to the front of the place. Three perfect shuffles swap plane and
+/// byte number.
 #[inline(always)]
 pub(crate) fn transpose(planes: &[Plane; 16], first: usize) -> [u8; 256]
     requires { first < 2 }

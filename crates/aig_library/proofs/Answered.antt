@@ -1,8 +1,9 @@
 -- What a call answers, once it is known what was made.
 use Rattle.std.proofs.Common.{◌≡◌, ◌⊎◌, List, ℕ, Result, Ok, Err, IfErr, IfOk, OnOk, inl, inr, subst, sym}
+use Rattle.aig_fault.specs.Stopping.{StopsFor}
 use Rattle.aig_fault.specs.declared.fault.Fault.{Fault}
-use Rattle.aig_engines.specs.declared.stopped.Stopped.{Stopped}
-use Rattle.aig_engines.specs.declared.stopped.Stopped.TheVariants as stops
+use Rattle.aig_fault.specs.declared.stopped.Stopped.{Stopped}
+use Rattle.aig_fault.specs.declared.stopped.Stopped.TheVariants as stops
 use Rattle.aig_library.specs.Answers.{Refused, ShowAnswers, TextAnswers}
 use Rattle.aig_library.specs.Numbers as numbers
 use Rattle.aig_library.specs.Outcome.{IsPlaced, StopsInMemory, ending, out_of_memory, outcome_of}
@@ -23,6 +24,11 @@ stops_as This Then (stops.Refused fault) then why = then fault why
 stops_as This Then stops.OutOfMemory then why = tt
 stops_as This Then stops.ReadFailed then why = tt
 stops_as This Then stops.WriteFailed then why = tt
+
+-- what stops a call that calls no device stops it in memory
+pub stops_within : (Holds : Fault → Type 0) (stopped : Stopped) → StopsFor Holds stopped → StopsInMemory Holds stopped
+stops_within Holds (stops.Refused fault) why = why
+stops_within Holds stopped why = tt
 
 -- what holds of a text holds of what has it
 pub text_is : {V : Type 0} (items : V → List ℕ) (IsText : List ℕ → Type 0) (wanted : List ℕ) (made : Result V Stopped)

@@ -5,21 +5,21 @@ use Rattle.std.proofs.lemmas.Bool.{false≢true}
 use Rattle.std.proofs.lemmas.List.{append-nil}
 use Rattle.aig_circuit.specs.Wellformed.{IsWellFormed}
 use Rattle.aig_circuit.specs.declared.circuit.Circuit.{Circuit}
-use Rattle.aig_arrays.specs.Laws.{IsToldBy}
+use Rattle.aig_arrays.specs.Laws.{IsDecodedFrom}
 use Rattle.aig_arrays.specs.Ordered.{IsNumberedImage}
-use Rattle.aig_arrays.specs.Told.{told}
+use Rattle.aig_arrays.specs.Decoded.{decoded}
 use Rattle.aig_arrays.specs.Words.{HasWords, circuit_bytes, circuit_words, counts_of}
-use Rattle.aig_arrays.specs.declared.fault.ArrayFault.{ArrayFault}
-use Rattle.aig_arrays.proofs.Grammar.Tells.{is_told}
-use Rattle.aig_arrays.proofs.Grammar.Told.{told_has_words}
+use Rattle.aig_fault.specs.declared.stopped.Stopped.{Stopped}
+use Rattle.aig_arrays.proofs.Grammar.Tells.{is_decoded}
+use Rattle.aig_arrays.proofs.Grammar.Decoded.{decoded_has_words}
 use Rattle.aig_binary.proofs.Files.{one_circuit}
 use Rattle.aig_binary.specs.BinaryText.{binary_text}
 use Rattle.aig_command.specs.Aiger.{largest_index}
 use Rattle.aig_command.specs.declared.request.ToAig.{ToAig}
-use Rattle.aig_engines.proofs.Trips.{ascii_file, binary_file}
-use Rattle.aig_engines.proofs.TripsExist.{well_formed_file}
-use Rattle.aig_engines.specs.Conversion.{IsConversionText, IsTextAs}
-use Rattle.aig_engines.specs.File.{IsFileOf}
+use Rattle.aig_commands.proofs.Trips.{ascii_file, binary_file}
+use Rattle.aig_commands.proofs.TripsExist.{well_formed_file}
+use Rattle.aig_commands.specs.Conversion.{IsConversionText, IsTextAs}
+use Rattle.aig_commands.specs.File.{IsFileOf}
 use Rattle.aig_image.proofs.Imaging.Ordered.{image_is_one, image_is_ordered}
 use Rattle.aig_image.specs.Image.{IsBinaryImage}
 use Rattle.aig_library.specs.ArrayLaws.{OrderedArraysAreConverted, ReadAndWrittenIsConverted}
@@ -55,10 +55,10 @@ module _ (request : ToAig) (is_ascii : Bool) (plain : IsPlain request is_ascii) 
       subst (λ c. IsTextAs is_ascii false c text) source
       (rw (plain.form, plain.strip, plain.keep_map, plain.outputs_as_bad) at h.written_as)
 
--- what is told of the arrays of a circuit without numbers
-told_again : (c : Circuit) → IsWellFormed c
-    → told (counts_of c) (circuit_words c ++ []) (circuit_bytes c) ≡ Ok c
-told_again c good = rw (append-nil (circuit_words c)) (is_told c good)
+-- what is decoded from the arrays of a circuit without numbers
+decoded_again : (c : Circuit) → IsWellFormed c
+    → decoded (counts_of c) (circuit_words c ++ []) (circuit_bytes c) ≡ Ok c
+decoded_again c good = rw (append-nil (circuit_words c)) (is_decoded c good)
 
 -- without the option the circuit itself is shown, and no numbers
 shown_itself : (found shown : Circuit) (ns : List ℕ) → IsShownAs (has 0 numbers.ordered) found shown ns
@@ -72,10 +72,10 @@ arrays_read max_var input made read =
     read.is_made ∙ ap₂ arrays_of is.0 is.1
 
 read_tells : (max_var : ℕ) (input : List ℕ) (made : Arrays) (read : IsReadAs 0 max_var input made)
-    → told made.counts made.words made.bytes ≡ Ok read.found
+    → decoded made.counts made.words made.bytes ≡ Ok read.found
 read_tells max_var input made read =
-    let again = told_again read.found (well_formed_file input max_var read.found read.read) in
-    subst (λ (m : Arrays). told m.counts m.words m.bytes ≡ Ok read.found)
+    let again = decoded_again read.found (well_formed_file input max_var read.found read.read) in
+    subst (λ (m : Arrays). decoded m.counts m.words m.bytes ≡ Ok read.found)
     (sym (arrays_read max_var input made read)) again
 
 plain_conversion : (is_ascii : Bool) (max_var : ℕ)
@@ -85,8 +85,8 @@ plain_conversion true max_var =
 plain_conversion false max_var =
     record { form = refl; strip = refl; keep_map = refl; undo_map = refl; outputs_as_bad = refl }
 
-one_told : (first : Result Circuit ArrayFault) (c d : Circuit) → first ≡ Ok c → first ≡ Ok d → c ≡ d
-one_told first c d is is_too = cc
+one_decoded : (first : Result Circuit Stopped) (c d : Circuit) → first ≡ Ok c → first ≡ Ok d → c ≡ d
+one_decoded first c d is is_too = cc
 
 pub read_and_written : ReadAndWrittenIsConverted
 read_and_written is_ascii max_var input text made read =
@@ -94,17 +94,17 @@ read_and_written is_ascii max_var input text made read =
     let plain = plain_conversion is_ascii max_var in
     let tells = read_tells max_var input made read in (
       λ t. converts request is_ascii plain input text read.found read.read
-          (subst (λ c. IsTextAs is_ascii false c text) (one_told _ t.found read.found t.is_told tells) t.is_text),
+          (subst (λ c. IsTextAs is_ascii false c text) (one_decoded _ t.found read.found t.is_decoded tells) t.is_text),
       λ h. record {
         found = read.found;
-        is_told = tells;
+        is_decoded = tells;
         is_text = converted request is_ascii plain input text read.found read.read h;
       },
     )
 
-module _ (given : Arrays) (text : List ℕ) (is : IsTextOf true (told given.counts given.words given.bytes) text) where
-  tells : IsToldBy given.counts given.words given.bytes is.found
-  tells = told_has_words given.counts given.words given.bytes is.found is.is_told
+module _ (given : Arrays) (text : List ℕ) (is : IsTextOf true (decoded given.counts given.words given.bytes) text) where
+  tells : IsDecodedFrom given.counts given.words given.bytes is.found
+  tells = decoded_has_words given.counts given.words given.bytes is.found is.is_decoded
 
   is_file : IsFileOf text largest_index is.found
   is_file = inl (ascii_file is.found text tells.well_formed is.is_text)

@@ -9,19 +9,19 @@ use Rattle.aig_command.specs.declared.request.Unroll.{Unroll}
 use Rattle.aig_invariant.specs.Invariant.{with_invariant}
 use Rattle.aig_invariant.specs.Outcome.{HasCubes}
 use Rattle.aig_io.specs.Runs.{AtEnd}
-use Rattle.aig_engines.proofs.TripsExist.{well_formed_file}
-use Rattle.aig_engines.specs.Jobs.{Makes, Refuses, WritesText, read_for, reads_of, source_of}
-use Rattle.aig_engines.specs.Jobs.{sources_left, text_of}
-use Rattle.aig_engines.specs.Conversion.{IsConversionRefused, IsConversionText}
-use Rattle.aig_engines.specs.Proving.{IsInvariantText, IsModelProved, IsNeverText, IsStrengthened}
-use Rattle.aig_engines.specs.Reaching.{IsReachText}
-use Rattle.aig_engines.specs.Refuting.{IsNoneText}
-use Rattle.aig_engines.specs.Unrolling.{IsUnrollingRefused, IsUnrollingText}
-use Rattle.aig_engines.specs.declared.answer.Answer.{Answer as AnswerRecord}
-use Rattle.aig_engines.specs.declared.job.Job.{Job}
-use Rattle.aig_engines.specs.declared.job.Job.TheVariants as jobs
-use Rattle.aig_engines.specs.declared.job.Reading.{Reading}
-use Rattle.aig_engines.specs.declared.job.Reading.TheVariants as readings
+use Rattle.aig_commands.proofs.TripsExist.{well_formed_file}
+use Rattle.aig_commands.specs.Jobs.{Makes, Refuses, WritesText, read_for, reads_of, source_of}
+use Rattle.aig_commands.specs.Jobs.{sources_left, text_of}
+use Rattle.aig_commands.specs.Conversion.{IsConversionRefused, IsConversionText}
+use Rattle.aig_commands.specs.Proving.{IsInvariantModel, IsInvariantText, IsNeverText, IsStrengthened}
+use Rattle.aig_commands.specs.Reaching.{IsReachText}
+use Rattle.aig_commands.specs.Refuting.{IsNoneText}
+use Rattle.aig_commands.specs.Unrolling.{IsUnrollingRefused, IsUnrollingText}
+use Rattle.aig_commands.specs.declared.answer.Answer.{Answer as AnswerRecord}
+use Rattle.aig_commands.specs.declared.job.Job.{Job}
+use Rattle.aig_commands.specs.declared.job.Job.TheVariants as jobs
+use Rattle.aig_commands.specs.declared.job.Reading.{Reading}
+use Rattle.aig_commands.specs.declared.job.Reading.TheVariants as readings
 use Rattle.aig_fault.specs.declared.fault.Fault.{Fault}
 use Rattle.aig_library.specs.Answers.{IsAnswerRefused, IsAnswerText, IsNeverOfModel, IsNeverRefused, IsNoneRefused}
 use Rattle.aig_library.specs.Answers.{IsNoneWithinModel, IsProvingRefused, IsProvingText}
@@ -30,40 +30,40 @@ use Rattle.aig_library.specs.Memory.{Comes, HasNoSteps, input_at, is_refused, is
 use Rattle.aig_library.specs.declared.memory.Inputs.{Inputs}
 
 -- an invariant is read for what leaves few sources, and no steps
-few : (refuted : Bool) (request : Invariant) (asked : Circuit) → reads_of (read_for refuted request asked) < 3
-few true request asked = omega arith
-few false request asked = omega arith
+few : (refuted : Bool) (request : Invariant) (selected : Circuit) → reads_of (read_for refuted request selected) < 3
+few true request selected = omega arith
+few false request selected = omega arith
 
-no_steps : (refuted : Bool) (request : Invariant) (asked : Circuit)
-    → HasNoSteps (jobs.Read (read_for refuted request asked))
-no_steps true request asked = tt
-no_steps false request asked = tt
+no_steps : (refuted : Bool) (request : Invariant) (selected : Circuit)
+    → HasNoSteps (jobs.Read (read_for refuted request selected))
+no_steps true request selected = tt
+no_steps false request selected = tt
 
 -- each reading leaves fewer sources
 pub fewer : (reading : Reading) (bytes : List ℕ) (next : Job) → Makes reading bytes next
     → sources_left next < reads_of reading
-fewer (readings.Reach request) bytes next (asked, is, then) = rw then (omega arith)
-fewer (readings.Invariant request) bytes next (asked, is, then) =
-    rw then (few request.refuted request asked)
-fewer (readings.Strengthen request asked) bytes next (strengthened, is, then) = rw then (omega arith)
+fewer (readings.Reach request) bytes next (selected, is, then) = rw then (omega arith)
+fewer (readings.Invariant request) bytes next (selected, is, then) =
+    rw then (few request.refuted request selected)
+fewer (readings.Strengthen request selected) bytes next (strengthened, is, then) = rw then (omega arith)
 fewer (readings.ToAig request) bytes next (answer, is, then) = rw then (omega arith)
 fewer (readings.Unroll request) bytes next (answer, is, then) = rw then (omega arith)
-fewer (readings.Solved request asked) bytes next (answer, is, then) = rw then (omega arith)
-fewer (readings.Clauses asked) bytes next (answer, is, then) = rw then (omega arith)
+fewer (readings.Solved request selected) bytes next (answer, is, then) = rw then (omega arith)
+fewer (readings.Clauses selected) bytes next (answer, is, then) = rw then (omega arith)
 fewer (readings.Never request strengthened) bytes next (answer, is, then) = rw then (omega arith)
 fewer (readings.Sim request) bytes next (model, is, then) = rw then (omega arith)
 
 -- a reading of no steps leads to none
 pub no_steps_then : (reading : Reading) (bytes : List ℕ) (next : Job) → HasNoSteps (jobs.Read reading)
     → Makes reading bytes next → HasNoSteps next
-no_steps_then (readings.Reach request) bytes next none (asked, is, then) = rw then tt
-no_steps_then (readings.Invariant request) bytes next none (asked, is, then) =
-    rw then (no_steps request.refuted request asked)
-no_steps_then (readings.Strengthen request asked) bytes next none (strengthened, is, then) = rw then tt
+no_steps_then (readings.Reach request) bytes next none (selected, is, then) = rw then tt
+no_steps_then (readings.Invariant request) bytes next none (selected, is, then) =
+    rw then (no_steps request.refuted request selected)
+no_steps_then (readings.Strengthen request selected) bytes next none (strengthened, is, then) = rw then tt
 no_steps_then (readings.ToAig request) bytes next none (answer, is, then) = rw then tt
 no_steps_then (readings.Unroll request) bytes next none (answer, is, then) = rw then tt
-no_steps_then (readings.Solved request asked) bytes next none (answer, is, then) = rw then tt
-no_steps_then (readings.Clauses asked) bytes next none (answer, is, then) = rw then tt
+no_steps_then (readings.Solved request selected) bytes next none (answer, is, then) = rw then tt
+no_steps_then (readings.Clauses selected) bytes next none (answer, is, then) = rw then tt
 no_steps_then (readings.Never request strengthened) bytes next none (answer, is, then) = rw then tt
 no_steps_then (readings.Sim request) bytes next none made = absurd none
 
@@ -86,7 +86,7 @@ module _ (inputs : Inputs) where
   no_fault : (answer : AnswerRecord) (fault : Fault) → Comes inputs (jobs.Write answer) (Err fault) → ⊥
   no_fault answer fault comes = elim comes [ ]
 
-  -- of a reading behind which an answer is written
+  -- of a reading after which an answer is written
   module _ (reading : Reading) (IsText : List ℕ → Type 0)
       (last : (next : Job) → Makes reading (input_at inputs (source_of reading)) next → WritesText IsText next) where
     pub last_text : (text : List ℕ) → Comes inputs (jobs.Read reading) (Ok text) → IsText text
@@ -135,11 +135,11 @@ module _ (inputs : Inputs) where
         → IsAnswerText (reaching Answer bad frames max_var) inputs.model.now inputs.file.now text
     answer_text text comes =
         let request = reaching Answer bad frames max_var in
-        let (next, (asked, is_model, then), rest) = then_text (readings.Reach request) text comes in
+        let (next, (selected, is_model, then), rest) = then_text (readings.Reach request) text comes in
         record {
-          asked = asked;
+          selected = selected;
           is_model = is_model;
-          is_text = last_text (readings.Solved request asked) (IsReachText request asked inputs.file.now)
+          is_text = last_text (readings.Solved request selected) (IsReachText request selected inputs.file.now)
               (λ next made. made) text (rw then at rest);
         }
 
@@ -150,10 +150,10 @@ module _ (inputs : Inputs) where
         let request = reaching Answer bad frames max_var in
         elim (then_fault (readings.Reach request) fault comes) [
           | inl why ↦ inl why.1
-          | inr (next, (asked, is_model, then), rest) ↦
-              let IsText = IsReachText request asked inputs.file.now in
-              let why = last_fault (readings.Solved request asked) IsText (λ next made. made) in
-              inr (asked, is_model, why fault (rw then at rest))
+          | inr (next, (selected, is_model, then), rest) ↦
+              let IsText = IsReachText request selected inputs.file.now in
+              let why = last_fault (readings.Solved request selected) IsText (λ next made. made) in
+              inr (selected, is_model, why fault (rw then at rest))
         ]
 
     pub none_within : (text : List ℕ)
@@ -161,16 +161,16 @@ module _ (inputs : Inputs) where
         → IsNoneWithinModel (reaching Refutation bad frames max_var) inputs.model.now
     none_within text comes =
         let request = reaching Refutation bad frames max_var in
-        let (next, (asked, is_model, then), rest) = then_text (readings.Reach request) text comes in
-        let IsText = IsNoneText request asked in
+        let (next, (selected, is_model, then), rest) = then_text (readings.Reach request) text comes in
+        let IsText = IsNoneText request selected in
         let is : IsText text =
-        last_text (readings.Solved request asked) IsText (λ next made. made) text (rw then at rest) in
+        last_text (readings.Solved request selected) IsText (λ next made. made) text (rw then at rest) in
         let has = is_model.has_clauses in
         record {
-          asked = asked;
+          selected = selected;
           is_model = is_model;
           none = is.none has.found (well_formed_file inputs.model.now max_var has.found has.read)
-              has.is_unrolled.has_bad is_model.asked_is;
+              has.is_unrolled.has_bad is_model.selected_is;
         }
 
     pub none_refused : (fault : Fault)
@@ -180,11 +180,11 @@ module _ (inputs : Inputs) where
         let request = reaching Refutation bad frames max_var in
         elim (then_fault (readings.Reach request) fault comes) [
           | inl why ↦ inl why.1
-          | inr (next, (asked, is_model, then), rest) ↦
+          | inr (next, (selected, is_model, then), rest) ↦
               let why =
-              last_fault (readings.Solved request asked) (IsNoneText request asked) (λ next made. made) fault
+              last_fault (readings.Solved request selected) (IsNoneText request selected) (λ next made. made) fault
               (rw then at rest) in
-              inr (why.0, why.1)
+              inr why
         ]
 
   module _ (bad max_var : ℕ) where
@@ -193,11 +193,12 @@ module _ (inputs : Inputs) where
         → IsProvingText (proving false bad max_var) inputs.model.now inputs.file.now text
     proving_text text comes =
         let request = proving false bad max_var in
-        let (next, (asked, is_model, then), rest) = then_text (readings.Invariant request) text comes in
+        let (next, (selected, is_model, then), rest) = then_text (readings.Invariant request) text comes in
         record {
-          asked = asked;
+          selected = selected;
           is_model = is_model;
-          is_text = last_text (readings.Clauses asked) (IsInvariantText asked inputs.file.now) (λ next made. made) text
+          is_text = last_text (readings.Clauses selected) (IsInvariantText selected inputs.file.now) (λ next made. made)
+              text
               (rw then at rest);
         }
 
@@ -208,28 +209,30 @@ module _ (inputs : Inputs) where
         let request = proving false bad max_var in
         elim (then_fault (readings.Invariant request) fault comes) [
           | inl why ↦ inl why.1
-          | inr (next, (asked, is_model, then), rest) ↦
+          | inr (next, (selected, is_model, then), rest) ↦
               let why =
-              last_fault (readings.Clauses asked) (IsInvariantText asked inputs.file.now) (λ next made. made) fault
+              last_fault (readings.Clauses selected) (IsInvariantText selected inputs.file.now) (λ next made. made)
+              fault
               (rw then at rest) in
-              inr (asked, is_model, why.1)
+              inr (selected, is_model, why.1)
         ]
 
-    never_shown : (asked strengthened : Circuit) (text : List ℕ)
-        → IsModelProved (proving true bad max_var) inputs.model.now asked
-        → IsStrengthened asked inputs.file.now strengthened → IsNeverText (proving true bad max_var) strengthened text
+    never_shown : (selected strengthened : Circuit) (text : List ℕ)
+        → IsInvariantModel (proving true bad max_var) inputs.model.now selected
+        → IsStrengthened selected inputs.file.now strengthened
+        → IsNeverText (proving true bad max_var) strengthened text
         → IsNeverOfModel (proving true bad max_var) inputs.model.now inputs.file.now
-    never_shown asked strengthened text is_model is shown =
+    never_shown selected strengthened text is_model is shown =
         let has = is_model.has_clauses in
         record {
-          asked = asked;
+          selected = selected;
           strengthened = strengthened;
           is_model = is_model;
           is_strengthened = is;
           never = shown.never has.found inputs.file.now is.cubes
               (well_formed_file inputs.model.now max_var has.found has.read) has.is_unrolled.has_bad
-              (subst (λ c. HasCubes c inputs.file.now is.cubes) is_model.asked_is is.has_cubes)
-              (subst (λ c. strengthened ≡ with_invariant is.cubes c) is_model.asked_is is.strengthened_is);
+              (subst (λ c. HasCubes c inputs.file.now is.cubes) is_model.selected_is is.has_cubes)
+              (subst (λ c. strengthened ≡ with_invariant is.cubes c) is_model.selected_is is.strengthened_is);
         }
 
     pub never_of_model : (text : List ℕ)
@@ -237,10 +240,10 @@ module _ (inputs : Inputs) where
         → IsNeverOfModel (proving true bad max_var) inputs.model.now inputs.file.now
     never_of_model text comes =
         let request = proving true bad max_var in
-        let (next, (asked, is_model, then), rest) = then_text (readings.Invariant request) text comes in
+        let (next, (selected, is_model, then), rest) = then_text (readings.Invariant request) text comes in
         let (last, (strengthened, is, next_is), end) =
-        then_text (readings.Strengthen request asked) text (rw then at rest) in
-        never_shown asked strengthened text is_model is
+        then_text (readings.Strengthen request selected) text (rw then at rest) in
+        never_shown selected strengthened text is_model is
         (last_text (readings.Never request strengthened) (IsNeverText request strengthened) (λ next made. made) text
         (rw next_is at end))
 
@@ -251,14 +254,14 @@ module _ (inputs : Inputs) where
         let request = proving true bad max_var in
         elim (then_fault (readings.Invariant request) fault comes) [
           | inl why ↦ inl (inl why.1)
-          | inr (next, (asked, is_model, then), rest) ↦
-              elim (then_fault (readings.Strengthen request asked) fault (rw then at rest)) [
-                | inl why ↦ inl (inr (asked, is_model, why.1))
+          | inr (next, (selected, is_model, then), rest) ↦
+              elim (then_fault (readings.Strengthen request selected) fault (rw then at rest)) [
+                | inl why ↦ inl (inr (selected, is_model, why.1))
                 | inr (last, (strengthened, is, next_is), end) ↦
                     let IsText = IsNeverText request strengthened in
                     let why =
                     last_fault (readings.Never request strengthened) IsText (λ next made. made) fault
                     (rw next_is at end) in
-                    inr (why.0, why.1)
+                    inr why
               ]
         ]

@@ -5,8 +5,8 @@ use Rattle.aig_command.specs.declared.request.Sim.{Sim}
 use Rattle.aig_step.specs.Outcome.{first_bad_line}
 use Rattle.aig_step.specs.TraceText.{IsTraceText}
 use Rattle.aig_dump.specs.InMemory.{IsDumpFor}
-use Rattle.aig_engines.specs.File.{IsFileOf}
-use Rattle.aig_engines.specs.Simulation.{IsWrittenText, columns_of}
+use Rattle.aig_commands.specs.File.{IsFileOf}
+use Rattle.aig_commands.specs.Simulation.{IsWrittenText, columns_of}
 
 module _ {V E : Type 0} (items : V → List ℕ) (r : Result V E) (request : Sim) (model stimulus : List ℕ)
     (found : Circuit) where

@@ -1,47 +1,37 @@
 -- What came of the bytes of a caller, once a call is over.
-use Rattle.std.proofs.Common.{◌≡◌, ◌⊎◌, ◌∙◌, ◌++◌, ℕ, List, None, inl, inr, ap, drop, length, refl, subst, true}
-use Rattle.std.proofs.Common.{Err, IfErr, IfOk, Ok, OnOk, Result}
+use Rattle.std.proofs.Common.{◌≡◌, ◌∙◌, ◌++◌, ℕ, List, None, ap, drop, length, refl, subst, true}
+use Rattle.std.proofs.Common.{Err, IfErr, IfOk, Ok, OnOk, Result, inl, inr}
 use Rattle.std.proofs.lemmas.List.{take-append-drop}
-use Rattle.aig_io.specs.Devices.{Origin, Past, unused}
+use Rattle.aig_io.specs.Devices.{History, Origin, unused}
 use Rattle.aig_io.specs.Lent.{HasGiven, lent}
-use Rattle.aig_io.specs.Runs.{AtEnd, Broken, Ending, Open, Ran, Read, came}
+use Rattle.aig_io.specs.Runs.{AtEnd, Broken, Ending, Open, Read, Transferred, came}
 use Rattle.aig_circuit.specs.declared.circuit.Circuit.{Circuit}
 use Rattle.aig_command.specs.declared.request.Reach.{Reach}
 use Rattle.aig_command.specs.declared.request.SolverFile.{SolverFile}
 use Rattle.aig_command.specs.declared.request.SolverFile.TheVariants as wrote
-use Rattle.aig_step.specs.declared.fault.SimFault.{SimFault}
-use Rattle.aig_step.specs.declared.fault.SimFault.TheVariants as sim_faults
 use Rattle.aig_step.specs.declared.trace.Columns.{Columns}
 use Rattle.aig_step.specs.Outcome.{first_bad_line}
 use Rattle.aig_step.specs.TraceText.{IsTraceText}
 use Rattle.aig_batch.specs.Batched.{BatchSays}
-use Rattle.aig_dump.specs.InMemory.{IsBadStimulus, WantsMemory}
+use Rattle.aig_dump.specs.InMemory.{IsBadStimulus, StopsInMemory}
 use Rattle.aig_dump.proofs.Lents as lents
-use Rattle.aig_refute.specs.Refuted.{EndsFor}
-use Rattle.aig_refute.specs.declared.fault.RefutationFault.{RefutationFault}
-use Rattle.aig_refute.specs.declared.fault.RefutationFault.TheVariants as refutation_faults
-use Rattle.aig_engines.specs.Jobs.{IsSolvedRefused, Refuses}
-use Rattle.aig_engines.specs.Reaching.{IsReachRefused}
-use Rattle.aig_engines.specs.Reading.{AtAnyTime, AtItsEnd, ReadSays}
-use Rattle.aig_engines.specs.Refuting.{IsRefutationRefused}
-use Rattle.aig_engines.specs.Stops.{refutation_stops}
-use Rattle.aig_engines.specs.declared.job.Reading.{Reading}
-use Rattle.aig_engines.specs.declared.job.Reading.TheVariants as readings
+use Rattle.aig_refute.specs.Refuted.{IsRefusedWhere}
+use Rattle.aig_commands.specs.Jobs.{IsSolvedRefused, Refuses}
+use Rattle.aig_commands.specs.Reaching.{IsReachRefused}
+use Rattle.aig_commands.specs.Reading.{AtAnyTime, AtItsEnd, ReadSays}
+use Rattle.aig_commands.specs.Refuting.{IsRefutationRefused}
+use Rattle.aig_commands.specs.declared.job.Reading.{Reading}
+use Rattle.aig_commands.specs.declared.job.Reading.TheVariants as readings
 use Rattle.aig_fault.specs.declared.fault.Fault.{Fault}
-use Rattle.aig_engines.specs.declared.stopped.Stopped.{Stopped}
-use Rattle.aig_engines.specs.declared.stopped.Stopped.TheVariants as stops
-use Rattle.aig_library.specs.Outcome.{StopsInMemory}
+use Rattle.aig_fault.specs.declared.stopped.Stopped.{Stopped}
+use Rattle.aig_fault.specs.declared.stopped.Stopped.TheVariants as stops
 
 -- what a refutation is refused for, it is refused for at its end
-at_end : (reason : RefutationFault) (fault : Fault) → refutation_stops reason ≡ stops.Refused fault
-    → EndsFor reason AtEnd
-at_end refutation_faults.NoRefutation fault same = refl
-at_end refutation_faults.OutOfMemory fault same = tt
-at_end (refutation_faults.BadLine line) fault same = tt
-at_end (refutation_faults.DoesNotFollow line) fault same = tt
-at_end refutation_faults.ReadFailed fault same = cc
+at_end : (fault : Fault) (ending : Ending) → IsRefusedWhere fault ending → IsRefusedWhere fault AtEnd
+at_end fault ending (inl of_line) = inl (of_line.0, tt)
+at_end fault ending (inr last) = inr (last.0, refl)
 
-module _ (input : List ℕ) (now : Past) (given : HasGiven now) where
+module _ (input : List ℕ) (now : History) (given : HasGiven now) where
   -- what was made was made of all of the input
   pub whole : {A : Type 0} (Holds : A → List ℕ → Type 0) (IsRefused : Fault → List ℕ → Ending → Type 0)
       (r : Result A Stopped) → Read (ReadSays Holds IsRefused r) (unused (lent input)) now
@@ -84,14 +74,14 @@ module _ (input : List ℕ) (now : Past) (given : HasGiven now) where
 
   refutation : (fault : Fault) (bytes : List ℕ) (ending : Ending) → IsRefutationRefused fault bytes ending
       → IsRefutationRefused fault input AtEnd
-  refutation fault bytes ending (reason, same, ends) = (reason, same, at_end reason fault same)
+  refutation fault bytes ending = at_end fault ending
 
-  solved : (by : SolverFile) (request : Reach) (asked : Circuit) (fault : Fault) (bytes : List ℕ) (ending : Ending)
-      → now ≡ came bytes ending (unused (lent input)) → IsSolvedRefused by request asked fault bytes ending
-      → IsSolvedRefused by request asked fault input AtEnd
-  solved wrote.Answer request asked fault bytes ending is says =
-      at_any_time (IsReachRefused request asked) fault bytes ending is says
-  solved wrote.Refutation request asked fault bytes ending is says = refutation fault bytes ending says
+  solved : (by : SolverFile) (request : Reach) (selected : Circuit) (fault : Fault) (bytes : List ℕ) (ending : Ending)
+      → now ≡ came bytes ending (unused (lent input)) → IsSolvedRefused by request selected fault bytes ending
+      → IsSolvedRefused by request selected fault input AtEnd
+  solved wrote.Answer request selected fault bytes ending is says =
+      at_any_time (IsReachRefused request selected) fault bytes ending is says
+  solved wrote.Refutation request selected fault bytes ending is says = refutation fault bytes ending says
 
   all_refused : (reading : Reading) (fault : Fault) (bytes : List ℕ) (ending : Ending)
       → now ≡ came bytes ending (unused (lent input)) → ending ≡ AtEnd → Refuses reading fault bytes ending
@@ -104,8 +94,8 @@ module _ (input : List ℕ) (now : Past) (given : HasGiven now) where
   pub refused : (reading : Reading) (fault : Fault) (bytes : List ℕ) (ending : Ending)
       → now ≡ came bytes ending (unused (lent input)) → Refuses reading fault bytes ending
       → Refuses reading fault input AtEnd
-  refused (readings.Solved request asked) fault bytes ending is says =
-      solved request.wrote request asked fault bytes ending is says
+  refused (readings.Solved request selected) fault bytes ending is says =
+      solved request.wrote request selected fault bytes ending is says
   refused (readings.Never request strengthened) fault bytes ending is says = refutation fault bytes ending says
   refused (readings.ToAig request) fault bytes ending is says =
       all_refused (readings.ToAig request) fault bytes ending is says.0 says
@@ -115,33 +105,34 @@ module _ (input : List ℕ) (now : Past) (given : HasGiven now) where
       all_refused (readings.Reach request) fault bytes ending is says.0 says
   refused (readings.Invariant request) fault bytes ending is says =
       all_refused (readings.Invariant request) fault bytes ending is says.0 says
-  refused (readings.Clauses asked) fault bytes ending is says =
-      all_refused (readings.Clauses asked) fault bytes ending is says.0 says
-  refused (readings.Strengthen request asked) fault bytes ending is says =
-      all_refused (readings.Strengthen request asked) fault bytes ending is says.0 says
+  refused (readings.Clauses selected) fault bytes ending is says =
+      all_refused (readings.Clauses selected) fault bytes ending is says.0 says
+  refused (readings.Strengthen request selected) fault bytes ending is says =
+      all_refused (readings.Strengthen request selected) fault bytes ending is says.0 says
   refused (readings.Sim request) fault bytes ending is says =
       all_refused (readings.Sim request) fault bytes ending is says.0 says
 
-  pub batched : (c : Circuit) (columns : Columns) (r : Result (Unit {0}) SimFault) (origin : Origin) (sink_now : Past)
-      → Ran (BatchSays c columns r) (unused (lent input)) now (unused origin) sink_now
+  pub batched : (c : Circuit) (columns : Columns) (r : Result (Unit {0}) Stopped) (origin : Origin)
+      (sink_now : History)
+      → Transferred (BatchSays c columns r) (unused (lent input)) now (unused origin) sink_now
       → OnOk r ((first_bad_line c input true ≡ None) × IsTraceText c columns input true sink_now.bytes)
-  batched c columns (Ok done) origin sink_now ran =
-      let sent = ran.says in
+  batched c columns (Ok done) origin sink_now transferred =
+      let sent = transferred.says in
       let says = sent.says in
-      let read = lents.all_read input now given ran.bytes (rw says.0 at ran.came) in
-      let text : sink_now.bytes ≡ sent.text = ap (λ (p : Past). p.bytes) (rw says.1 at sent.sent) in
+      let read = lents.all_read input now given transferred.bytes (rw says.0 at transferred.came) in
+      let text : sink_now.bytes ≡ sent.text = ap (λ (p : History). p.bytes) (rw says.1 at sent.sent) in
       rw text (subst (λ bytes. (first_bad_line c bytes true ≡ None) × IsTraceText c columns bytes true sent.text) read
       (says.2.first, says.2.is_text))
-  batched c columns (Err fault) origin sink_now ran = tt
+  batched c columns (Err fault) origin sink_now transferred = tt
 
-  pub not_batched : (c : Circuit) (columns : Columns) (r : Result (Unit {0}) SimFault) (sink sink_now : Past)
-      → Ran (BatchSays c columns r) (unused (lent input)) now sink sink_now
-      → IfErr r (λ fault. IsBadStimulus c input fault ⊎ WantsMemory fault)
-  not_batched c columns (Ok done) sink sink_now ran = tt
-  not_batched c columns (Err (sim_faults.BadStimulus line)) sink sink_now ran =
-      let says = ran.says.says.0 in
-      inl (line, refl, lents.bad_line input now given c ran.bytes ran.ending line says.0 ran.came says.1)
-  not_batched c columns (Err (sim_faults.BadWitness line)) sink sink_now ran = absurd ran.says.says.0
-  not_batched c columns (Err sim_faults.OutOfMemory) sink sink_now ran = inr (inl refl)
-  not_batched c columns (Err sim_faults.ReadFailed) sink sink_now ran = inr (inr (inl refl))
-  not_batched c columns (Err sim_faults.WriteFailed) sink sink_now ran = inr (inr (inr refl))
+  pub not_batched : (c : Circuit) (columns : Columns) (r : Result (Unit {0}) Stopped) (sink sink_now : History)
+      → Transferred (BatchSays c columns r) (unused (lent input)) now sink sink_now
+      → IfErr r (StopsInMemory (IsBadStimulus c input))
+  not_batched c columns (Ok done) sink sink_now transferred = tt
+  not_batched c columns (Err (stops.Refused fault)) sink sink_now transferred =
+      let ((line, told, unbroken, first), none) = transferred.says.says in (
+        line,
+        told,
+        lents.bad_line input now given c transferred.bytes transferred.ending line unbroken transferred.came first,
+      )
+  not_batched c columns (Err stopped) sink sink_now transferred = tt

@@ -6,3 +6,4 @@ pub mod Lents
 pub mod Messages
 pub mod OrderedArrays
 pub mod Placings
+pub mod ReadFiles

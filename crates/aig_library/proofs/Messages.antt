@@ -1,5 +1,6 @@
 -- The numbers of a fault tell its words, which are short.
-use Rattle.std.proofs.Common.{◌≡◌, ◌==◌, ◌+◌, ◌++◌, ◌<◌, ◌≤◌, ◌^◌, ℕ, List, [], Bool, Some, ap₂, arith, codes, decimal, false}
+use Rattle.std.proofs.Common.{◌≡◌, ◌==◌, ◌+◌, ◌++◌, ◌<◌, ◌≤◌, ◌^◌, ℕ, List, [], Bool, Some, ap₂, arith, codes, decimal}
+use Rattle.std.proofs.Common.{false}
 use Rattle.std.proofs.Common.{if◌then◌else◌, length, length-append, lit≤, refl, true}
 use Rattle.std.proofs.lemmas.Fmt.{length-decimal-le}
 use Rattle.aig_fault.specs.Words.{around, kind_number, kind_of_number, kind_text, place_text}

@@ -13,11 +13,11 @@ use Rattle.aig_image.proofs.Imaging.Ordered.{image_is_ordered}
 use Rattle.aig_arrays.proofs.Grammar.Tells.{fits}
 use Rattle.aig_arrays.proofs.Written.{sections_counted}
 use Rattle.aig_arrays.specs.Ordered.{IsNumberedImage}
-use Rattle.aig_arrays.specs.Told.{are_in_range, counts_fit}
+use Rattle.aig_arrays.specs.Decoded.{are_in_range, counts_fit}
 use Rattle.aig_arrays.specs.Words.{circuit_bytes, circuit_words, counts_of, section_length, section_words, symbol_words}
 use Rattle.aig_array_steps.specs.Step.{HasSections, TellsNumbered}
-use Rattle.aig_engines.proofs.TripsExist.{well_formed_file}
-use Rattle.aig_engines.specs.Conversion.{stripped}
+use Rattle.aig_commands.proofs.TripsExist.{well_formed_file}
+use Rattle.aig_commands.specs.Conversion.{stripped}
 use Rattle.aig_library.specs.ArrayLaws.{OrderedArraysCanBeStepped}
 use Rattle.aig_library.specs.Arrays.{Arrays}
 

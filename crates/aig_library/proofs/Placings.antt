@@ -30,7 +30,7 @@ module _ (shown : Circuit) (n : Counts) (is : n ≡ counts_of shown) where
   pub all_words : (numbers : List ℕ) → length (circuit_words shown ++ numbers) ≡ words_length n + length numbers
   all_words numbers = length-append (circuit_words shown) numbers ∙ ap (λ k. k + length numbers) (sym words_end)
 
--- numbers that are put behind a front
+-- numbers that are put after a front
 behind : (front numbers before : List ℕ)
     → put_mid (length front) (length numbers) (front ++ drop (length front) before) numbers
     ≡ in_front (front ++ numbers) before

@@ -6,24 +6,22 @@ use Rattle.aig_command.specs.declared.request.Invariant.{Invariant}
 use Rattle.aig_command.specs.declared.request.Reach.{Reach}
 use Rattle.aig_command.specs.declared.request.Sim.{Sim}
 use Rattle.aig_command.specs.declared.request.SolverFile.TheVariants.{Answer, Refutation}
-use Rattle.aig_step.specs.declared.fault.SimFault.{SimFault}
 use Rattle.aig_witness.specs.declared.verdict.Verdict.{Verdict}
 use Rattle.aig_witness.specs.declared.verdict.Verdict.TheVariants.{Confirmed, NotConfirmed}
 use Rattle.aig_dump.specs.InMemory.{IsBadStimulus, IsBadWitness}
 use Rattle.aig_fault.specs.declared.fault.Fault.{Fault}
-use Rattle.aig_engines.specs.declared.stopped.Stopped.TheVariants as stops
 use Rattle.aig_invariant.specs.Laws.{IsNever}
-use Rattle.aig_engines.specs.Conversion.{IsConversionRefused, IsConversionText}
-use Rattle.aig_engines.specs.File.{IsFileOf}
-use Rattle.aig_engines.specs.Proving.{IsInvariantText, IsModelProved, IsModelUnproved, IsStrengthened, NotStrengthened}
-use Rattle.aig_engines.specs.Reaching.{IsModelAsked, IsModelRefused, IsReachRefused, IsReachText}
-use Rattle.aig_engines.specs.Reading.{IsUnreadable}
-use Rattle.aig_engines.specs.Refuting.{IsNoneWithin, NotRefuted}
-use Rattle.aig_engines.specs.Simulation.{IsWrittenText}
-use Rattle.aig_engines.specs.Stops.{sim_stops}
-use Rattle.aig_engines.specs.Unrolling.{IsUnrollingRefused, IsUnrollingText}
-use Rattle.aig_engines.specs.WitnessDump.{IsWitnessDumpText}
-use Rattle.aig_engines.specs.WitnessOutcome.{IsWitnessAnswer}
+use Rattle.aig_commands.specs.Conversion.{IsConversionRefused, IsConversionText}
+use Rattle.aig_commands.specs.File.{IsFileOf}
+use Rattle.aig_commands.specs.Proving.{IsInvariantModel, IsInvariantText, IsStrengthened, NotInvariantModel}
+use Rattle.aig_commands.specs.Proving.{NotStrengthened}
+use Rattle.aig_commands.specs.Reaching.{IsModelRefused, IsReachRefused, IsReachText, IsSelectedModel}
+use Rattle.aig_commands.specs.Reading.{IsUnreadable}
+use Rattle.aig_commands.specs.Refuting.{IsNoneWithin, NotRefuted}
+use Rattle.aig_commands.specs.Simulation.{IsWrittenText}
+use Rattle.aig_commands.specs.Unrolling.{IsUnrollingRefused, IsUnrollingText}
+use Rattle.aig_commands.specs.WitnessDump.{IsWitnessDumpText}
+use Rattle.aig_commands.specs.WitnessOutcome.{IsWitnessAnswer}
 use Rattle.aig_library.specs.Asked.{CanConvert, CanReach, CanSimulate, CanUnroll, clauses, conversion, proving}
 use Rattle.aig_library.specs.Asked.{reaching, simulation, unrolling}
 use Rattle.aig_library.specs.Numbers as numbers
@@ -79,25 +77,25 @@ ClausesAnswers bad frames max_var input =
 
 -- The witness that is written for a model and a solver's answer.
 pub record IsAnswerText (request : Reach) (model answer text : List ℕ) : Type 0 where
-  pub asked : Circuit
-  pub is_model : IsModelAsked request model asked
-  pub is_text : IsReachText request asked answer text
+  pub selected : Circuit
+  pub is_model : IsSelectedModel request model selected
+  pub is_text : IsReachText request selected answer text
 
 -- There is no witness for this reason: the model has no clauses, or the answer gives none.
 abbrev pub IsAnswerRefused : Reach → (model answer : List ℕ) → Fault → Type 0
 IsAnswerRefused request model answer fault =
     IsModelRefused request fault model
-    ⊎ ((asked : Circuit) × IsModelAsked request model asked × IsReachRefused request asked fault answer)
+    ⊎ ((selected : Circuit) × IsSelectedModel request model selected × IsReachRefused request selected fault answer)
 
 abbrev pub ReachAnswers : (bad frames max_var : ℕ) (model answer before after : List ℕ) → Outcome → Type 0
 ReachAnswers bad frames max_var model answer =
     let request = reaching Answer bad frames max_var in
     TextAnswers (CanReach frames max_var) (IsAnswerText request model answer) (IsAnswerRefused request model answer)
 
--- No claim of the model, of the bad state that is asked for, is confirmed within so many frames.
+-- No claim of the model, of the selected bad state, is confirmed within so many frames.
 pub record IsNoneWithinModel (request : Reach) (model : List ℕ) : Type 0 where
-  pub asked : Circuit
-  pub is_model : IsModelAsked request model asked
+  pub selected : Circuit
+  pub is_model : IsSelectedModel request model selected
   pub none : IsNoneWithin is_model.has_clauses.found request.bad request.frames
 
 -- That is not known for this reason: the model has no clauses, or the refutation does not show it.
@@ -111,15 +109,15 @@ RefuteAnswers bad frames max_var model =
 
 -- The clauses that are written for a model and an invariant: those in which it is to be shown.
 pub record IsProvingText (request : Invariant) (model invariant text : List ℕ) : Type 0 where
-  pub asked : Circuit
-  pub is_model : IsModelProved request model asked
-  pub is_text : IsInvariantText asked invariant text
+  pub selected : Circuit
+  pub is_model : IsInvariantModel request model selected
+  pub is_text : IsInvariantText selected invariant text
 
 -- There are no such clauses for this reason: the model has none, or the invariant is not one of it.
 abbrev pub IsProvingRefused : Invariant → (model invariant : List ℕ) → Fault → Type 0
 IsProvingRefused request model invariant fault =
-    IsModelUnproved request fault model
-    ⊎ ((asked : Circuit) × IsModelProved request model asked × NotStrengthened asked fault invariant)
+    NotInvariantModel request fault model
+    ⊎ ((selected : Circuit) × IsInvariantModel request model selected × NotStrengthened selected fault invariant)
 
 abbrev pub InvariantAnswers : (bad max_var : ℕ) (model invariant before after : List ℕ) → Outcome → Type 0
 InvariantAnswers bad max_var model invariant =
@@ -127,12 +125,12 @@ InvariantAnswers bad max_var model invariant =
     TextAnswers (max_var ≤ largest_index) (IsProvingText request model invariant)
     (IsProvingRefused request model invariant)
 
--- No claim of the model, of the bad state that is asked for, is ever confirmed.
+-- No claim of the model, of the selected bad state, is ever confirmed.
 pub record IsNeverOfModel (request : Invariant) (model invariant : List ℕ) : Type 0 where
-  pub asked : Circuit
+  pub selected : Circuit
   pub strengthened : Circuit
-  pub is_model : IsModelProved request model asked
-  pub is_strengthened : IsStrengthened asked invariant strengthened
+  pub is_model : IsInvariantModel request model selected
+  pub is_strengthened : IsStrengthened selected invariant strengthened
   pub never : IsNever is_model.has_clauses.found request.bad
 
 -- That is not known for this reason: there are no clauses, or the refutation does not show it.
@@ -145,15 +143,11 @@ NeverAnswers bad max_var model invariant =
     ShowAnswers (max_var ≤ largest_index) (IsNeverOfModel request model invariant)
     (IsNeverRefused request model invariant)
 
--- a fault of the steps, of which this holds
-abbrev pub IsStepsFault : (SimFault → Type 0) → Fault → Type 0
-IsStepsFault Holds fault = (sim : SimFault) × (sim_stops sim ≡ stops.Refused fault) × Holds sim
-
 -- The model has no trace of the stimulus for this reason: it is no file of a circuit, or a line of the stimulus is bad.
 abbrev pub IsSimulationRefused : Sim → (model stimulus : List ℕ) → Fault → Type 0
 IsSimulationRefused request model stimulus fault =
     IsUnreadable request.max_var fault model
-    ⊎ ((found : Circuit) × IsFileOf model request.max_var found × IsStepsFault (IsBadStimulus found stimulus) fault)
+    ⊎ ((found : Circuit) × IsFileOf model request.max_var found × IsBadStimulus found stimulus fault)
 
 abbrev pub SimulateAnswers : (options max_var : ℕ) (model stimulus before after : List ℕ) → Outcome → Type 0
 SimulateAnswers options max_var model stimulus =
@@ -165,7 +159,7 @@ SimulateAnswers options max_var model stimulus =
 abbrev pub IsWitnessRefused : Sim → (model witness : List ℕ) → Fault → Type 0
 IsWitnessRefused request model witness fault =
     IsUnreadable request.max_var fault model
-    ⊎ ((found : Circuit) × IsFileOf model request.max_var found × IsStepsFault (IsBadWitness found witness) fault)
+    ⊎ ((found : Circuit) × IsFileOf model request.max_var found × IsBadWitness found witness fault)
 
 -- the outcome of a verdict, with a text of so many bytes
 abbrev pub verdict_outcome : Verdict → (length : ℕ) → Outcome

@@ -3,23 +3,22 @@
 use Rattle.std.specs.Prelude.{◌≡◌, ◌≤◌, ◌⊎◌, ◌++◌, ℕ, List, [], Bool, true, false, Result, Ok, Err, drop, length}
 use Rattle.aig_circuit.specs.declared.circuit.Circuit.{Circuit}
 use Rattle.aig_arrays.specs.Ordered.{IsNumberedImage}
-use Rattle.aig_arrays.specs.Told.{told}
+use Rattle.aig_arrays.specs.Decoded.{decoded}
 use Rattle.aig_arrays.specs.Words.{HasWords, circuit_bytes, circuit_words, counts_of}
 use Rattle.aig_arrays.specs.declared.counts.Counts.{Counts}
-use Rattle.aig_arrays.specs.declared.fault.ArrayFault.{ArrayFault}
-use Rattle.aig_array_steps.specs.Step.{IsFault, IsStepOf, values_length}
-use Rattle.aig_array_steps.specs.declared.one_step.StepFault.{StepFault}
-use Rattle.aig_engines.specs.Conversion.{IsTextAs}
-use Rattle.aig_engines.specs.File.{IsFileOf}
-use Rattle.aig_engines.specs.Reading.{IsUnreadable}
-use Rattle.aig_engines.specs.Stopping.{fault_at}
+use Rattle.aig_array_steps.specs.Step.{HasNoRoom, IsFault, IsStepOf, values_length}
+use Rattle.aig_commands.specs.Conversion.{IsTextAs}
+use Rattle.aig_commands.specs.File.{IsFileOf}
+use Rattle.aig_commands.specs.Reading.{IsUnreadable}
+use Rattle.aig_fault.specs.Stopping.{fault_at}
 use Rattle.aig_fault.specs.declared.fault.Fault.{Fault}
 use Rattle.aig_fault.specs.declared.fault.Place.TheVariants.{Whole}
 use Rattle.aig_fault.specs.declared.kind.Kind.TheVariants.{TooLarge}
+use Rattle.aig_fault.specs.declared.stopped.Stopped.{Stopped}
 use Rattle.aig_library.specs.Answers.{Answers, Made}
 use Rattle.aig_library.specs.Asked.{CanRead, CanWrite, has}
 use Rattle.aig_library.specs.Numbers as library
-use Rattle.aig_library.specs.Outcome.{array_stops, ending, out_of_memory, outcome_of, step_outcome}
+use Rattle.aig_library.specs.Outcome.{ending, fault_outcome, out_of_memory, outcome_of}
 use Rattle.aig_library.specs.declared.outcome.Outcome.{Outcome}
 
 -- what a caller has of a circuit: words, bytes, and counts
@@ -36,7 +35,7 @@ abbrev pub IsShownAs : (ordered : Bool) → (found shown : Circuit) → (numbers
 IsShownAs true found shown numbers = IsNumberedImage found shown numbers
 IsShownAs false found shown numbers = (shown ≡ found) × (numbers ≡ [])
 
--- the words of a circuit with these numbers behind them, its bytes and its counts
+-- the words of a circuit with these numbers after them, its bytes and its counts
 abbrev pub arrays_of : Circuit → (numbers : List ℕ) → Arrays
 arrays_of shown numbers = arrays (circuit_words shown ++ numbers) (circuit_bytes shown) (counts_of shown)
 
@@ -54,7 +53,7 @@ pub record IsReadAs (options max_var : ℕ) (input : List ℕ) (made : Arrays) :
 abbrev pub HasRoom : (made before : Arrays) → Type 0
 HasRoom made before = (length made.words ≤ length before.words) × (length made.bytes ≤ length before.bytes)
 
--- at the front, and what stood behind is as it was
+-- at the front, and what stood after is as it was
 abbrev pub in_front : (made before : List ℕ) → List ℕ
 in_front made before = made ++ drop (length made) before
 
@@ -89,19 +88,19 @@ ReadAnswers options max_var input before after outcome =
     (IsReadRefused max_var input) (after ≡ before) outcome
 
 -- the text of a circuit that arrays tell
-pub record IsTextOf (ascii : Bool) (first : Result Circuit ArrayFault) (text : List ℕ) : Type 0 where
+pub record IsTextOf (ascii : Bool) (first : Result Circuit Stopped) (text : List ℕ) : Type 0 where
   pub found : Circuit
-  pub is_told : first ≡ Ok found
+  pub is_decoded : first ≡ Ok found
   pub is_text : IsTextAs ascii false found text
 
 -- the arrays tell no circuit, and the outcome tells their first fault
-abbrev pub TellNone : Result Circuit ArrayFault → Outcome → Type 0
-TellNone first outcome = (fault : ArrayFault) × (first ≡ Err fault) × (outcome ≡ outcome_of (array_stops fault))
+abbrev pub TellNone : Result Circuit Stopped → Outcome → Type 0
+TellNone first outcome = (stopped : Stopped) × (first ≡ Err stopped) × (outcome ≡ outcome_of stopped)
 
 -- What is answered where the circuit of arrays is written. Without a text the output is as it was.
 abbrev pub WriteAnswers : (options : ℕ) → Arrays → (before after : List ℕ) → Outcome → Type 0
 WriteAnswers options given before after outcome =
-    let first = told given.counts given.words given.bytes in
+    let first = decoded given.counts given.words given.bytes in
     ((¬ CanWrite options) × (after ≡ before) × (outcome ≡ ending library.bad_options 0 0))
     ⊎ (CanWrite options × (Made (IsTextOf (has options library.ascii) first) before after outcome
     ⊎ ((after ≡ before) × (TellNone first outcome ⊎ (outcome ≡ out_of_memory)))))
@@ -110,4 +109,5 @@ WriteAnswers options given before after outcome =
 abbrev pub StepAnswers : Counts → (words before after : List ℕ) → Outcome → Type 0
 StepAnswers n words before after outcome =
     (IsStepOf n words before after × (outcome ≡ ending library.done 0 (values_length n)))
-    ⊎ ((after ≡ before) × ((fault : StepFault) × IsFault n words before fault × (outcome ≡ step_outcome fault)))
+    ⊎ ((after ≡ before) × ((HasNoRoom n words before × (outcome ≡ ending library.too_short 0 (values_length n)))
+    ⊎ ((fault : Fault) × IsFault n words before fault × (outcome ≡ fault_outcome fault))))

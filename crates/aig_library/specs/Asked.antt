@@ -37,21 +37,21 @@ unrolling options frames max_var = record {
   max_var = max_var;
 }
 
--- the number of the bad state that is asked for alone, unless it is all of them
-abbrev pub bad_asked : ℕ → Option ℕ
-bad_asked bad = if bad == numbers.all_bad then None else Some bad
+-- the number of the selected bad state alone, unless it is all of them
+abbrev pub selected_bad : ℕ → Option ℕ
+selected_bad bad = if bad == numbers.all_bad then None else Some bad
 
 abbrev pub clauses : (bad frames max_var : ℕ) → Unroll
 clauses bad frames max_var = record {
   frames = frames;
-  form = Clauses (bad_asked bad);
+  form = Clauses (selected_bad bad);
   max_var = max_var;
 }
 
 abbrev pub reaching : SolverFile → (bad frames max_var : ℕ) → Reach
 reaching wrote bad frames max_var = record {
   frames = frames;
-  bad = bad_asked bad;
+  bad = selected_bad bad;
   max_var = max_var;
   wrote = wrote;
 }
@@ -59,7 +59,7 @@ reaching wrote bad frames max_var = record {
 -- an invariant: its clauses, or that a refutation of them is right
 abbrev pub proving : (refuted : Bool) (bad max_var : ℕ) → Invariant
 proving refuted bad max_var = record {
-  bad = bad_asked bad;
+  bad = selected_bad bad;
   max_var = max_var;
   refuted = refuted;
 }

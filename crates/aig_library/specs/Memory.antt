@@ -1,13 +1,13 @@
 -- What a job comes to in memory, by what each of its sources makes of it.
 use Rattle.std.specs.Prelude.{ℕ, List, Result, Ok, Err, ⊤}
-use Rattle.aig_engines.specs.Jobs.{Makes, Refuses, source_of, text_of}
-use Rattle.aig_engines.specs.declared.answer.Answer.{Answer}
-use Rattle.aig_engines.specs.declared.job.Job.{Job}
-use Rattle.aig_engines.specs.declared.job.Job.TheVariants as jobs
-use Rattle.aig_engines.specs.declared.job.Part.{Part}
-use Rattle.aig_engines.specs.declared.job.Part.TheVariants.{File, Model, Refutation}
-use Rattle.aig_engines.specs.declared.job.Reading.{Reading}
-use Rattle.aig_engines.specs.declared.job.Reading.TheVariants as readings
+use Rattle.aig_commands.specs.Jobs.{Makes, Refuses, source_of, text_of}
+use Rattle.aig_commands.specs.declared.answer.Answer.{Answer}
+use Rattle.aig_commands.specs.declared.job.Job.{Job}
+use Rattle.aig_commands.specs.declared.job.Job.TheVariants as jobs
+use Rattle.aig_commands.specs.declared.job.Part.{Part}
+use Rattle.aig_commands.specs.declared.job.Part.TheVariants.{File, Model, Refutation}
+use Rattle.aig_commands.specs.declared.job.Reading.{Reading}
+use Rattle.aig_commands.specs.declared.job.Reading.TheVariants as readings
 use Rattle.aig_fault.specs.declared.fault.Fault.{Fault}
 use Rattle.aig_io.specs.Runs.{AtEnd}
 use Rattle.aig_library.specs.declared.memory.Inputs.{Inputs}

@@ -1,12 +1,12 @@
 -- The words for an outcome (this project's interface for C): as the program words the fault, without a name.
 use Rattle.std.specs.Prelude.{◌≡◌, ◌<◌, ◌==◌, ◌++◌, ◌⊎◌, ℕ, List, [], Option, None, Some, drop, length, if◌then◌else◌}
-use Rattle.aig_engines.specs.Stopping.{stopped_text}
+use Rattle.aig_fault.specs.Stopping.{stopped_text}
 use Rattle.aig_fault.specs.Words.{fault_text, kind_of_number, kind_text, place_text}
 use Rattle.aig_fault.specs.declared.fault.Fault.{Fault}
 use Rattle.aig_fault.specs.declared.fault.Place.{Place}
 use Rattle.aig_fault.specs.declared.fault.Place.TheVariants.{Gate, Line, MapLine, Value, Whole, Word}
 use Rattle.aig_fault.specs.declared.kind.Kind.{Kind}
-use Rattle.aig_engines.specs.declared.stopped.Stopped.TheVariants.{OutOfMemory}
+use Rattle.aig_fault.specs.declared.stopped.Stopped.TheVariants.{OutOfMemory}
 use Rattle.aig_library.specs.Numbers as numbers
 use Rattle.aig_library.specs.Outcome.{fault_outcome, out_of_memory}
 use Rattle.aig_library.specs.declared.outcome.Outcome.{Outcome}

@@ -1,19 +1,12 @@
 -- What came of a call, in numbers (this project's interface for C).
-use Rattle.std.specs.Prelude.{◌≡◌, ◌<◌, ◌++◌, ◌⊎◌, ℕ, List, drop, length, ⊤}
-use Rattle.aig_array_steps.specs.declared.one_step.StepFault.{StepFault}
-use Rattle.aig_array_steps.specs.declared.one_step.StepFault.TheVariants as step_faults
-use Rattle.aig_arrays.specs.declared.fault.ArrayFault.{ArrayFault}
-use Rattle.aig_arrays.specs.declared.fault.ArrayFault.TheVariants as array_faults
-use Rattle.aig_engines.specs.Stops.{kind_stops}
-use Rattle.aig_engines.specs.Stopping.{fault_at, refusal}
+use Rattle.std.specs.Prelude.{◌≡◌, ◌<◌, ◌++◌, ◌⊎◌, ℕ, List, drop, length}
+pub use Rattle.aig_dump.specs.InMemory.{StopsInMemory}
 use Rattle.aig_fault.specs.Words.{kind_number}
 use Rattle.aig_fault.specs.declared.fault.Fault.{Fault}
 use Rattle.aig_fault.specs.declared.fault.Place.{Place}
 use Rattle.aig_fault.specs.declared.fault.Place.TheVariants as places
-use Rattle.aig_fault.specs.declared.kind.Kind.TheVariants as kinds
-use Rattle.aig_engines.specs.declared.stopped.Stopped.{Stopped}
-use Rattle.aig_engines.specs.declared.stopped.Stopped.TheVariants as stops
-use Rattle.aig_text.specs.Reading.{kind_of}
+use Rattle.aig_fault.specs.declared.stopped.Stopped.{Stopped}
+use Rattle.aig_fault.specs.declared.stopped.Stopped.TheVariants as stops
 use Rattle.aig_library.specs.Numbers as numbers
 use Rattle.aig_library.specs.declared.outcome.Outcome.{Outcome}
 
@@ -51,24 +44,7 @@ abbrev pub outcome_of : Stopped → Outcome
 outcome_of (stops.Refused fault) = fault_outcome fault
 outcome_of stopped = out_of_memory
 
--- the input has a fault of which this holds, or memory was refused
-abbrev pub StopsInMemory : (Fault → Type 0) → Stopped → Type 0
-StopsInMemory Holds (stops.Refused fault) = Holds fault
-StopsInMemory Holds stopped = ⊤
-
--- an entry that is not right is told by the place of its first word, and a structural fault as that of a file
-abbrev pub array_stops : ArrayFault → Stopped
-array_stops array_faults.BadCounts = refusal kinds.BadCounts places.Whole 0
-array_stops (array_faults.BadEntry word kind) = kind_stops (places.Word word) kind
-array_stops (array_faults.Structure fault) = kind_stops places.Whole (kind_of fault)
-
-abbrev pub step_outcome : StepFault → Outcome
-step_outcome step_faults.BadCounts = fault_outcome (fault_at kinds.BadCounts places.Whole 0)
-step_outcome step_faults.NotOrdered = fault_outcome (fault_at kinds.NotOrdered places.Whole 0)
-step_outcome (step_faults.TooShort length) = ending numbers.too_short 0 length
-step_outcome (step_faults.BadValue value) = fault_outcome (fault_at kinds.BadValue (places.Value value) 0)
-
--- The text is at the front of the output, and what stood behind it is as it was; or it has more bytes than there is
+-- The text is at the front of the output, and what stood after it is as it was; or it has more bytes than there is
 -- room for, and the output is as it was. The outcome tells how many bytes it has: the first is that of a text that was
 -- placed.
 abbrev pub IsPlacedAs : (ℕ → Outcome) → (text before after : List ℕ) → Outcome → Type 0

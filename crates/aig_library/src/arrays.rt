@@ -5,9 +5,9 @@ ghost use Rattle.aig_text.specs.AsciiText.{ascii_text};
 ghost use Rattle.aig_arrays.specs.Ordered.{IsNumberedImage};
 ghost use Rattle.aig_arrays.specs.Words.{HasWords, bytes_length, circuit_bytes};
 ghost use Rattle.aig_arrays.specs.Words.{circuit_words, counts_of};
-ghost use Rattle.aig_engines.specs.Conversion.{IsTextAs};
-ghost use Rattle.aig_engines.specs.File.{IsFileOf};
-ghost use Rattle.aig_engines.specs.Reading.{IsUnreadable};
+ghost use Rattle.aig_commands.specs.Conversion.{IsTextAs};
+ghost use Rattle.aig_commands.specs.File.{IsFileOf};
+ghost use Rattle.aig_commands.specs.Reading.{IsUnreadable};
 ghost use Rattle.aig_library.specs.Arrays.{ArePlaced, HasRoom, IsReadAs, IsReadRefused};
 ghost use Rattle.aig_library.specs.Arrays.{IsShownAs, ReadAnswers, WriteAnswers, arrays};
 ghost use Rattle.aig_library.specs.Arrays.{arrays_of, in_front};
@@ -15,15 +15,13 @@ ghost use Rattle.aig_library.specs.Asked.{CanRead, has};
 ghost use Rattle.aig_library.specs.Outcome.{StopsInMemory};
 
 use crate::asked::{ASCII, ORDERED, has, only_has};
-use crate::outcome::{
-    BAD_OPTIONS, DONE, Outcome, TOO_SHORT, answer, array_stops, ending, outcome_of,
-};
+use crate::outcome::{BAD_OPTIONS, DONE, Outcome, TOO_SHORT, answer, ending, outcome_of};
 use aig_arrays::{Counts, counts_of, numbered_image, put_bytes, put_words, read_arrays};
-use aig_binary::{read_file_keeping, write_binary};
+use aig_binary::{read_file, write_binary};
+use aig_commands::{Stopped, refused_whole};
+use aig_convert::into_binary;
 use aig_core::{Checked, Keep, LARGEST, OutOfMemory, Steps, VecSink};
-use aig_engines::{Stopped, refused_whole};
 use aig_fault::Kind;
-use aig_order::into_binary;
 use aig_text::{Limits, write_ascii};
 use std::alloc::Global;
 
@@ -42,7 +40,7 @@ fn circuit_read(alloc: Global, options: u32, max_var: u32, input: &[u8]) -> Resu
     ensures err { IfErr result (StopsInMemory (λ fault. IsUnreadable max_var fault input.now)) }
 {
     let keep = what_to_keep(has(options, ORDERED));
-    Ok(read_file_keeping(alloc, input, Limits { max_var }, keep)?)
+    read_file(alloc, input, Limits { max_var }, keep)
 }
 
 /// Room for a number for each variable that a circuit defines.
@@ -176,7 +174,7 @@ fn can_read(options: u32, max_var: u32) -> bool
 }
 
 /// Reads the bytes of an AIGER file into arrays, at their front, and tells the counts. With
-/// `ORDERED` the circuit in them is the binary image, and behind its symbols stands the new number
+/// `ORDERED` the circuit in them is the binary image, and after its symbols stands the new number
 /// of each variable that the file defines. The outcome's length is how many words there are. Where
 /// an array has no room, both are as they were, and the counts are told. The largest index and the
 /// counts of the input are at most `max_var`.
@@ -256,6 +254,6 @@ pub fn write(
     let is_ascii = has(options, ASCII);
     match read_arrays(alloc, counts, words, bytes, what_to_keep(!is_ascii)) {
         Ok(circuit) => answer(text_of(alloc, is_ascii, circuit), output),
-        Err(fault) => outcome_of(&array_stops(&fault)),
+        Err(stopped) => outcome_of(&stopped),
     }
 }

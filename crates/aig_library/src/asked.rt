@@ -1,6 +1,6 @@
 //! What is asked for, by numbers: each option is a bit.
 ghost use Rattle.std.specs.Prelude.{◌≡◌, ◌↔◌, IsTrue};
-ghost use Rattle.aig_library.specs.Asked.{bad_asked, clauses, conversion, has, OnlyHas, proving};
+ghost use Rattle.aig_library.specs.Asked.{clauses, conversion, has, OnlyHas, proving, selected_bad};
 ghost use Rattle.aig_library.specs.Asked.{reaching, unrolling};
 
 use aig_command::{Invariant, Reach, SolverFile, ToAig, Unroll, UnrolledForm};
@@ -76,9 +76,9 @@ pub(crate) fn unrolling(options: u32, frames: u32, max_var: u32) -> Unroll
     }
 }
 
-/// The bad state that is asked for alone.
-fn bad_asked(bad: u32) -> Option<u32>
-    ensures { result ≡ bad_asked bad }
+/// The selected bad state alone.
+fn selected_bad(bad: u32) -> Option<u32>
+    ensures { result ≡ selected_bad bad }
 {
     if bad == ALL_BAD { None } else { Some(bad) }
 }
@@ -90,7 +90,7 @@ pub(crate) fn clauses(bad: u32, frames: u32, max_var: u32) -> Unroll
     Unroll {
         frames,
         form: UnrolledForm::Clauses {
-            bad: bad_asked(bad),
+            bad: selected_bad(bad),
         },
         max_var,
     }
@@ -102,7 +102,7 @@ pub(crate) fn reaching(wrote: SolverFile, bad: u32, frames: u32, max_var: u32) -
 {
     Reach {
         frames,
-        bad: bad_asked(bad),
+        bad: selected_bad(bad),
         max_var,
         wrote,
     }
@@ -114,7 +114,7 @@ pub(crate) fn proving(refuted: bool, bad: u32, max_var: u32) -> Invariant
     ensures { result ≡ proving refuted bad max_var }
 {
     Invariant {
-        bad: bad_asked(bad),
+        bad: selected_bad(bad),
         max_var,
         refuted,
     }

@@ -1,12 +1,12 @@
 //! Jobs in memory.
 ghost use Rattle.std.specs.Prelude.{◌≡◌, ⊤, Err, IfErr, IfOk, Ok};
-ghost use Rattle.aig_engines.specs.Jobs.{CanDo, CanRead, Makes, Refuses, text_of};
+ghost use Rattle.aig_commands.specs.Jobs.{CanDo, CanRead, Makes, Refuses, text_of};
 ghost use Rattle.aig_io.specs.Runs.{AtEnd};
 ghost use Rattle.aig_library.specs.Memory.{Comes, HasNoSteps, input_at};
 ghost use Rattle.aig_library.specs.Outcome.{StopsInMemory};
 
+use aig_commands::{Answer, Job, Part, Reading, Stopped};
 use aig_core::{SliceSource, VecSink};
-use aig_engines::{Answer, Job, Part, Reading, Stopped};
 use std::alloc::Global;
 
 /// The bytes of each source.

@@ -1,16 +1,9 @@
 //! What came of a call, in numbers.
 ghost use Rattle.std.specs.Prelude.{◌≡◌, IfErr, IfOk, OnOk};
-ghost use Rattle.aig_fault.specs.declared.fault.Place.TheVariants.{Whole};
-ghost use Rattle.aig_text.specs.Reading.{kind_of};
-ghost use Rattle.aig_engines.specs.Stops.{kind_stops};
-ghost use Rattle.aig_library.specs.Outcome.{array_stops, ending, fault_outcome, IsPlaced};
-ghost use Rattle.aig_library.specs.Outcome.{outcome_of, place_numbers, step_outcome};
+ghost use Rattle.aig_library.specs.Outcome.{ending, fault_outcome, IsPlaced, outcome_of};
+ghost use Rattle.aig_library.specs.Outcome.{place_numbers};
 
-use aig_array_steps::StepFault;
-use aig_arrays::ArrayFault;
-use aig_core::CheckFault;
-use aig_engines::{Stopped, kind_stops, refused, refused_whole};
-use aig_fault::{Fault, Kind, Place};
+use aig_fault::{Fault, Place, Stopped};
 
 /// The text was written, or the witness is confirmed.
 pub const DONE: u32 = 0;
@@ -98,7 +91,7 @@ fn numbers_of_place(place: Place) -> (u32, u64)
 }
 
 /// The outcome of a fault.
-fn fault_outcome(fault: &Fault) -> Outcome
+pub(crate) fn fault_outcome(fault: &Fault) -> Outcome
     ensures { result ≡ fault_outcome fault.now }
 {
     let (place, number) = numbers_of_place(fault.place);
@@ -121,42 +114,6 @@ pub(crate) fn outcome_of(stopped: &Stopped) -> Outcome
         Stopped::Refused(fault) => fault_outcome(fault),
         Stopped::OutOfMemory | Stopped::ReadFailed | Stopped::WriteFailed => {
             ending(OUT_OF_MEMORY, 0, 0)
-        }
-    }
-}
-
-fn check_stops(fault: CheckFault) -> Stopped
-    ensures { result ≡ kind_stops Whole (kind_of fault) }
-{
-    match fault {
-        CheckFault::Redefined(variable) => refused(Kind::Redefined, Place::Whole, variable.0),
-        CheckFault::Undefined(literal) => refused(Kind::Undefined, Place::Whole, literal.0),
-        CheckFault::Cyclic(literal) => refused(Kind::Cyclic, Place::Whole, literal.0),
-        CheckFault::OutOfMemory => Stopped::OutOfMemory,
-    }
-}
-
-/// What the first fault of arrays is.
-pub(crate) fn array_stops(fault: &ArrayFault) -> Stopped
-    ensures { result ≡ array_stops fault.now }
-{
-    match fault {
-        ArrayFault::BadCounts => refused_whole(Kind::BadCounts),
-        ArrayFault::BadEntry { word, kind } => kind_stops(Place::Word(*word), *kind),
-        ArrayFault::Structure(fault) => check_stops(*fault),
-    }
-}
-
-/// The outcome where no step was made.
-pub(crate) fn step_outcome(fault: &StepFault) -> Outcome
-    ensures { result ≡ step_outcome fault.now }
-{
-    match fault {
-        StepFault::BadCounts => outcome_of(&refused_whole(Kind::BadCounts)),
-        StepFault::NotOrdered => outcome_of(&refused_whole(Kind::NotOrdered)),
-        StepFault::TooShort(length) => ending(TOO_SHORT, 0, *length),
-        StepFault::BadValue(place) => {
-            outcome_of(&refused(Kind::BadValue, Place::Value(*place), 0))
         }
     }
 }

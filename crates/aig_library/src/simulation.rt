@@ -1,22 +1,21 @@
 //! Simulation from bytes to bytes.
-ghost use Rattle.std.specs.Prelude.{◌≡◌, ◌⊎◌, ◌↔◌, IfErr, IfOk, IsTrue, None, true};
-ghost use Rattle.aig_engines.specs.File.{IsFileOf};
-ghost use Rattle.aig_engines.specs.Reading.{IsUnreadable};
-ghost use Rattle.aig_engines.specs.Simulation.{IsWrittenText, columns_of};
+ghost use Rattle.std.specs.Prelude.{◌≡◌, ◌↔◌, IfErr, IfOk, IsTrue, None, true};
+ghost use Rattle.aig_commands.specs.File.{IsFileOf};
+ghost use Rattle.aig_commands.specs.Reading.{IsUnreadable};
+ghost use Rattle.aig_commands.specs.Simulation.{IsWrittenText, columns_of};
 ghost use Rattle.aig_step.specs.Outcome.{first_bad_line};
 ghost use Rattle.aig_step.specs.TraceText.{IsTraceText};
-ghost use Rattle.aig_dump.specs.InMemory.{IsBadStimulus, WantsMemory};
+ghost use Rattle.aig_dump.specs.InMemory.{IsBadStimulus, StopsInMemory};
 ghost use Rattle.aig_library.specs.Answers.{IsSimulationRefused, SimulateAnswers};
 ghost use Rattle.aig_library.specs.Asked.{CanSimulate, has, simulation};
-ghost use Rattle.aig_library.specs.Outcome.{StopsInMemory};
 
 use crate::asked::{PROPERTIES, VCD, has, only_has};
 use crate::outcome::{BAD_OPTIONS, Outcome, answer, ending};
 use aig_batch::simulate_batched;
+use aig_commands::{Stopped, read_circuit};
 use aig_core::{Checked, Keep, LARGEST, SliceSource, VecSink};
 use aig_dump::dump;
-use aig_engines::{Stopped, read_circuit};
-use aig_step::{Columns, SimFault};
+use aig_step::Columns;
 use std::alloc::Global;
 
 /// The circuit of a model.
@@ -36,12 +35,11 @@ fn trace(
     columns: Columns,
     found: &Checked,
     stimulus: &[u8],
-) -> Result<Vec<u8>, SimFault>
+) -> Result<Vec<u8>, Stopped>
     ensures none_bad { IfOk result (λ _. first_bad_line found.now stimulus.now true ≡ None) }
     ensures text { IfOk result (λ text.
         IsTraceText found.now columns stimulus.now true text.items) }
-    ensures err { IfErr result (λ fault.
-        IsBadStimulus found.now stimulus.now fault ⊎ WantsMemory fault) }
+    ensures err { IfErr result (StopsInMemory (IsBadStimulus found.now stimulus.now)) }
 {
     let mut source = SliceSource::new(stimulus)?;
     let mut sink = VecSink::new(alloc);

@@ -7,8 +7,8 @@ use crate::memory::{Inputs, run_in_memory};
 use crate::outcome::{BAD_OPTIONS, Outcome, answer, answer_shown, ending};
 use crate::texts::can_reach;
 use aig_command::SolverFile;
+use aig_commands::{Job, Reading};
 use aig_core::LARGEST;
-use aig_engines::{Job, Reading};
 use std::alloc::Global;
 
 /// Writes the witness in a solver's answer on the clauses that `write_clauses` writes of this model

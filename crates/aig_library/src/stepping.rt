@@ -1,7 +1,7 @@
 //! One step of a circuit that stands in words.
 ghost use Rattle.aig_library.specs.Arrays.{StepAnswers};
 
-use crate::outcome::{DONE, Outcome, ending, step_outcome};
+use crate::outcome::{DONE, Outcome, TOO_SHORT, ending, fault_outcome};
 use aig_array_steps::values_length;
 use aig_arrays::Counts;
 
@@ -11,8 +11,10 @@ use aig_arrays::Counts;
 pub fn step(counts: &Counts, words: &[u32], values: &mut [u8]) -> Outcome
     ensures { StepAnswers counts.now words.now values.old values.new result }
 {
+    let length = values_length(counts) as u64;
     match aig_array_steps::step(counts, words, values) {
-        Ok(()) => ending(DONE, 0, values_length(counts) as u64),
-        Err(fault) => step_outcome(&fault),
+        Ok(true) => ending(DONE, 0, length),
+        Ok(false) => ending(TOO_SHORT, 0, length),
+        Err(fault) => fault_outcome(&fault),
     }
 }

@@ -9,8 +9,8 @@ use crate::asked::{
 use crate::memory::{Inputs, run_in_memory};
 use crate::outcome::{BAD_OPTIONS, Outcome, answer, ending};
 use aig_command::ToAig;
+use aig_commands::{Job, Reading};
 use aig_core::LARGEST;
-use aig_engines::{Job, Reading};
 use std::alloc::Global;
 
 /// Whether the numbers can be met that ask for this conversion.

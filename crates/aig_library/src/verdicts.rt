@@ -1,15 +1,15 @@
 //! Verdicts on witness files.
 ghost use Rattle.std.specs.Prelude.{◌≡◌, IfErr, IfOk};
-ghost use Rattle.aig_engines.specs.WitnessOutcome.{IsWitnessAnswer};
+ghost use Rattle.aig_commands.specs.WitnessOutcome.{IsWitnessAnswer};
 ghost use Rattle.aig_library.specs.Answers.{IsWitnessRefused, WitnessAnswers, verdict_outcome};
 ghost use Rattle.aig_library.specs.Asked.{simulation};
 ghost use Rattle.aig_library.specs.Outcome.{StopsInMemory};
 
 use crate::outcome::{BAD_OPTIONS, DONE, NOT_CONFIRMED, Outcome, ending, outcome_of};
 use crate::simulation::circuit_of;
+use aig_commands::Stopped;
 use aig_core::LARGEST;
 use aig_dump::verdict_on;
-use aig_engines::Stopped;
 use aig_witness::Verdict;
 use std::alloc::Global;
 

@@ -1,6 +1,6 @@
 //! Dumps of witnesses from bytes to bytes.
 ghost use Rattle.std.specs.Prelude.{◌++◌, IfErr, IfOk, string_bytes};
-ghost use Rattle.aig_engines.specs.WitnessDump.{IsWitnessDumpText};
+ghost use Rattle.aig_commands.specs.WitnessDump.{IsWitnessDumpText};
 ghost use Rattle.aig_library.specs.Answers.{DumpAnswers, IsWitnessRefused, verdict_outcome};
 ghost use Rattle.aig_library.specs.Asked.{simulation};
 ghost use Rattle.aig_library.specs.Outcome.{IsPlacedAs, StopsInMemory};
@@ -8,9 +8,9 @@ ghost use Rattle.aig_library.specs.Outcome.{IsPlacedAs, StopsInMemory};
 use crate::outcome::{BAD_OPTIONS, Outcome, TOO_SHORT, ending, outcome_of};
 use crate::simulation::circuit_of;
 use crate::verdicts::verdict_outcome;
+use aig_commands::Stopped;
 use aig_core::LARGEST;
 use aig_dump::{comment_line, judge_and_dump};
-use aig_engines::Stopped;
 use aig_witness::Verdict;
 use std::alloc::Global;
 
@@ -39,7 +39,7 @@ fn verdict_and_dump(
     }
 }
 
-/// Puts a comment and a run behind it at the front of the output, where there is room for both.
+/// Puts a comment and a run after it at the front of the output, where there is room for both.
 fn place_texts(verdict: Verdict, comment: &[u8], run: &[u8], output: &mut [u8]) -> Outcome
     ensures { IsPlacedAs (verdict_outcome verdict) (comment.now ++ run.now)
         output.old output.new result }

@@ -79,7 +79,7 @@ pub none_ended : AreEnded (lines_of [])
 unfolding lines_of
 none_ended = tt
 
--- behind the last line feed there is none
+-- after the last line feed there is none
 pub no_feed_behind : (bs : List ℕ) (n : ℕ) → Nowhere (Passes (is_byte 10) bs) n (length bs)
     → HasNoLineFeed (drop n bs)
 no_feed_behind [] zero h = tt

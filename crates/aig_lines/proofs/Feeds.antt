@@ -10,8 +10,8 @@ use Rattle.memchr.specs.Find.{IsFirstByte, is_byte}
 use Rattle.aig_lines.specs.Laws.{AreLines}
 use Rattle.aig_lines.specs.Lines.{bytes_of, line, lines_of, HasNoLineFeed}
 use Rattle.aig_lines.specs.Texts.{without_return}
-use Rattle.aig_lines.specs.Fed.{Feeder, IsFed, IsUnfed}
-use Rattle.aig_lines.specs.Feeding.{Feeding, Turn, fed, fed_byte, feeding, heard, line_ended, turn}
+use Rattle.aig_lines.specs.Feeders.{Feeder, HasFoldedBytes, IsInitial}
+use Rattle.aig_lines.specs.Feeding.{Feeding, Turn, fold_bytes, fold_byte, feeding, checked_line, line_ended, turn}
 use Rattle.aig_lines.specs.Keeping.{keeping_more}
 use Rattle.aig_lines.proofs.Cutting.{line_some, no_feed_behind, pieces}
 
@@ -71,7 +71,7 @@ pub none_off : (text : List ℕ) → length text ≤ 0 → text ≡ without_retu
 none_off [] none = refl
 none_off (b ∷ bs) none = absurd (omega arith)
 
--- a text that stands behind another
+-- a text that stands after another
 pub stands : (n : ℕ) (front text after : List ℕ) → n ≡ length front + length text
     → take n (front ++ (text ++ after)) ≡ front ++ text
 stands n front text after long =
@@ -79,14 +79,14 @@ stands n front text after long =
     ∙ ap (λ (bytes : List ℕ). front ++ bytes)
     (take-append-le (length text) text after (omega arith) ∙ take_all (length text) text (omega arith))
 
--- what there is room for behind what is kept
+-- what there is room for after what is kept
 fitting : (room : ℕ) (front text : List ℕ) → length front ≤ room
     → take room (front ++ text) ≡ front ++ take (room - length front) text
 fitting room front text fits =
     let all : room ≡ length front + (room - length front) = omega arith in
     ap (λ (k : ℕ). take k (front ++ text)) all ∙ take-append-add front text (room - length front)
 
--- the bytes of a buffer behind those that were kept: as many as fit
+-- the bytes of a buffer after those that were kept: as many as fit
 pub kept_more : (b text after copied : List ℕ) (len count : ℕ) → len ≤ length b
     → count ≡ min (length b - len) (length text) → copied ≡ take count text
     → take (len + count) (take len b ++ (copied ++ after)) ≡ take (length b) (take len b ++ text)
@@ -139,105 +139,108 @@ nothing_kept n (b ∷ bs) none =
     absurd (omega arith)
 
 module _ {S : Type 0} (step : S → List ℕ → Turn S) where
-  too_long : (limit : ℕ) (s : S) (text : List ℕ) → limit < length text → heard step limit s text ≡ turn s false
+  too_long : (limit : ℕ) (s : S) (text : List ℕ) → limit < length text → checked_line step limit s text ≡ turn s false
   too_long limit s text long = rw (lt-leb (length text) limit long) refl
 
   -- a line that is too long is as long as what is kept of it
-  heard_kept : (limit : ℕ) (s : S) (whole : List ℕ)
-      → heard step limit s (without_return (take (limit + 2) whole)) ≡ heard step limit s (without_return whole)
-  heard_kept limit s whole =
+  checked_kept : (limit : ℕ) (s : S) (whole : List ℕ)
+      → checked_line step limit s (without_return (take (limit + 2) whole))
+      ≡ checked_line step limit s (without_return whole)
+  checked_kept limit s whole =
       elim (cases_lt (limit + 1) (length whole)) [
         | inl long ↦
             (let kept = length-take-le (limit + 2) whole (omega arith) in
             too_long limit s (without_return (take (limit + 2) whole))
             (omega (arith, kept, one_shorter (take (limit + 2) whole)))
             ∙ sym (too_long limit s (without_return whole) (omega (arith, one_shorter whole))))
-        | inr short ↦ ap (λ (t : List ℕ). heard step limit s (without_return t))
+        | inr short ↦ ap (λ (t : List ℕ). checked_line step limit s (without_return t))
             (take_all (limit + 2) whole (omega arith))
       ]
 
-  pub heard_joined : (limit : ℕ) (s : S) (begun piece : List ℕ)
-      → heard step limit s (without_return (take (limit + 2) (take (limit + 2) begun ++ piece)))
-      ≡ heard step limit s (without_return (begun ++ piece))
-  heard_joined limit s begun piece =
-      ap (λ (t : List ℕ). heard step limit s (without_return t)) (kept_twice (limit + 2) begun piece)
-      ∙ heard_kept limit s (begun ++ piece)
+  pub checked_joined : (limit : ℕ) (s : S) (begun piece : List ℕ)
+      → checked_line step limit s (without_return (take (limit + 2) (take (limit + 2) begun ++ piece)))
+      ≡ checked_line step limit s (without_return (begun ++ piece))
+  checked_joined limit s begun piece =
+      ap (λ (t : List ℕ). checked_line step limit s (without_return t)) (kept_twice (limit + 2) begun piece)
+      ∙ checked_kept limit s (begun ++ piece)
 
   -- byte by byte
   pub at_line_feed : (f : Feeding S) → f.refused ≡ false
-      → fed_byte step f 10 ≡ line_ended step f (without_return f.begun)
-  unfolding fed_byte
+      → fold_byte step f 10 ≡ line_ended step f (without_return f.begun)
+  unfolding fold_byte
   at_line_feed f going = rw going refl
 
   pub at_byte : (f : Feeding S) (b : ℕ) → f.refused ≡ false → b ≢ 10
-      → fed_byte step f b ≡ record f { begun = f.begun ++ b ∷ [] }
-  unfolding fed_byte
+      → fold_byte step f b ≡ record f { begun = f.begun ++ b ∷ [] }
+  unfolding fold_byte
   at_byte f b going other = rw (going, ne_eqb b 10 other) refl
 
-  refused_byte : (f : Feeding S) (b : ℕ) → f.refused ≡ true → fed_byte step f b ≡ f
-  unfolding fed_byte
+  refused_byte : (f : Feeding S) (b : ℕ) → f.refused ≡ true → fold_byte step f b ≡ f
+  unfolding fold_byte
   refused_byte f b over = rw over refl
 
   -- after a refusal nothing more is taken
-  pub fed_refused : (f : Feeding S) (bytes : List ℕ) → f.refused ≡ true → fed step f bytes ≡ f
-  fed_refused f bytes over = fold_stays (fed_byte step) f (λ b. refused_byte f b over) bytes
+  pub fold_refused : (f : Feeding S) (bytes : List ℕ) → f.refused ≡ true → fold_bytes step f bytes ≡ f
+  fold_refused f bytes over = fold_stays (fold_byte step) f (λ b. refused_byte f b over) bytes
 
-  -- bytes of a line, and bytes behind them
-  fed_more : (f : Feeding S) (piece rest : List ℕ) → f.refused ≡ false → HasNoLineFeed piece
-      → fed step f (piece ++ rest) ≡ fed step (record f { begun = f.begun ++ piece }) rest
-  fed_more f [] rest going none =
-      ap (λ (t : List ℕ). fed step (record f { begun = t }) rest) (sym (append-nil f.begun))
-  fed_more f (b ∷ bs) rest going none =
-      ap (λ (g : Feeding S). fed step g (bs ++ rest)) (at_byte f b going none.0)
-      ∙ fed_more (record f { begun = f.begun ++ b ∷ [] }) bs rest going none.1
-      ∙ ap (λ (t : List ℕ). fed step (record f { begun = t }) rest) (append_assoc f.begun (b ∷ []) bs)
+  -- bytes of a line, and bytes after them
+  fold_more : (f : Feeding S) (piece rest : List ℕ) → f.refused ≡ false → HasNoLineFeed piece
+      → fold_bytes step f (piece ++ rest) ≡ fold_bytes step (record f { begun = f.begun ++ piece }) rest
+  fold_more f [] rest going none =
+      ap (λ (t : List ℕ). fold_bytes step (record f { begun = t }) rest) (sym (append-nil f.begun))
+  fold_more f (b ∷ bs) rest going none =
+      ap (λ (g : Feeding S). fold_bytes step g (bs ++ rest)) (at_byte f b going none.0)
+      ∙ fold_more (record f { begun = f.begun ++ b ∷ [] }) bs rest going none.1
+      ∙ ap (λ (t : List ℕ). fold_bytes step (record f { begun = t }) rest) (append_assoc f.begun (b ∷ []) bs)
 
-  fed_rest : (f : Feeding S) (piece : List ℕ) → f.refused ≡ false → HasNoLineFeed piece
-      → fed step f piece ≡ record f { begun = f.begun ++ piece }
-  fed_rest f piece going none =
-      ap (fed step f) (sym (append-nil piece)) ∙ fed_more f piece [] going none
+  fold_rest : (f : Feeding S) (piece : List ℕ) → f.refused ≡ false → HasNoLineFeed piece
+      → fold_bytes step f piece ≡ record f { begun = f.begun ++ piece }
+  fold_rest f piece going none =
+      ap (fold_bytes step f) (sym (append-nil piece)) ∙ fold_more f piece [] going none
 
-  fed_line : (f : Feeding S) (piece rest : List ℕ) → f.refused ≡ false → HasNoLineFeed piece
-      → fed step f (piece ++ 10 ∷ rest) ≡ fed step (line_ended step f (without_return (f.begun ++ piece))) rest
-  fed_line f piece rest going none =
-      fed_more f piece (10 ∷ rest) going none
-      ∙ ap (λ (g : Feeding S). fed step g rest) (at_line_feed (record f { begun = f.begun ++ piece }) going)
+  fold_whole_line : (f : Feeding S) (piece rest : List ℕ) → f.refused ≡ false → HasNoLineFeed piece
+      → fold_bytes step f (piece ++ 10 ∷ rest) ≡ fold_bytes step (line_ended step f (without_return (f.begun ++ piece)))
+      rest
+  fold_whole_line f piece rest going none =
+      fold_more f piece (10 ∷ rest) going none
+      ∙ ap (λ (g : Feeding S). fold_bytes step g rest) (at_line_feed (record f { begun = f.begun ++ piece }) going)
 
   module _ {T : Type 0} (IsAt : T → S → Type 0) where
     -- what is left of a chunk leads to a goal from where the feeder stands
     pub record IsOnItsWay (f : Feeder) (t : T) (rest : List ℕ) (goal : Feeding S) : Type 0 where
       pub at : Feeding S
-      pub stands : IsFed IsAt f t at
-      pub leads : fed step at rest ≡ goal
+      pub stands : HasFoldedBytes IsAt f t at
+      pub leads : fold_bytes step at rest ≡ goal
 
-    pub way_begins : (f : Feeder) (t : T) (at : Feeding S) (chunk : List ℕ) → IsFed IsAt f t at
-        → IsOnItsWay f t chunk (fed step at chunk)
+    pub way_begins : (f : Feeder) (t : T) (at : Feeding S) (chunk : List ℕ) → HasFoldedBytes IsAt f t at
+        → IsOnItsWay f t chunk (fold_bytes step at chunk)
     way_begins f t at chunk stands = record { at = at; stands = stands; leads = refl }
 
     pub way_refused : (f : Feeder) (t : T) (rest : List ℕ) (goal : Feeding S) → IsOnItsWay f t rest goal
-        → f.refused ≡ true → IsFed IsAt f t goal
+        → f.refused ≡ true → HasFoldedBytes IsAt f t goal
     way_refused f t rest goal way over =
-        subst (IsFed IsAt f t) (sym (fed_refused way.at rest (sym way.stands.refused ∙ over)) ∙ way.leads) way.stands
+        subst (HasFoldedBytes IsAt f t) (sym (fold_refused way.at rest (sym way.stands.refused ∙ over)) ∙ way.leads)
+        way.stands
 
     pub way_line : (f g : Feeder) (t u : T) (bytes piece rest : List ℕ) (goal : Feeding S)
         → IsOnItsWay f t bytes goal → bytes ≡ piece ++ 10 ∷ rest → f.refused ≡ false → HasNoLineFeed piece
-        → ((at : Feeding S) → IsFed IsAt f t at
-        → IsFed IsAt g u (line_ended step at (without_return (at.begun ++ piece))))
+        → ((at : Feeding S) → HasFoldedBytes IsAt f t at
+        → HasFoldedBytes IsAt g u (line_ended step at (without_return (at.begun ++ piece))))
         → IsOnItsWay g u rest goal
     way_line f g t u bytes piece rest goal way parted going none took = record {
       at = line_ended step way.at (without_return (way.at.begun ++ piece));
       stands = took way.at way.stands;
-      leads = sym (fed_line way.at piece rest (sym way.stands.refused ∙ going) none)
-          ∙ ap (fed step way.at) (sym parted) ∙ way.leads;
+      leads = sym (fold_whole_line way.at piece rest (sym way.stands.refused ∙ going) none)
+          ∙ ap (fold_bytes step way.at) (sym parted) ∙ way.leads;
     }
 
     -- what is left begins a line
     pub way_ends : (f g : Feeder) (t : T) (rest : List ℕ) (goal : Feeding S) → IsOnItsWay f t rest goal
         → f.refused ≡ false → HasNoLineFeed rest → g ≡ record f { kept = keeping_more f.kept rest }
-        → IsFed IsAt g t goal
+        → HasFoldedBytes IsAt g t goal
     way_ends f g t rest goal way going none is =
-        rw is (subst (IsFed IsAt (record f { kept = keeping_more f.kept rest }) t)
-        (sym (fed_rest way.at rest (sym way.stands.refused ∙ going) none) ∙ way.leads)
+        rw is (subst (HasFoldedBytes IsAt (record f { kept = keeping_more f.kept rest }) t)
+        (sym (fold_rest way.at rest (sym way.stands.refused ∙ going) none) ∙ way.leads)
         (record {
           taker = way.stands.taker;
           kept = ap (λ (bytes : List ℕ). take f.kept.room (bytes ++ rest)) way.stands.kept
@@ -249,7 +252,8 @@ module _ {S : Type 0} (step : S → List ℕ → Turn S) where
         }))
 
     -- nothing is kept, so no line has begun
-    pub not_begun : (f : Feeder) (t : T) (at : Feeding S) → IsFed IsAt f t at → (length f.kept.bytes == 0) ≡ true
+    pub not_begun : (f : Feeder) (t : T) (at : Feeding S) → HasFoldedBytes IsAt f t at
+        → (length f.kept.bytes == 0) ≡ true
         → at.begun ≡ []
     not_begun f t at stands none =
         nothing_kept at.limit at.begun
@@ -257,15 +261,15 @@ module _ {S : Type 0} (step : S → List ℕ → Turn S) where
         (ap (λ (n : ℕ). take n at.begun) (sym stands.room) ∙ sym stands.kept) ∙ none)
 
 -- before the first byte
-pub fed_nothing : {T S : Type 0} (IsAt : T → S → Type 0) (f : Feeder) (t : T) (s : S) → IsUnfed f → IsAt t s
-    → IsFed IsAt f t (feeding f.limit s)
-fed_nothing IsAt f t s unfed at = record {
+pub fold_nothing : {T S : Type 0} (IsAt : T → S → Type 0) (f : Feeder) (t : T) (s : S) → IsInitial f → IsAt t s
+    → HasFoldedBytes IsAt f t (feeding f.limit s)
+fold_nothing IsAt f t s initial at = record {
   taker = at;
-  kept = unfed.empty ∙ sym (take_none f.kept.room);
-  room = unfed.room;
+  kept = initial.empty ∙ sym (take_none f.kept.room);
+  room = initial.room;
   limit = refl;
-  number = unfed.number;
-  refused = unfed.refused;
+  number = initial.number;
+  refused = initial.refused;
 }
 
 -- a result that says whether a line was taken

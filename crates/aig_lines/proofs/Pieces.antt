@@ -54,7 +54,7 @@ pub ended_before : (front rest : List Line) → EndInLineFeeds (front ++ rest) �
 ended_before front [] e = inl refl
 ended_before front (l ∷ rest) e = inr (all_ended front l rest e)
 
--- the text of the lines in front, and of those behind
+-- the text of the lines in front, and of those after
 pub bytes_joined : (front rest : List Line) → bytes_of (front ++ rest) ≡ bytes_of front ++ bytes_of rest
 bytes_joined front rest = flat_map-append line_bytes front rest
 

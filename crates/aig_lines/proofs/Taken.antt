@@ -19,7 +19,7 @@ lines_count (l ∷ ls) h =
     ap length is ∙ length-append l.text (10 ∷ []) in
     omega (arith, n, lines_count ls h.1, length-append (line_bytes l) (bytes_of ls))
 
--- These bytes were taken, and what was ahead of them is ahead of the others, whatever comes behind.
+-- These bytes were taken, and what was ahead of them is ahead of the others, whatever comes after.
 pub record IsTaken (bytes : List ℕ) (used number now : ℕ) (lines left : List Line) : Type 0 where
   pub within : used ≤ length bytes
   pub counted : now ≤ number + used

@@ -1,5 +1,5 @@
--- What becomes of the lines of a text, and of bytes that come in pieces: two functions, `told` and `fed`. One law says
--- that they are one.
+-- What becomes of the lines of a text, and of bytes that come in pieces: two functions, `fold_lines` and `fed`. One law
+-- says that they are one.
 use Rattle.std.specs.Prelude.{◌≡◌, ◌+◌, ◌==◌, ◌++◌, ℕ, suc, List, [], ◌∷◌, Bool, true, false, not, fold}
 use Rattle.std.specs.Prelude.{if◌then◌else◌, length, nat_le}
 use Rattle.aig_lines.specs.Lines.{Line}
@@ -18,28 +18,28 @@ abbrev pub TookTurn : {T S : Type 0} → (T → S → Type 0) → T → Bool →
 TookTurn IsAt taker answer t = IsAt taker t.state × (answer ≡ t.goes_on)
 
 -- a line of this text: one that is longer than the limit is refused, and the taker does not see it
-abbrev pub heard : {S : Type 0} → (S → List ℕ → Turn S) → ℕ → S → List ℕ → Turn S
-heard step limit s text = if nat_le (length text) limit then step s text else turn s false
+abbrev pub checked_line : {S : Type 0} → (S → List ℕ → Turn S) → ℕ → S → List ℕ → Turn S
+checked_line step limit s text = if nat_le (length text) limit then step s text else turn s false
 
--- what the lines of a text come to: the taker behind them, the number of the line that was refused or else of the line
+-- what the lines of a text come to: the taker after them, the number of the line that was refused or else of the line
 -- that would be next, and whether one was refused
-pub record Told (S : Type 0) : Type 0 where
+pub record Folded (S : Type 0) : Type 0 where
   pub state : S
   pub number : ℕ
   pub refused : Bool
 
-abbrev pub told_to : {S : Type 0} → S → ℕ → Bool → Told S
-told_to s number refused = record { state = s; number = number; refused = refused }
+abbrev pub folded_to : {S : Type 0} → S → ℕ → Bool → Folded S
+folded_to s number refused = record { state = s; number = number; refused = refused }
 
 -- the lines, the first of which has this number, up to the first that is refused
-abbrev pub told : {S : Type 0} → (S → List ℕ → Turn S) → ℕ → S → ℕ → List Line → Told S
-told step limit s number [] = told_to s number false
-told step limit s number (l ∷ ls) =
-    let t = heard step limit s (text_of l) in
-    if t.goes_on then told step limit t.state (suc number) ls else told_to t.state number true
+abbrev pub fold_lines : {S : Type 0} → (S → List ℕ → Turn S) → ℕ → S → ℕ → List Line → Folded S
+fold_lines step limit s number [] = folded_to s number false
+fold_lines step limit s number (l ∷ ls) =
+    let t = checked_line step limit s (text_of l) in
+    if t.goes_on then fold_lines step limit t.state (suc number) ls else folded_to t.state number true
 
--- how far bytes were fed: how long a line may be, the taker, the beginning of the line that has not ended, its number,
--- and whether a line was refused; then the number is of that
+-- how far bytes were folded: how long a line may be, the taker, the beginning of the line that has not ended, its
+-- number, and whether a line was refused; then the number is of that
 pub record Feeding (S : Type 0) : Type 0 where
   pub limit : ℕ
   pub state : S
@@ -51,7 +51,7 @@ pub record Feeding (S : Type 0) : Type 0 where
 abbrev pub feeding : {S : Type 0} → ℕ → S → Feeding S
 feeding limit s = record { limit = limit; state = s; begun = []; number = 1; refused = false }
 
--- behind a line
+-- after a line
 abbrev pub behind_line : {S : Type 0} → Feeding S → Turn S → Feeding S
 behind_line f t = record {
   limit = f.limit;
@@ -63,18 +63,18 @@ behind_line f t = record {
 
 -- a line of this text has ended
 abbrev pub line_ended : {S : Type 0} → (S → List ℕ → Turn S) → Feeding S → List ℕ → Feeding S
-line_ended step f text = behind_line f (heard step f.limit f.state text)
+line_ended step f text = behind_line f (checked_line step f.limit f.state text)
 
 -- one more byte
-unfoldable pub fed_byte : {S : Type 0} → (S → List ℕ → Turn S) → Feeding S → ℕ → Feeding S
-fed_byte step f b =
+unfoldable pub fold_byte : {S : Type 0} → (S → List ℕ → Turn S) → Feeding S → ℕ → Feeding S
+fold_byte step f b =
     if f.refused then f
     else if b == 10 then line_ended step f (without_return f.begun)
     else record f { begun = f.begun ++ b ∷ [] }
 
 -- more bytes
-abbrev pub fed : {S : Type 0} → (S → List ℕ → Turn S) → Feeding S → List ℕ → Feeding S
-fed step f bytes = fold (fed_byte step) f bytes
+abbrev pub fold_bytes : {S : Type 0} → (S → List ℕ → Turn S) → Feeding S → List ℕ → Feeding S
+fold_bytes step f bytes = fold (fold_byte step) f bytes
 
 -- the end of the bytes: a last line without a line feed has ended
 abbrev pub ended : {S : Type 0} → (S → List ℕ → Turn S) → Feeding S → Feeding S
@@ -84,6 +84,6 @@ ended step f = if f.refused then f else if length f.begun == 0 then f else line_
 abbrev pub ended_if : {S : Type 0} → (S → List ℕ → Turn S) → Bool → Feeding S → Feeding S
 ended_if step over f = if over then ended step f else f
 
--- what was told of the lines so far
-abbrev pub outcome : {S : Type 0} → Feeding S → Told S
-outcome f = told_to f.state f.number f.refused
+-- what the lines so far come to
+abbrev pub outcome : {S : Type 0} → Feeding S → Folded S
+outcome f = folded_to f.state f.number f.refused

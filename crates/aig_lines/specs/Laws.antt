@@ -13,7 +13,7 @@ EndInLineFeeds [] = Unit {0}
 EndInLineFeeds (l ∷ []) = l.ended ≡ false → l.text ≢ []
 EndInLineFeeds (l ∷ m ∷ ls) = (l.ended ≡ true) × EndInLineFeeds (m ∷ ls)
 
--- the lines of a text are its pieces, cut behind each line feed
+-- the lines of a text are its pieces, cut after each line feed
 pub record AreLines (text : List ℕ) (ls : List Line) : Type 0 where
   pub joined : bytes_of ls ≡ text
   pub one_each : AllByRecursion IsOneLine ls

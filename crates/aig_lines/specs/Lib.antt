@@ -3,4 +3,4 @@ pub mod Laws
 pub mod Texts
 pub mod Keeping
 pub mod Feeding
-pub mod Fed
+pub mod Feeders

@@ -22,7 +22,7 @@ pub record Ahead : Type 0 where
 abbrev pub ahead : ℕ → List Line → Ahead
 ahead number lines = record { number = number; lines = lines }
 
--- the same place, where more lines come behind those
+-- the same place, where more lines come after those
 abbrev pub with_lines : Ahead → List Line → Ahead
 with_lines at more = ahead at.number (at.lines ++ more)
 

@@ -1,8 +1,9 @@
 //! Bytes that come in pieces, handed on line by line.
 ghost use Rattle.std.specs.Prelude.{◌≡◌, ◌+◌, ◌-◌, ◌^◌, ◌<◌, ◌≤◌, ◌++◌, []};
 ghost use Rattle.std.specs.Prelude.{IfOk, length, not, if◌then◌else◌};
-ghost use Rattle.aig_lines.specs.Fed.{IsFed, IsUnfed};
-ghost use Rattle.aig_lines.specs.Feeding.{Feeding, TookTurn, ended, fed, heard, line_ended};
+ghost use Rattle.aig_lines.specs.Feeders.{HasFoldedBytes, IsInitial};
+ghost use Rattle.aig_lines.specs.Feeding.{Feeding, TookTurn, checked_line, ended, fold_bytes};
+ghost use Rattle.aig_lines.specs.Feeding.{line_ended};
 ghost use Rattle.aig_lines.specs.Texts.{without_return};
 ghost use Rattle.memchr.specs.Find.{IsFirstByte, is_byte};
 
@@ -50,7 +51,7 @@ pub struct LineFeeder {
 }
 
 impl Model for LineFeeder {
-    ghost use Rattle.aig_lines.specs.Fed.{Feeder};
+    ghost use Rattle.aig_lines.specs.Feeders.{Feeder};
 
     ghost Value = { Feeder };
 
@@ -62,8 +63,8 @@ impl Model for LineFeeder {
     } };
 }
 
-/// Where the first line feed is. One behind a single character is seen without a search, which
-/// costs most where lines are short.
+/// Where the first line feed is. One after a single character is seen without a search, which costs
+/// most where lines are short.
 #[inline(always)]
 fn first_line_feed(bytes: &[u8]) -> Option<usize>
     ensures { IsFirstByte (is_byte 10) bytes.now result }
@@ -79,7 +80,7 @@ fn first_line_feed(bytes: &[u8]) -> Option<usize>
 fn hand_on<T: LineTaker>(taker: &mut T, limit: usize, text: &[u8]) -> bool
     requires { T.counted taker.old < 2 ^ 64 - 1 }
     ensures took { (s : T.State) → T.IsAt taker.old s
-        → TookTurn T.IsAt taker.new result (heard T.step limit s text.now) }
+        → TookTurn T.IsAt taker.new result (checked_line T.step limit s text.now) }
     ensures counted { T.counted taker.new ≤ T.counted taker.old + (if result then 1 else 0) }
 {
     text.len() <= limit && taker.take(text)
@@ -90,7 +91,7 @@ impl LineFeeder {
     pub fn new(alloc: Global, limit: usize) -> Result<Self, AllocError>
         requires { limit < 2 ^ 62 }
         ensures limit { IfOk result (λ f. f.limit ≡ limit) }
-        ensures unfed { IfOk result (λ f. IsUnfed f) }
+        ensures initial { IfOk result (λ f. IsInitial f) }
     {
         Ok(LineFeeder {
             kept: PartialLine::new(alloc, limit + 2)?,
@@ -107,7 +108,7 @@ impl LineFeeder {
         self.number
     }
 
-    /// Goes on behind a line, which was taken or not.
+    /// Goes on after a line, which was taken or not.
     #[inline(always)]
     fn turn(&mut self, good: bool) -> bool
         requires { self.old.number < 2 ^ 64 - 1 }
@@ -126,12 +127,12 @@ impl LineFeeder {
     }
 
     /// Takes the rest of a line, of which the beginning was kept.
-    #[tactic(auto, using(crate::proofs::Feeds::heard_joined))]
+    #[tactic(auto, using(crate::proofs::Feeds::checked_joined))]
     fn take_kept<T: LineTaker>(&mut self, taker: &mut T, piece: &[u8]) -> bool
         requires number { self.old.number < 2 ^ 64 - 1 }
         requires counted { T.counted taker.old ≤ self.old.number }
-        ensures fed { (at : Feeding T.State) → IsFed T.IsAt self.old taker.old at
-            → IsFed T.IsAt self.new taker.new
+        ensures folded { (at : Feeding T.State) → HasFoldedBytes T.IsAt self.old taker.old at
+            → HasFoldedBytes T.IsAt self.new taker.new
             (line_ended T.step at (without_return (at.begun ++ piece.now))) }
         ensures number { self.new.number ≤ self.old.number + 1 }
         ensures counted { T.counted taker.new ≤ self.new.number }
@@ -148,8 +149,8 @@ impl LineFeeder {
     fn take_ended<T: LineTaker>(&mut self, taker: &mut T, piece: &[u8]) -> bool
         requires number { self.old.number < 2 ^ 64 - 1 }
         requires counted { T.counted taker.old ≤ self.old.number }
-        ensures fed { (at : Feeding T.State) → IsFed T.IsAt self.old taker.old at
-            → IsFed T.IsAt self.new taker.new
+        ensures folded { (at : Feeding T.State) → HasFoldedBytes T.IsAt self.old taker.old at
+            → HasFoldedBytes T.IsAt self.new taker.new
             (line_ended T.step at (without_return (at.begun ++ piece.now))) }
         ensures number { self.new.number ≤ self.old.number + 1 }
         ensures counted { T.counted taker.new ≤ self.new.number }
@@ -166,8 +167,8 @@ impl LineFeeder {
     pub fn feed<T: LineTaker>(&mut self, taker: &mut T, chunk: &[u8]) -> bool
         requires number { self.old.number + length chunk.now < 2 ^ 64 }
         requires counted { T.counted taker.old ≤ self.old.number }
-        ensures fed { (at : Feeding T.State) → IsFed T.IsAt self.old taker.old at
-            → IsFed T.IsAt self.new taker.new (fed T.step at chunk.now) }
+        ensures folded { (at : Feeding T.State) → HasFoldedBytes T.IsAt self.old taker.old at
+            → HasFoldedBytes T.IsAt self.new taker.new (fold_bytes T.step at chunk.now) }
         ensures number { self.new.number ≤ self.old.number + length chunk.now }
         ensures counted { T.counted taker.new ≤ self.new.number }
         ensures result { result ≡ not self.new.refused }
@@ -193,8 +194,8 @@ impl LineFeeder {
     pub fn end<T: LineTaker>(&mut self, taker: &mut T) -> bool
         requires number { self.old.number < 2 ^ 64 - 1 }
         requires counted { T.counted taker.old ≤ self.old.number }
-        ensures fed { (at : Feeding T.State) → IsFed T.IsAt self.old taker.old at
-            → IsFed T.IsAt self.new taker.new (ended T.step at) }
+        ensures folded { (at : Feeding T.State) → HasFoldedBytes T.IsAt self.old taker.old at
+            → HasFoldedBytes T.IsAt self.new taker.new (ended T.step at) }
         ensures number { self.new.number ≤ self.old.number + 1 }
         ensures counted { T.counted taker.new ≤ self.new.number }
         ensures result { result ≡ not self.new.refused }

@@ -1,6 +1,7 @@
 //! Laws: facts about the definitions alone, each the contract of a function with an empty body.
 ghost use Rattle.std.specs.Prelude.{◌≡◌, ◌++◌, ℕ, Bool, List};
-ghost use Rattle.aig_lines.specs.Feeding.{Feeding, ended_if, fed, feeding, outcome, told};
+ghost use Rattle.aig_lines.specs.Feeding.{Feeding, ended_if, fold_bytes, feeding, outcome};
+ghost use Rattle.aig_lines.specs.Feeding.{fold_lines};
 ghost use Rattle.aig_lines.specs.Texts.{judged_lines};
 ghost use Rattle.aig_lines.specs.Laws.{LinesAreThePieces};
 
@@ -12,15 +13,15 @@ pub fn lines_are_the_pieces()
 {}
 
 /// It makes no difference where bytes are cut.
-pub fn fed_in_pieces<T: LineTaker>()
+pub fn fold_in_pieces<T: LineTaker>()
     ensures { (f : Feeding T.State) (a b : List ℕ) →
-        fed T.step f (a ++ b) ≡ fed T.step (fed T.step f a) b }
+        fold_bytes T.step f (a ++ b) ≡ fold_bytes T.step (fold_bytes T.step f a) b }
 {}
 
 /// To feed bytes is to tell their lines, up to the first that is refused: all where the bytes are
 /// over, and else the whole ones.
-pub fn fed_is_told<T: LineTaker>()
+pub fn fold_bytes_is_fold_lines<T: LineTaker>()
     ensures { (limit : ℕ) (s : T.State) (bytes : List ℕ) (over : Bool)
-        → outcome (ended_if T.step over (fed T.step (feeding limit s) bytes))
-        ≡ told T.step limit s 1 (judged_lines bytes over) }
+        → outcome (ended_if T.step over (fold_bytes T.step (feeding limit s) bytes))
+        ≡ fold_lines T.step limit s 1 (judged_lines bytes over) }
 {}

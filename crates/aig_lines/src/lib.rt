@@ -4,7 +4,7 @@
 //! `LineFeeder`, which hands the lines of bytes that come on to a `LineTaker`; `feed_source`, which
 //! feeds it the bytes of a source; and `without_return`.
 //!
-//! The definitions that matter most are `lines_of`, `told` and `fed`.
+//! The definitions that matter most are `lines_of`, `fold_lines` and `fed`.
 #![tactic(auto)]
 
 mod feeder;

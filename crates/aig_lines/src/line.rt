@@ -44,7 +44,7 @@ impl<'a> Cursor<'a> {
         Cursor::at_line(1, text)
     }
 
-    /// A place behind which this is left of the text, and where this line begins.
+    /// A place after which this is left of the text, and where this line begins.
     pub fn at_line(number: u64, rest: &'a [u8]) -> Self
         requires { number + length rest.now < 2 ^ 64 }
         ensures { result ≡ ahead number (lines_of rest.now) }

@@ -1,7 +1,6 @@
 //! The bytes of a source, from the first to the end.
 ghost use Rattle.std.specs.Prelude.{◌≡◌};
-ghost use Rattle.aig_io.specs.Devices.{CanFail};
-ghost use Rattle.aig_lines.specs.Fed.{FedSource, IsUnfed};
+ghost use Rattle.aig_lines.specs.Feeders.{FoldedSource, IsInitial};
 
 use crate::feeder::{LineFeeder, LineTaker};
 use aig_io::{DeviceFault, ROOM, Source};
@@ -13,11 +12,10 @@ pub fn feed_source<T: LineTaker, R: Source>(
     taker: &mut T,
     source: &mut R,
 ) -> Result<bool, DeviceFault>
-    requires unfed { IsUnfed feeder.old }
+    requires initial { IsInitial feeder.old }
     requires counted { T.counted taker.old ≡ 0 }
-    requires source { CanFail (R.past source.old) }
-    ensures { (s : T.State) → T.IsAt taker.old s → FedSource T.step T.IsAt feeder.old.limit s
-        (R.past source.old) (R.past source.new) result feeder.new taker.new }
+    ensures { (s : T.State) → T.IsAt taker.old s → FoldedSource T.step T.IsAt feeder.old.limit s
+        (R.history source.old) (R.history source.new) result feeder.new taker.new }
 {
     let mut block = [0u8; ROOM];
     loop {

@@ -37,7 +37,7 @@ among_given f k a (suc n) low high =
     ⊎_elim (λ (above : a < k). inr (among_given f k (a + 1) n (omega (arith, above)) (omega (arith, high))))
     (search rules) (cases_lt a k)
 
--- a gate may have its place from ready on, which is just behind one that it needs, or 0
+-- a gate may have its place from ready on, which is just after one that it needs, or 0
 module _ (count : ℕ) (needs : ℕ → List ℕ) (place at ready : ℕ → ℕ)
     (by_place : (p : ℕ) → p < count → (at p < count) × (place (at p) ≡ p))
     (by_gate : (g : ℕ) → g < count → (place g < count) × (at (place g) ≡ g))

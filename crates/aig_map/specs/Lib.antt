@@ -2,5 +2,4 @@ pub mod MapBlock
 pub mod MapSpelling
 pub mod MapReading
 pub mod Undone
-pub mod Messages
 pub mod Parts

@@ -6,26 +6,32 @@ use Rattle.std.specs.List.{AllByRecursion}
 use Rattle.aig_circuit.specs.declared.circuit.TheConstants.{LARGEST}
 use Rattle.aig_circuit.specs.Wellformed.{IsVariableUpTo}
 use Rattle.aig_circuit.specs.declared.circuit.Circuit.{Circuit}
+use Rattle.aig_fault.specs.Stopping.{fault_at}
+use Rattle.aig_fault.specs.declared.fault.Fault.{Fault}
+use Rattle.aig_fault.specs.declared.fault.Place.TheVariants.{MapLine, Whole}
+use Rattle.aig_fault.specs.declared.kind.Kind.TheVariants as kinds
 pub use Rattle.aig_rows.specs.Reading.{◌>>=◌}
-use Rattle.aig_map.specs.declared.fault.MapFault.{MapFault}
-use Rattle.aig_map.specs.declared.fault.MapFault.TheVariants.{Missing, Malformed, Mismatch}
 use Rattle.aig_map.specs.declared.map_block.FirstLine.{FirstLine}
 use Rattle.aig_map.specs.declared.map_block.MappedGate.{MappedGate}
 use Rattle.aig_map.specs.declared.map_block.MapBlock.{MapBlock}
 use Rattle.aig_map.specs.MapBlock.{last_line}
 use Rattle.aig_map.specs.MapSpelling.{after_text, first_line_at, variable_at, gate_at}
 
+-- this line of a block, counted from 1, is missing or not of its form
+abbrev pub bad_line : ℕ → Fault
+bad_line line = fault_at kinds.BadMapLine (MapLine line) 0
+
 -- what is there, or this fault
-abbrev pub or_else : {A : Type 0} → MapFault → Option A → Result A MapFault
+abbrev pub or_else : {A : Type 0} → Fault → Option A → Result A Fault
 or_else fault (Some x) = Ok x
 or_else fault None = Err fault
 
 -- what so many lines tell, from the line of this number on, and what follows them
 unfoldable pub entries_at : {T : Type 0} → (List ℕ → Option (T × List ℕ)) → ℕ → ℕ → List ℕ
-    → Result (List T × List ℕ) MapFault
+    → Result (List T × List ℕ) Fault
 entries_at entry line zero bytes = Ok ([], bytes)
 entries_at entry line (suc count) bytes = do
-  first ← or_else (Malformed line) (entry bytes)
+  first ← or_else (bad_line line) (entry bytes)
   others ← entries_at entry (line + 1) count first.1
   Ok (first.0 ∷ others.0, others.1)
 
@@ -36,19 +42,19 @@ counts_match x first =
     && nat_le (length x.inputs + length x.latches + length x.gates) first.max_var))
 
 -- the first line, where it counts what the circuit has; and what follows it
-unfoldable pub counted_line : Circuit → Result (FirstLine × List ℕ) MapFault
+unfoldable pub counted_line : Circuit → Result (FirstLine × List ℕ) Fault
 counted_line x = do
-  front ← or_else Missing (after_text (codes "aigmap ") (unwrap_or x.comment []))
-  first ← or_else (Malformed 1) (first_line_at front)
-  if counts_match x first.0 then Ok first else Err Mismatch
+  front ← or_else (fault_at kinds.NoMap Whole 0) (after_text (codes "aigmap ") (unwrap_or x.comment []))
+  first ← or_else (bad_line 1) (first_line_at front)
+  if counts_match x first.0 then Ok first else Err (fault_at kinds.MapMismatch Whole 0)
 
--- the block behind the first line, and what follows it
-unfoldable pub rest_of_block : FirstLine → List ℕ → Result (MapBlock × List ℕ) MapFault
+-- the block after the first line, and what follows it
+unfoldable pub rest_of_block : FirstLine → List ℕ → Result (MapBlock × List ℕ) Fault
 rest_of_block first bytes = do
   inputs ← entries_at (variable_at first.max_var) 2 first.inputs bytes
   latches ← entries_at (variable_at first.max_var) (2 + first.inputs) first.latches inputs.1
   gates ← entries_at (gate_at first.max_var first.gates) (2 + first.inputs + first.latches) first.gates latches.1
-  rest ← or_else (Malformed (2 + first.inputs + first.latches + first.gates)) (after_text last_line gates.1)
+  rest ← or_else (bad_line (2 + first.inputs + first.latches + first.gates)) (after_text last_line gates.1)
   Ok (
     record {
       max_var = first.max_var;
@@ -60,8 +66,8 @@ rest_of_block first bytes = do
     rest,
   )
 
--- the block at the front of the circuit's comment, and the comment behind it
-unfoldable pub block_reading : Circuit → Result (MapBlock × List ℕ) MapFault
+-- the block at the front of the circuit's comment, and the comment after it
+unfoldable pub block_reading : Circuit → Result (MapBlock × List ℕ) Fault
 block_reading x = do
   first ← counted_line x
   rest_of_block first.0 first.1

@@ -13,7 +13,7 @@ use Rattle.aig_map.specs.declared.map_block.MappedGate.{MappedGate}
 abbrev pub after_text : List ℕ → List ℕ → Option (List ℕ)
 after_text text bytes = if bytes_eq (take (length text) bytes) text then Some (drop (length text) bytes) else None
 
--- a number with others behind it, and what follows its space
+-- a number with others after it, and what follows its space
 abbrev pub number_at : List ℕ → Option (ℕ × List ℕ)
 number_at bytes = canonical_before 32 bytes
 

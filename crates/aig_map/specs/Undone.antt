@@ -1,6 +1,6 @@
 -- The undone circuit (this project's profile): what a circuit in binary order was before its conversion, by the map
 -- block at the front of its comment.
-use Rattle.std.specs.Prelude.{◌≡◌, ◌==◌, ◌++◌, ℕ, List, length, map, Bool, Option, None, Some, Err, if◌then◌else◌, IsOk}
+use Rattle.std.specs.Prelude.{◌≡◌, ◌==◌, ◌++◌, ◌⊎◌, ℕ, List, length, map, Bool, Option, None, Some, Err, if◌then◌else◌, IsOk}
 use Rattle.std.specs.List.{range_with_len, find}
 use Rattle.std.specs.Option.{option_map, unwrap_or}
 use Rattle.aig_circuit.specs.declared.circuit.Circuit.{Circuit}
@@ -8,9 +8,11 @@ use Rattle.aig_circuit.specs.Wellformed.{AreDistinct, IsWellFormed}
 use Rattle.aig_checked.specs.BinaryOrder.{IsInBinaryOrder}
 use Rattle.aig_image.specs.Renumbering.{source_variable}
 use Rattle.aig_image.specs.Reordered.{restored}
-use Rattle.aig_map.specs.declared.fault.MapFault.{MapFault}
-use Rattle.aig_map.specs.declared.fault.MapFault.TheVariants.{NotOrdered, Missing, Malformed, Mismatch, Forged}
-use Rattle.aig_map.specs.declared.fault.MapFault.TheVariants.{OutOfMemory}
+use Rattle.aig_fault.specs.Stopping.{fault_at, refusal}
+use Rattle.aig_fault.specs.declared.fault.Fault.{Fault}
+use Rattle.aig_fault.specs.declared.fault.Place.TheVariants.{Whole}
+use Rattle.aig_fault.specs.declared.kind.Kind.TheVariants as kinds
+use Rattle.aig_fault.specs.declared.stopped.Stopped.{Stopped}
 use Rattle.aig_map.specs.declared.map_block.MappedGate.{MappedGate}
 use Rattle.aig_map.specs.declared.map_block.MapBlock.{MapBlock}
 use Rattle.aig_map.specs.MapBlock.{block_text, IsMappedImage}
@@ -40,7 +42,7 @@ undone b comment x =
       comment = comment;
     }
 
--- the comment behind a block, where there was a comment section
+-- the comment after a block, where there was a comment section
 abbrev pub comment_behind : MapBlock → List ℕ → Option (List ℕ)
 comment_behind b rest = if b.has_comment then Some rest else None
 
@@ -55,11 +57,14 @@ pub record IsUndoneFrom (x c : Circuit) : Type 0 where
   pub well_formed : IsWellFormed c
   pub image : IsMappedImage c x
 
+-- no circuit has this image and this map
+abbrev pub forged : Stopped
+forged = refusal kinds.MapForged Whole 0
+
 -- Why there is no undone circuit: the first of these that holds, where memory was not refused.
-abbrev pub IsMapFault : Circuit → MapFault → Type 0
-IsMapFault x NotOrdered = ¬ IsInBinaryOrder x
-IsMapFault x Missing = IsInBinaryOrder x × (block_reading x ≡ Err Missing)
-IsMapFault x (Malformed line) = IsInBinaryOrder x × (block_reading x ≡ Err (Malformed line))
-IsMapFault x Mismatch = IsInBinaryOrder x × (block_reading x ≡ Err Mismatch)
-IsMapFault x Forged = IsInBinaryOrder x × IsOk (block_reading x) × ((c : Circuit) → ¬ IsUndoneFrom x c)
-IsMapFault x OutOfMemory = Unit {0}
+abbrev pub IsMapFault : Circuit → Fault → Type 0
+IsMapFault x fault =
+    ((fault ≡ fault_at kinds.NotOrdered Whole 0) × (¬ IsInBinaryOrder x))
+    ⊎ (IsInBinaryOrder x × (block_reading x ≡ Err fault))
+    ⊎ ((fault ≡ fault_at kinds.MapForged Whole 0) × IsInBinaryOrder x × IsOk (block_reading x)
+    × ((c : Circuit) → ¬ IsUndoneFrom x c))

@@ -72,7 +72,7 @@ pub struct KeptMap {
 impl Model for KeptMap {
     ghost use Rattle.std.specs.Prelude.{◌≡◌, length};
     ghost use Rattle.aig_map.specs.declared.map_block.MapBlock.{MapBlock};
-    ghost use Rattle.aig_map.specs.Parts.NewPlace.{gates_told};
+    ghost use Rattle.aig_map.specs.Parts.NewPlace.{gates_recorded};
 
     ghost Value = { MapBlock };
 
@@ -80,7 +80,7 @@ impl Model for KeptMap {
       max_var = m.max_var;
       inputs = m.variables.inputs.items;
       latches = m.variables.latches.items;
-      gates = gates_told m.variables.gates.items m.new_places.items;
+      gates = gates_recorded m.variables.gates.items m.new_places.items;
       has_comment = m.has_comment;
     } };
 

@@ -1,6 +1,6 @@
 //! Map blocks: what a conversion to binary order changed, as text at the front of a comment.
 //!
-//! `aig_order` calls `record_map` and `record_new_map`, which make a block; `put_map_comment`,
+//! `aig_convert` calls `record_map` and `record_new_map`, which make a block; `put_map_comment`,
 //! which puts the comment with it, and `map_comment`, which makes that; `take_block`, which reads
 //! one; and `source_variables`, `positions_by_place`, `into_recorded`, `make_undone`,
 //! `tells_comment` and `tells_order`, of which undoing is made.
@@ -9,7 +9,6 @@
 #![tactic(auto)]
 
 mod confirmed;
-mod fault;
 mod kept_map;
 mod map_block;
 mod map_reading;
@@ -20,7 +19,6 @@ mod turns;
 mod undone;
 
 pub use crate::confirmed::tells_comment;
-pub use crate::fault::MapFault;
 pub use crate::kept_map::{KeptMap, KeptVariables};
 pub use crate::map_block::{MapBlock, MappedGate};
 pub use crate::map_reading::{TakenBlock, take_block};

@@ -12,7 +12,7 @@ pub struct MappedGate {
     pub exchanged: bool,
 }
 
-/// What the first line of a map block tells behind its word and its version.
+/// What the first line of a map block tells after its word and its version.
 #[derive(Clone, Copy)]
 pub(crate) struct FirstLine {
     /// The largest variable index of the source.

@@ -7,14 +7,16 @@ ghost use Rattle.aig_rows.specs.Outcomes.{Gives, GivesOrFails};
 ghost use Rattle.aig_map.specs.MapSpelling.{after_text, first_line_at, gate_at};
 ghost use Rattle.aig_map.specs.MapSpelling.{is_variable, last_number_at};
 ghost use Rattle.aig_map.specs.MapSpelling.{variable_at};
-ghost use Rattle.aig_map.specs.MapReading.{entries_at, counts_match, counted_line};
+ghost use Rattle.aig_fault.specs.Stopping.{fault_at};
+ghost use Rattle.aig_fault.specs.declared.fault.Place.TheVariants.{Whole};
+ghost use Rattle.aig_map.specs.MapReading.{bad_line, entries_at, counts_match, counted_line};
 ghost use Rattle.aig_map.specs.MapReading.{rest_of_block, block_reading};
 ghost use Rattle.aig_map.specs.Parts.MapOutcomes.{GivesOrMemory};
 ghost use Rattle.aig_map.specs.Parts.Tables.{without_comment};
 
-use crate::fault::MapFault;
 use crate::map_block::{FirstLine, MapBlock, MappedGate};
 use aig_core::{Circuit, LARGEST, Listing, Var};
+use aig_fault::{Fault, Kind, Place, Stopped};
 use aig_text::{canonical_number, last_bytes};
 use std::alloc::Global;
 
@@ -42,6 +44,28 @@ fn line_end_number(bytes: &[u8]) -> Option<(u64, &[u8])>
         return Some((u64::from(bytes[0] - b'0'), rest));
     }
     canonical_number(bytes, b'\n')
+}
+
+/// A fault that has no one place.
+fn whole(kind: Kind) -> Fault
+    ensures { result ≡ fault_at kind Whole 0 }
+{
+    Fault {
+        kind,
+        place: Place::Whole,
+        subject: 0,
+    }
+}
+
+/// This line of the block, counted from 1, is missing or not of its form.
+fn bad_line(line: u64) -> Fault
+    ensures { result ≡ bad_line line }
+{
+    Fault {
+        kind: Kind::BadMapLine,
+        place: Place::MapLine(line),
+        subject: 0,
+    }
 }
 
 /// What one line of a block holds, after the first line.
@@ -98,7 +122,7 @@ fn entries<'a, T: BlockEntry>(
     max_var: u64,
     count: u64,
     line: u64,
-) -> Result<(Listing<T>, &'a [u8]), MapFault>
+) -> Result<(Listing<T>, &'a [u8]), Stopped>
     requires max_var { max_var ≤ largest_index }
     requires count { count ≤ largest_index }
     requires line { line + count < 2 ^ 64 }
@@ -113,7 +137,7 @@ fn entries<'a, T: BlockEntry>(
                 found.push(recorded)?;
                 rest = after;
             }
-            None => return Err(MapFault::Malformed(line + at)),
+            None => return Err(Stopped::Refused(bad_line(line + at))),
         }
     }
     Ok((found, rest))
@@ -166,21 +190,21 @@ fn comment_bytes(image: &Circuit) -> &[u8]
 }
 
 #[tactic(auto, unfolding(crate::specs::MapReading::counted_line))]
-fn counted_line(image: &Circuit) -> Result<(FirstLine, &[u8]), MapFault>
+fn counted_line(image: &Circuit) -> Result<(FirstLine, &[u8]), Fault>
     ensures line { GivesOrFails (λ x. (x.0, x.1.now)) result (counted_line image.now) }
     ensures max_var { IfOk result (λ x. x.0.max_var ≤ largest_index) }
     ensures counts { IfOk result (λ x. x.0.inputs + x.0.latches + x.0.gates ≤ x.0.max_var) }
 {
     let Some(text) = after_text(comment_bytes(image), b"aigmap ") else {
-        return Err(MapFault::Missing);
+        return Err(whole(Kind::NoMap));
     };
     let Some((front, rest)) = first_line(text) else {
-        return Err(MapFault::Malformed(1));
+        return Err(bad_line(1));
     };
     if counts_match(image, front) {
         Ok((front, rest))
     } else {
-        Err(MapFault::Mismatch)
+        Err(whole(Kind::MapMismatch))
     }
 }
 
@@ -189,7 +213,7 @@ fn rest_of_block<'a>(
     alloc: Global,
     front: FirstLine,
     bytes: &'a [u8],
-) -> Result<(MapBlock, &'a [u8]), MapFault>
+) -> Result<(MapBlock, &'a [u8]), Stopped>
     requires max_var { front.max_var ≤ largest_index }
     requires counts { front.inputs + front.latches + front.gates ≤ front.max_var }
     ensures { GivesOrMemory (λ x. (x.0, x.1.now)) result (rest_of_block front bytes.now) }
@@ -202,7 +226,7 @@ fn rest_of_block<'a>(
     let (gates, bytes) = entries::<MappedGate>(alloc, bytes, max_var, front.gates, line)?;
     let line = line + front.gates;
     let Some(rest) = after_text(bytes, b"aigmap end\n") else {
-        return Err(MapFault::Malformed(line));
+        return Err(Stopped::Refused(bad_line(line)));
     };
     let block = MapBlock {
         max_var: max_var as u32,
@@ -214,14 +238,14 @@ fn rest_of_block<'a>(
     Ok((block, rest))
 }
 
-/// The block at the front of a circuit's comment, and the comment behind it.
+/// The block at the front of a circuit's comment, and the comment after it.
 #[tactic(auto, unfolding(crate::specs::MapReading::block_reading))]
-fn read_block(alloc: Global, image: &Circuit) -> Result<(MapBlock, &[u8]), MapFault>
+fn read_block(alloc: Global, image: &Circuit) -> Result<(MapBlock, &[u8]), Stopped>
     ensures { GivesOrMemory (λ x. (x.0, x.1.now)) result (block_reading image.now) }
 {
     match counted_line(image) {
         Ok((front, rest)) => rest_of_block(alloc, front, rest),
-        Err(fault) => Err(fault),
+        Err(fault) => Err(Stopped::Refused(fault)),
     }
 }
 
@@ -240,7 +264,7 @@ fn take_comment(alloc: Global, image: &mut Circuit) -> Vec<u8>
 #[derive(Drop)]
 pub struct TakenBlock {
     pub block: MapBlock,
-    /// The comment behind the block.
+    /// The comment after the block.
     pub comment: Vec<u8>,
     /// The circuit without a comment.
     pub image: Circuit,
@@ -248,15 +272,15 @@ pub struct TakenBlock {
 
 /// Takes the block off the front of a circuit's comment. Its text is let go, since it takes more
 /// memory than the gates.
-pub fn take_block(alloc: Global, image: Circuit) -> Result<TakenBlock, MapFault>
+pub fn take_block(alloc: Global, image: Circuit) -> Result<TakenBlock, Stopped>
     ensures read { GivesOrMemory (λ t. (t.block, t.comment.items)) result (block_reading image) }
     ensures bare { IfOk result (λ t. t.image ≡ without_comment image) }
 {
     let (block, kept) = match read_block(alloc, &image) {
         Ok((block, comment)) => (block, comment.len()),
-        Err(fault) => {
+        Err(stopped) => {
             drop(image); // for the proof
-            return Err(fault);
+            return Err(stopped);
         }
     };
     let mut image = image;

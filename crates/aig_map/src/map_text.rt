@@ -2,13 +2,13 @@
 ghost use Rattle.std.specs.Prelude.{◌≡◌, ◌++◌, [], length, IfOk, OnOk};
 ghost use Rattle.std.specs.List.{flat_map};
 ghost use Rattle.std.specs.Option.{unwrap_or};
-ghost use Rattle.aig_io.specs.Devices.{CanFail, took};
-ghost use Rattle.aig_io.specs.Output.{Put};
+ghost use Rattle.aig_io.specs.Devices.{took};
+ghost use Rattle.aig_io.specs.Output.{Appended};
 ghost use Rattle.aig_text.specs.AsciiText.{numbers_text};
 ghost use Rattle.aig_map.specs.declared.map_block.MappedGate.{MappedGate as MappedRecord};
 ghost use Rattle.aig_map.specs.MapBlock.{block_text, first_line_text, first_row};
 ghost use Rattle.aig_map.specs.MapBlock.{mapped_row, variable_row};
-ghost use Rattle.aig_map.specs.Parts.NewPlace.{gate_told, gates_told};
+ghost use Rattle.aig_map.specs.Parts.NewPlace.{gate_recorded, gates_recorded};
 
 use crate::kept_map::{KeptMap, NewPlace};
 use aig_core::{DeviceFault, Listing, OutOfMemory, Output, Sink, Var, VecSink};
@@ -19,7 +19,7 @@ use std::alloc::Global;
 const VERSION: u64 = 1;
 
 fn put_first_line<W: Sink>(output: &mut Output<W>, block: &KeptMap)
-    ensures { Put output.old output.new (first_line_text (first_row block.now)) }
+    ensures { Appended output.old output.new (first_line_text (first_row block.now)) }
 {
     let others = [
         u64::from(block.max_var),
@@ -33,7 +33,7 @@ fn put_first_line<W: Sink>(output: &mut Output<W>, block: &KeptMap)
 }
 
 fn put_variables<W: Sink>(output: &mut Output<W>, variables: &[Var])
-    ensures { Put output.old output.new (flat_map
+    ensures { Appended output.old output.new (flat_map
         (λ v. numbers_text (variable_row v)) variables.now) }
 {
     for variable in variables {
@@ -43,7 +43,8 @@ fn put_variables<W: Sink>(output: &mut Output<W>, variables: &[Var])
 
 #[inline(always)]
 fn put_gate<W: Sink>(output: &mut Output<W>, var: Var, new_place: NewPlace)
-    ensures { Put output.old output.new (numbers_text (mapped_row (gate_told var new_place))) }
+    ensures { Appended output.old output.new (numbers_text
+        (mapped_row (gate_recorded var new_place))) }
 {
     let others = [
         u64::from(new_place.place()),
@@ -55,9 +56,9 @@ fn put_gate<W: Sink>(output: &mut Output<W>, var: Var, new_place: NewPlace)
 #[inline(never)]
 fn put_gates<W: Sink>(output: &mut Output<W>, variables: &[Var], new_places: &[NewPlace])
     requires { length new_places.now ≡ length variables.now }
-    ensures { Put output.old output.new (flat_map
+    ensures { Appended output.old output.new (flat_map
         (λ (g : MappedRecord). numbers_text (mapped_row g))
-        (gates_told variables.now new_places.now)) }
+        (gates_recorded variables.now new_places.now)) }
 {
     for (at, new_place) in new_places.iter().enumerate() {
         put_gate(output, variables[at], *new_place);
@@ -65,7 +66,7 @@ fn put_gates<W: Sink>(output: &mut Output<W>, variables: &[Var], new_places: &[N
 }
 
 fn put_block<W: Sink>(output: &mut Output<W>, block: &KeptMap)
-    ensures { Put output.old output.new (block_text block.now) }
+    ensures { Appended output.old output.new (block_text block.now) }
 {
     put_first_line(output, block);
     put_variables(output, block.variables.inputs.as_slice());
@@ -84,7 +85,7 @@ pub fn put_map_comment<W: Sink>(
     block: &KeptMap,
     comment: &Option<Listing<u8>>,
 )
-    ensures { Put output.old output.new (block_text block.now ++ unwrap_or comment.now []) }
+    ensures { Appended output.old output.new (block_text block.now ++ unwrap_or comment.now []) }
 {
     put_block(output, block);
     if let Some(bytes) = comment {
@@ -97,9 +98,8 @@ fn write_comment<W: Sink>(
     comment: &Option<Listing<u8>>,
     sink: &mut W,
 ) -> Result<(), DeviceFault>
-    requires { CanFail (W.past sink.old) }
-    ensures { OnOk result (W.past sink.new
-        ≡ took (block_text block.now ++ unwrap_or comment.now []) (W.past sink.old)) }
+    ensures { OnOk result (W.history sink.new
+        ≡ took (block_text block.now ++ unwrap_or comment.now []) (W.history sink.old)) }
 {
     let mut output = Output::new(sink);
     put_map_comment(&mut output, block, comment);

@@ -40,9 +40,9 @@ fn ready_from(first: u32, gate: Gate) -> u32
     (gate.left.var().0 + 1).saturating_sub(first)
 }
 
-/// The link of the place behind those that have one. There is none where a position is above the
-/// one there, from the first place on that its gate may have. Going back by links passes over
-/// positions that were compared before.
+/// The link of the place after those that have one. There is none where a position is above the one
+/// there, from the first place on that its gate may have. Going back by links passes over positions
+/// that were compared before.
 fn next_link(places: &[u32], links: &[u32], ready: u32) -> Option<u32>
     requires few { length places.now ≤ LARGEST }
     requires there { length links.now < length places.now }

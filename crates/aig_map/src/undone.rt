@@ -9,8 +9,7 @@ ghost use Rattle.aig_circuit.specs.Wellformed.{AreDistinct};
 ghost use Rattle.aig_image.specs.Relabelled.{FitIntoLiterals, relabelled_gate};
 ghost use Rattle.aig_image.specs.Renumbering.{source_variable};
 ghost use Rattle.aig_image.specs.Reordered.{exchanged_by, exchanged_if, taken};
-ghost use Rattle.aig_map.specs.declared.fault.MapFault.TheVariants.{Forged as IsForged};
-ghost use Rattle.aig_map.specs.declared.fault.MapFault.TheVariants.{OutOfMemory as IsOutOfMemory};
+ghost use Rattle.aig_fault.specs.declared.stopped.Stopped.TheVariants.{OutOfMemory as IsOutOfMemory};
 ghost use Rattle.aig_map.specs.declared.map_block.MapBlock.{MapBlock as MapBlockRecord};
 ghost use Rattle.aig_map.specs.declared.map_block.MappedGate.{MappedGate as MappedGateRecord};
 ghost use Rattle.aig_map.specs.MapReading.{IsWithinBounds};
@@ -18,15 +17,15 @@ ghost use Rattle.aig_map.specs.Parts.Placed.{table_of, with_gates};
 ghost use Rattle.aig_map.specs.Parts.Had.{without_gates};
 ghost use Rattle.aig_map.specs.Parts.Confirmed.{DifferWhereExchanged, ExchangesDiffer};
 ghost use Rattle.aig_map.specs.Parts.Tables.{ArePut, IsBlockOf};
-ghost use Rattle.aig_map.specs.Undone.{comment_behind, source_variables, undone};
+ghost use Rattle.aig_map.specs.Undone.{comment_behind, forged, source_variables, undone};
 
-use crate::fault::MapFault;
 use crate::map_block::{MapBlock, MappedGate};
 use crate::recorded::Recorded;
 use aig_core::{
     Circuit, Gate, Justice, Latch, Listing, Lit, OutOfMemory, Symbols, Var, copy_justice,
     copy_symbols,
 };
+use aig_fault::{Kind, Stopped, refused_whole};
 use aig_image::{Labels, NamesVariables, relabel};
 use std::alloc::Global;
 
@@ -47,8 +46,8 @@ fn fill_places(placed: &mut [Var], gates: &[MappedGate]) -> bool
     true
 }
 
-/// Puts the variable of each gate at its place, behind the first variables, so many. Returns
-/// whether no two gates have one place.
+/// Puts the variable of each gate at its place, after the first variables, so many. Returns whether
+/// no two gates have one place.
 fn place_gates(variables: &mut [Var], first: usize, gates: &[MappedGate]) -> bool
     requires within { first ≤ length variables.old }
     requires none { drop first variables.old ≡ replicate (length gates.now) 0 }
@@ -86,13 +85,13 @@ impl Labels for SourceVariables {
 }
 
 /// The variables of the source in their new order.
-pub fn source_variables(alloc: Global, block: &MapBlock) -> Result<SourceVariables, MapFault>
+pub fn source_variables(alloc: Global, block: &MapBlock) -> Result<SourceVariables, Stopped>
     requires bounds { IsWithinBounds block.now }
     ensures ok { IfOk result (λ r. r.variables.items ≡ source_variables block.now) }
     ensures places { IfOk result (λ _. AreDistinct
         (map (λ (g : MappedGateRecord). g.place) block.now.gates)) }
     ensures err { IfErr result (λ e. (e ≡ IsOutOfMemory)
-        ⊎ ((e ≡ IsForged)
+        ⊎ ((e ≡ forged)
         × (¬ AreDistinct (map (λ (g : MappedGateRecord). g.place) block.now.gates)))) }
 {
     let first = block.inputs.len() + block.latches.len();
@@ -104,7 +103,7 @@ pub fn source_variables(alloc: Global, block: &MapBlock) -> Result<SourceVariabl
     if place_gates(variables.as_mut_slice(), first, block.gates.as_slice()) {
         Ok(SourceVariables { variables })
     } else {
-        Err(MapFault::Forged)
+        Err(refused_whole(Kind::MapForged))
     }
 }
 
@@ -190,7 +189,7 @@ fn source_gates(
     gates: &[Gate],
     places: &[u32],
     exchanged: &[bool],
-) -> Result<Listing<Gate>, MapFault>
+) -> Result<Listing<Gate>, Stopped>
     requires fit { FitIntoLiterals (source_variable variables.now.variables.items) }
     requires many { length places.now ≡ length gates.now }
     requires there { AllByRecursion (λ at. at < length gates.now) places.now }
@@ -200,7 +199,7 @@ fn source_gates(
         × ArePut (source_variable variables.now.variables.items) gates.now places.now found
         × DifferWhereExchanged found exchanged.now × (r ≡ exchanged_by exchanged.now found)) }
     ensures err { IfErr result (λ e. (e ≡ IsOutOfMemory)
-        ⊎ ((e ≡ IsForged) × ((found : List GateRecord)
+        ⊎ ((e ≡ forged) × ((found : List GateRecord)
         × ArePut (source_variable variables.now.variables.items) gates.now places.now found
         × (¬ DifferWhereExchanged found exchanged.now)))) }
 {
@@ -208,7 +207,7 @@ fn source_gates(
     if exchange_recorded(found.as_mut_slice(), exchanged) {
         Ok(Listing::from_vec(found))
     } else {
-        Err(MapFault::Forged)
+        Err(refused_whole(Kind::MapForged))
     }
 }
 
@@ -331,7 +330,7 @@ pub fn make_undone(
     recorded: &Recorded,
     comment: &[u8],
     image: &Circuit,
-) -> Result<Circuit, MapFault>
+) -> Result<Circuit, Stopped>
     ghost block: { MapBlockRecord }
     requires block { IsBlockOf block image.now recorded.now places.now }
     requires variables { variables.now.variables.items ≡ source_variables block }
@@ -339,7 +338,7 @@ pub fn make_undone(
         c ≡ undone block (comment_behind block comment.now) image.now) }
     ensures differ { OnOk result (ExchangesDiffer block image.now) }
     ensures err { IfErr result (λ e. (e ≡ IsOutOfMemory)
-        ⊎ ((e ≡ IsForged) × (¬ ExchangesDiffer block image.now))) }
+        ⊎ ((e ≡ forged) × (¬ ExchangesDiffer block image.now))) }
 {
     let gates = source_gates(
         alloc,

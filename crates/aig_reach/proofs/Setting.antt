@@ -1,4 +1,4 @@
--- A run that reaches a bad state sets one of the unrolled circuit: with 0 for each x, and zeros for the steps behind.
+-- A run that reaches a bad state sets one of the unrolled circuit: with 0 for each x, and zeros for the steps after.
 use Rattle.std.proofs.Common.{◌≡◌, ◌+◌, ◌*◌, ◌<◌, ◌++◌, ◌||◌, ◌∙◌, ℕ, zero, suc, List, [], ◌∷◌, Bool, true, false}
 use Rattle.std.proofs.Common.{length, map}
 use Rattle.std.proofs.Common.{ap, arith, get_or, refl, replicate, subst, suc-mul, sym}
@@ -59,7 +59,7 @@ sure_starts [] (v ∷ vs) start = absurd start
 sure_starts (r ∷ rs) [] start = absurd start
 sure_starts (r ∷ rs) (v ∷ vs) start = (one_starts r v start.0, sure_starts rs vs start.1)
 
--- the first so many steps, and zeros behind them
+-- the first so many steps, and zeros after them
 abbrev pub steps_to : ℕ → ℕ → List (List Val) → List (List Val)
 steps_to inputs zero vs = []
 steps_to inputs (suc n) [] = replicate inputs Zero ∷ steps_to inputs n []

@@ -1,73 +1,76 @@
 -- A refutation that is read in pieces.
-use Rattle.std.proofs.Common.{◌≡◌, ◌+◌, ◌++◌, ◌∙◌, ℕ, List, [], Bool, Ok, Err, ap, refl}
-use Rattle.aig_io.specs.Devices.{Past, failed_once, gave_all, took}
+use Rattle.std.proofs.Common.{◌≡◌, ◌+◌, ◌++◌, ◌∙◌, ℕ, List, [], Bool, Ok, Err, ap, inl, inr, refl}
+use Rattle.aig_fault.specs.Stopping.{StopsFor, refusal}
+use Rattle.aig_fault.specs.declared.fault.Place.TheVariants.{Whole}
+use Rattle.aig_fault.specs.declared.kind.Kind.TheVariants.{NoRefutation}
+use Rattle.aig_fault.specs.declared.stopped.Stopped.{Stopped}
+use Rattle.aig_fault.specs.declared.stopped.Stopped.TheVariants as stops
+use Rattle.aig_io.specs.Devices.{History, failed_once, took}
 use Rattle.aig_io.specs.Runs.{AtEnd, Broken, Ending, IsUnbroken, Open, Read}
 use Rattle.aig_io.proofs.Took.{took_none, took_twice}
 use Rattle.aig_refute.specs.Agree.{Agrees}
-use Rattle.aig_refute.specs.Refuted.{EndsFor, IsOfLine, ReadingSays}
+use Rattle.aig_refute.specs.Refuted.{EndsFor, IsLineFault, ReadingSays}
 use Rattle.aig_refute.specs.declared.checker.Checker.{Checker}
-use Rattle.aig_refute.specs.declared.fault.RefutationFault.{RefutationFault}
-use Rattle.aig_refute.specs.declared.fault.RefutationFault.TheVariants as faults
 
 -- so many bytes came, and whatever agreed at first agrees now
-pub record HasFollowed (source source_now : Past) (old new : Checker) : Type 0 where
+pub record HasFollowed (source source_now : History) (old new : Checker) : Type 0 where
   pub bytes : List ℕ
-  pub past : source_now ≡ took bytes source
+  pub history : source_now ≡ took bytes source
   pub agrees : (a : ℕ → Bool) → Agrees a old.propagation.kernel → Agrees a new.propagation.kernel
 
-pub has_followed_none : (source : Past) (checker : Checker) → HasFollowed source source checker checker
-has_followed_none source checker = record { bytes = []; past = took_none source; agrees = λ a agrees. agrees }
+pub has_followed_none : (source : History) (checker : Checker) → HasFollowed source source checker checker
+has_followed_none source checker = record { bytes = []; history = took_none source; agrees = λ a agrees. agrees }
 
-ends_for : (fault : RefutationFault) (ending : Ending) → IsOfLine fault → IsUnbroken ending → EndsFor fault ending
-ends_for faults.OutOfMemory ending wrong unbroken = unbroken
-ends_for (faults.BadLine line) ending wrong unbroken = unbroken
-ends_for (faults.DoesNotFollow line) ending wrong unbroken = unbroken
-ends_for faults.NoRefutation ending wrong unbroken = absurd wrong
-ends_for faults.ReadFailed ending wrong unbroken = absurd wrong
+ends_for : (stopped : Stopped) (ending : Ending) → StopsFor IsLineFault stopped → IsUnbroken ending
+    → EndsFor stopped ending
+ends_for stops.OutOfMemory ending wrong unbroken = unbroken
+ends_for stops.ReadFailed ending wrong unbroken = absurd wrong
+ends_for stops.WriteFailed ending wrong unbroken = absurd wrong
+ends_for (stops.Refused fault) ending wrong unbroken = inl (wrong, unbroken)
 
-abbrev pub at_end : Past → Past
-at_end past = record past { ends = past.ends + 1 }
+abbrev pub at_end : History → History
+at_end history = record history { ends = history.ends + 1 }
 
-module _ (a b : Past) (old now : Checker) (so : HasFollowed a b old now) where
-  pub source_failed : (c : Past) → c ≡ failed_once b → Read (ReadingSays old (Err faults.ReadFailed)) a c
-  source_failed c is = record { bytes = so.bytes; ending = Broken; says = refl; came = is ∙ ap failed_once so.past }
+module _ (a b : History) (old now : Checker) (so : HasFollowed a b old now) where
+  pub source_failed : (c : History) → c ≡ failed_once b → Read (ReadingSays old (Err stops.ReadFailed)) a c
+  source_failed c is = record { bytes = so.bytes; ending = Broken; says = refl; came = is ∙ ap failed_once so.history }
 
   -- the source is at its end
-  module _ (c : Past) (is : c ≡ at_end b) where
+  module _ (c : History) (is : c ≡ at_end b) where
     pub refuted_last : ((x : ℕ → Bool) → ¬ Agrees x now.propagation.kernel) → Read (ReadingSays old (Ok tt)) a c
     refuted_last none = record {
       bytes = so.bytes;
       ending = AtEnd;
       says = (refl, λ x agrees. none x (so.agrees x agrees));
-      came = is ∙ ap at_end so.past;
+      came = is ∙ ap at_end so.history;
     }
 
-    pub not_refuted : Read (ReadingSays old (Err faults.NoRefutation)) a c
-    not_refuted = record { bytes = so.bytes; ending = AtEnd; says = refl; came = is ∙ ap at_end so.past }
+    pub not_refuted : Read (ReadingSays old (Err (refusal NoRefutation Whole 0))) a c
+    not_refuted = record { bytes = so.bytes; ending = AtEnd; says = inr (refl, refl); came = is ∙ ap at_end so.history }
 
-    pub wrong_last : (fault : RefutationFault) → IsOfLine fault → Read (ReadingSays old (Err fault)) a c
-    wrong_last fault wrong = record {
+    pub wrong_last : (stopped : Stopped) → StopsFor IsLineFault stopped → Read (ReadingSays old (Err stopped)) a c
+    wrong_last stopped wrong = record {
       bytes = so.bytes;
       ending = AtEnd;
-      says = ends_for fault AtEnd wrong tt;
-      came = is ∙ ap at_end so.past;
+      says = ends_for stopped AtEnd wrong tt;
+      came = is ∙ ap at_end so.history;
     }
 
   -- more came
-  module _ (c : Past) (chunk : List ℕ) (came : c ≡ took chunk b) where
+  module _ (c : History) (chunk : List ℕ) (came : c ≡ took chunk b) where
     pub has_followed_more : (next : Checker)
         → ((x : ℕ → Bool) → Agrees x now.propagation.kernel → Agrees x next.propagation.kernel)
         → HasFollowed a c old next
     has_followed_more next agrees = record {
       bytes = so.bytes ++ chunk;
-      past = took_twice a b c so.bytes chunk so.past came;
+      history = took_twice a b c so.bytes chunk so.history came;
       agrees = λ x old_agrees. agrees x (so.agrees x old_agrees);
     }
 
-    pub wrong_within : (fault : RefutationFault) → IsOfLine fault → Read (ReadingSays old (Err fault)) a c
-    wrong_within fault wrong = record {
+    pub wrong_within : (stopped : Stopped) → StopsFor IsLineFault stopped → Read (ReadingSays old (Err stopped)) a c
+    wrong_within stopped wrong = record {
       bytes = so.bytes ++ chunk;
       ending = Open;
-      says = ends_for fault Open wrong tt;
-      came = took_twice a b c so.bytes chunk so.past came;
+      says = ends_for stopped Open wrong tt;
+      came = took_twice a b c so.bytes chunk so.history came;
     }

@@ -1,4 +1,3 @@
 pub mod Store
 pub mod Agree
-pub mod Messages
 pub mod Refuted

@@ -2,14 +2,15 @@
 ghost use Rattle.std.specs.Prelude.{◌≡◌, ℕ, Bool, true, IfErr, IfOk, OnOk};
 ghost use Rattle.aig_cnf.specs.Clauses.{HasTrue};
 ghost use Rattle.aig_refute.specs.Agree.{Excludes, Supposes};
-ghost use Rattle.aig_refute.specs.Refuted.{Admits, IsOfLine};
+ghost use Rattle.aig_refute.specs.Refuted.{Admits, IsLineFault};
+ghost use Rattle.aig_fault.specs.Stopping.{StopsFor};
 
 use crate::clause_table::ClauseTable;
-use crate::fault::RefutationFault;
 use crate::kernel::Derived;
 use crate::propagation::Propagation;
 use crate::reader::{LineEnd, RefutationReader};
 use crate::words::negation;
+use aig_fault::{Kind, Stopped, refused_at};
 use std::alloc::{AllocError, Global};
 
 /// Below so many words nothing is given back.
@@ -185,18 +186,14 @@ impl Checker {
     }
 
     /// Does what a line says.
-    fn follow_line(
-        &mut self,
-        reader: &RefutationReader,
-        end: LineEnd,
-    ) -> Result<(), RefutationFault>
+    fn follow_line(&mut self, reader: &RefutationReader, end: LineEnd) -> Result<(), Stopped>
         ensures agrees { OnOk result ((a : ℕ → Bool) → Admits self.old a
             → Admits self.new a) }
-        ensures err { IfErr result IsOfLine }
+        ensures err { IfErr result (StopsFor IsLineFault) }
     {
         match end {
             LineEnd::Within => Ok(()),
-            LineEnd::Bad => Err(RefutationFault::BadLine(reader.line())),
+            LineEnd::Bad => Err(refused_at(Kind::BadRefutation, reader.line())),
             LineEnd::Deleted => {
                 self.remove(reader.clause())?;
                 Ok(())
@@ -205,7 +202,7 @@ impl Checker {
                 if self.add(reader.clause())? {
                     Ok(())
                 } else {
-                    Err(RefutationFault::DoesNotFollow(reader.line()))
+                    Err(refused_at(Kind::DoesNotFollow, reader.line()))
                 }
             }
         }
@@ -213,14 +210,10 @@ impl Checker {
 
     /// Follows a piece of a refutation, until the clauses are refuted or a line is wrong. What
     /// comes once they are is not looked at.
-    pub fn follow(
-        &mut self,
-        reader: &mut RefutationReader,
-        piece: &[u8],
-    ) -> Result<(), RefutationFault>
+    pub fn follow(&mut self, reader: &mut RefutationReader, piece: &[u8]) -> Result<(), Stopped>
         ensures agrees { OnOk result ((a : ℕ → Bool) → Admits self.old a
             → Admits self.new a) }
-        ensures err { IfErr result IsOfLine }
+        ensures err { IfErr result (StopsFor IsLineFault) }
     {
         if self.is_refuted() {
             return Ok(());

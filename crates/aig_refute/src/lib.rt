@@ -12,7 +12,6 @@
 
 mod checker;
 mod clause_table;
-mod fault;
 mod gates;
 mod kernel;
 mod propagation;
@@ -21,6 +20,5 @@ mod reading;
 mod words;
 
 pub use crate::checker::Checker;
-pub use crate::fault::RefutationFault;
 pub use crate::reader::RefutationReader;
 pub use crate::reading::{check_refutation, read_refutation};

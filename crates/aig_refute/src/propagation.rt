@@ -8,11 +8,11 @@ use crate::words::negation;
 use std::alloc::{AllocError, Global};
 use std::mem;
 
-/// A clause that a literal watches, and another literal of it: where that is true, nothing has to
-/// be looked at.
+/// A clause that a literal watches, and its blocking literal: where that is true, nothing has to be
+/// looked at.
 #[derive(Clone, Copy, Debug, PartialEq, Eq)]
 pub(crate) struct Watch {
-    other: u32,
+    blocking: u32,
     clause: u32,
 }
 
@@ -53,12 +53,17 @@ impl Propagation {
 
     /// A literal watches a clause from now on.
     #[inline(always)]
-    pub(crate) fn watch(&mut self, literal: u32, other: u32, clause: u32) -> Result<(), AllocError>
+    pub(crate) fn watch(
+        &mut self,
+        literal: u32,
+        blocking: u32,
+        clause: u32,
+    ) -> Result<(), AllocError>
         ensures { self.new.kernel ≡ self.old.kernel }
     {
         let at = literal as usize;
         if at < self.watches.len() {
-            self.watches[at].push(Watch { other, clause })?;
+            self.watches[at].push(Watch { blocking, clause })?;
         }
         Ok(())
     }
@@ -71,8 +76,8 @@ impl Propagation {
         ensures conflict { IfOk result (λ look. look ≡ Look.Conflict
             → (a : ℕ → Bool) → ¬ Agrees a self.old.kernel) }
     {
-        if self.kernel.is_known(watch.other) {
-            return Ok(Look::Kept(watch.other));
+        if self.kernel.is_known(watch.blocking) {
+            return Ok(Look::Kept(watch.blocking));
         }
         match self.kernel.visit(watch.clause as usize, literal) {
             Visit::Gone => Ok(Look::Left),
@@ -101,20 +106,20 @@ impl Propagation {
         for at in 0..list.len() {
             let watch = list[at];
             let look = if conflict {
-                Look::Kept(watch.other)
+                Look::Kept(watch.blocking)
             } else {
                 self.look(literal, watch)?
             };
-            let other = match look {
-                Look::Kept(other) => other,
+            let blocking = match look {
+                Look::Kept(blocking) => blocking,
                 Look::Left => continue,
                 Look::Conflict => {
                     conflict = true;
-                    watch.other
+                    watch.blocking
                 }
             };
             list[kept] = Watch {
-                other,
+                blocking,
                 clause: watch.clause,
             };
             kept += 1;

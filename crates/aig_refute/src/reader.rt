@@ -20,15 +20,15 @@ pub enum LineEnd {
 enum Awaited {
     /// The first byte: text or binary is open.
     First,
-    /// What is behind a `d` that was the first byte.
+    /// What is after a `d` that was the first byte.
     FirstDeletion,
-    /// What is behind a space that stands there: the digits of a text, or codes.
+    /// What is after a space that stands there: the digits of a text, or codes.
     FirstNumber,
     /// In a text, what is between numbers.
     Blank,
     /// The rest of a comment.
     Comment,
-    /// A digit behind `-`.
+    /// A digit after `-`.
     Digit,
     /// The rest of a number.
     Number,
@@ -36,7 +36,7 @@ enum Awaited {
     Mark,
     /// A byte of a number.
     Code,
-    /// Nothing, behind a byte that is in no line.
+    /// Nothing, after a byte that is in no line.
     Nothing,
 }
 
@@ -99,7 +99,7 @@ impl RefutationReader {
         self.is_deletion = false;
     }
 
-    /// What ends the last number of a text, where nothing stands behind it.
+    /// What ends the last number of a text, where nothing stands after it.
     pub(crate) fn missing_end(&self) -> &'static [u8] {
         match self.awaited {
             Awaited::Number => b"\n",
@@ -293,7 +293,7 @@ impl RefutationReader {
         Ok(())
     }
 
-    /// A space is a code too, which no clause has twice. So behind `d` and a space the next space
+    /// A space is a code too, which no clause has twice. So after `d` and a space the next space
     /// shows a text, and any byte that is of no number shows codes.
     fn take_first_number(&mut self, byte: u8) -> Result<LineEnd, AllocError> {
         let is_of_number = byte == b'-' || byte.is_ascii_digit();

@@ -51,7 +51,7 @@ behind_is : (bytes rest : List ℕ) (end behind : ℕ) → end < length bytes �
 behind_is bytes rest end behind within is after =
     ap₂ (λ (b : ℕ) (bs : List ℕ). b ∷ bs) is after ∙ sym (drop_more bytes end 0 within)
 
--- the digits at the front, where there are at most 18 of them, and the byte behind them
+-- the digits at the front, where there are at most 18 of them, and the byte after them
 pub plain_number_is : (bytes rest : List ℕ) (end value behind : ℕ) → end ≢ 0 → end ≤ 18 → end < length bytes
     → end ≡ digits_len bytes → value ≡ digits_value 10 (take end bytes) % 2 ^ 64 → behind ≡ get_or bytes end 0
     → rest ≡ drop (end + 1) bytes → BeginsWithNumber bytes value (behind ∷ rest)
@@ -73,7 +73,7 @@ first_digits (suc n) (b ∷ bytes) h =
     ] refl h
 first_digits n bytes h = tt
 
--- digits of the first eight bytes, and the byte behind them
+-- digits of the first eight bytes, and the byte after them
 pub short_number_is : (bytes rest : List ℕ) (end value behind : ℕ) → end ≢ 0 → end ≤ 8 → 8 < length bytes
     → (end ≤ digits_len (take 8 bytes)) × (value ≡ digits_value 10 (take end (take 8 bytes)))
     → behind ≡ get_or bytes end 0 → rest ≡ drop (end + 1) bytes
@@ -117,7 +117,7 @@ begins_with_more bytes rest digits after ns n b space m = record {
   one_line = search (rules, joined, digits_have_no_line_feed);
 }
 
--- the numbers that are stored, zeros at the places of the others, and what the bytes begin with behind the numbers
+-- the numbers that are stored, zeros at the places of the others, and what the bytes begin with after the numbers
 pub record ArePlain (n i : ℕ) (items bytes rest : List ℕ) : Type 0 where
   pub long : length items ≡ n
   pub empty : drop i items ≡ zeros (n - i)
@@ -270,7 +270,7 @@ is_plain [] rest are h lead = absurd (omega arith)
 is_plain (a ∷ []) rest are h lead = refl
 is_plain (a ∷ b ∷ digits) rest are h lead = absurd (true≢false (rw (are.1.0, eq-eqb a 48 lead) at h))
 
--- what `decimal` writes is read where this byte stands behind it
+-- what `decimal` writes is read where this byte stands after it
 pub canonical_is_read : (n stop : ℕ) (rest : List ℕ) → n < 2 ^ 33 → is_digit stop ≡ false
     → canonical_before stop (decimal n ++ stop ∷ rest) ≡ Some (n, rest)
 unfolding canonical_before number_before

@@ -5,7 +5,7 @@ use Rattle.aig_rows.specs.Rows.{Role, Form}
 use Rattle.aig_rows.specs.Reading.{carried_on, rows_at}
 use Rattle.aig_rows.specs.declared.rows.Due.{Due}
 
--- what is carried on behind rows
+-- what is carried on after rows
 abbrev pub carried_over : Role → ℕ → List (List ℕ) → ℕ
 carried_over role carried [] = carried
 carried_over role carried (ns ∷ rows) = carried_over role (carried_on role carried (slice_index ns 0)) rows
@@ -16,7 +16,7 @@ pub record AreFirst (form : Form) (bound : ℕ) (due left : Due) (at now : Ahead
   pub read : rows_at form bound due.carried (due.count - left.count) at ≡ Ok (rows, now)
   pub carried : left.carried ≡ carried_over form.first due.carried rows
 
--- what they mean stands behind what was found before
+-- what they mean stands after what was found before
 pub record HaveRead {A : Type 0} (tell : List ℕ → A) (form : Form) (bound : ℕ) (due left : Due) (before found : List A)
     (at now : Ahead) : Type 0 where
   pub rows : List (List ℕ)

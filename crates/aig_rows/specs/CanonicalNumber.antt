@@ -8,7 +8,7 @@ abbrev pub after_byte : ℕ → List ℕ → Option (List ℕ)
 after_byte byte [] = None
 after_byte byte (b ∷ bytes) = if b == byte then Some bytes else None
 
--- the number at the front, however it is spelled, where this byte stands behind it; and what follows the byte. Numbers
+-- the number at the front, however it is spelled, where this byte stands after it; and what follows the byte. Numbers
 -- from 2^33 on are above each limit, and are all taken as 2^33.
 unfoldable pub number_before : ℕ → List ℕ → Option (ℕ × List ℕ)
 number_before stop bytes = do
@@ -16,7 +16,7 @@ number_before stop bytes = do
   rest ← after_byte stop number.1
   Some (min number.0 (2 ^ 33), rest)
 
--- a zero at the front, with another digit behind it
+-- a zero at the front, with another digit after it
 abbrev pub is_padded : List ℕ → Bool
 is_padded (a ∷ b ∷ bytes) = is_digit b && (a == 48)
 is_padded _ = false

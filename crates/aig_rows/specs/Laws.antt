@@ -1,7 +1,7 @@
 -- What the definitions of this crate say of one another.
 use Rattle.std.specs.Prelude.{◌≡◌, ◌≤◌, ◌↔◌, ℕ, List, length, Some, Result, Err}
-use Rattle.aig_rows.specs.declared.fault.ReadKind.{ReadKind}
-use Rattle.aig_rows.specs.declared.fault.ReadKind.TheVariants as kinds
+use Rattle.aig_fault.specs.declared.kind.Kind.{Kind}
+use Rattle.aig_fault.specs.declared.kind.Kind.TheVariants as kinds
 use Rattle.aig_lines.specs.Lines.{Line}
 use Rattle.aig_rows.specs.Rows.{Form, roles_of, row, IsRowLine}
 use Rattle.aig_rows.specs.Scanning.{numbers_at}
@@ -22,8 +22,8 @@ RowsReadExactly =
     → (numbers_at l.ended form.least (length form.others) l.text ≡ Some ns) ↔ HoldsRow form l ns
 
 -- what is read of a line is what the thing that it holds is judged to be, and this fault where it holds nothing
-pub record IsJudged {A B : Type 0} (Holds : A → Type 0) (judge : A → Result B ReadKind) (otherwise : ReadKind)
-    (read : Result B ReadKind) : Type 0 where
+pub record IsJudged {A B : Type 0} (Holds : A → Type 0) (judge : A → Result B Kind) (otherwise : Kind)
+    (read : Result B Kind) : Type 0 where
   pub held : (x : A) → Holds x → read ≡ judge x
   pub empty : ¬ ((x : A) × Holds x) → read ≡ Err otherwise
 

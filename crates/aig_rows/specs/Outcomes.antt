@@ -4,8 +4,9 @@ use Rattle.std.specs.Prelude.{◌≡◌, ◌+◌, ◌*◌, ◌≤◌, ◌++◌, 
 use Rattle.std.specs.Prelude.{Err, get_or, ⊤}
 use Rattle.aig_rows.specs.declared.row.Role.TheVariants as roles
 use Rattle.aig_rows.specs.Rows.{Role, Form}
-use Rattle.aig_rows.specs.declared.fault.ReadFault.{ReadFault}
-use Rattle.aig_rows.specs.Reading.{want_of_memory, Found}
+use Rattle.aig_fault.specs.declared.stopped.Stopped.{Stopped}
+use Rattle.aig_fault.specs.declared.stopped.Stopped.TheVariants.{OutOfMemory, Refused}
+use Rattle.aig_rows.specs.Reading.{Found}
 
 -- What a function returned, seen by view, is what reading gives.
 abbrev pub Gives : {X Y : Type 0} → (X → Y) → Option X → Option Y → Type 0
@@ -18,16 +19,25 @@ GivesOrFails view (Ok x) read = read ≡ Ok (view x)
 GivesOrFails view (Err e) read = read ≡ Err e
 
 -- The same, unless memory was refused.
-abbrev pub GivesOrMemory : {X Y : Type 0} → (X → Y) → Result X ReadFault → Result Y ReadFault → Type 0
+abbrev pub GivesOrMemory : {X Y : Type 0} → (X → Y) → Result X Stopped → Result Y Stopped → Type 0
 GivesOrMemory view (Ok x) read = read ≡ Ok (view x)
-GivesOrMemory view (Err e) read = (e ≡ want_of_memory) ⊎ (read ≡ Err e)
+GivesOrMemory view (Err e) read = (e ≡ OutOfMemory) ⊎ (read ≡ Err e)
 
--- what the next row means, and what is ahead behind it
+-- something is read, or the input is refused: memory and devices are none of it
+abbrev pub IsRefusal : Stopped → Type 0
+IsRefusal (Refused fault) = ⊤
+IsRefusal stopped = ⊥
+
+abbrev pub IsReadOrRefused : {X : Type 0} → Result X Stopped → Type 0
+IsReadOrRefused (Ok x) = ⊤
+IsReadOrRefused (Err stopped) = IsRefusal stopped
+
+-- what the next row means, and what is ahead after it
 abbrev pub row_meant : {A : Type 0} → (List ℕ → A) → Found (List ℕ) → Found A
 row_meant tell (Ok x) = Ok (tell x.0, x.1)
 row_meant tell (Err e) = Err e
 
--- what rows mean behind what was found before, and what is ahead behind them
+-- what rows mean after what was found before, and what is ahead after them
 abbrev pub rows_meant : {A : Type 0} → (List ℕ → A) → List A → Found (List (List ℕ)) → Found (List A)
 rows_meant tell found (Ok x) = Ok (found ++ map tell x.0, x.1)
 rows_meant tell found (Err e) = Err e

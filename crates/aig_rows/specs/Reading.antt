@@ -2,10 +2,11 @@
 use Rattle.std.specs.Prelude.{◌+◌, ◌*◌, ◌%◌, ◌==◌, ◌||◌, ℕ, not, zero, suc, List, [], ◌∷◌, length, slice_index, Bool}
 use Rattle.std.specs.Prelude.{false, nat_lt, Option, None, Some, Result, Ok, Err, if◌then◌else◌}
 use Rattle.std.specs.List.{list_any, zip}
-use Rattle.aig_rows.specs.declared.fault.Place.TheVariants as places
-use Rattle.aig_rows.specs.declared.fault.ReadKind.{ReadKind}
-use Rattle.aig_rows.specs.declared.fault.ReadKind.TheVariants as kinds
-use Rattle.aig_rows.specs.declared.fault.ReadFault.{ReadFault}
+use Rattle.aig_fault.specs.Stopping.{refusal}
+use Rattle.aig_fault.specs.declared.fault.Place.TheVariants as places
+use Rattle.aig_fault.specs.declared.kind.Kind.{Kind}
+use Rattle.aig_fault.specs.declared.kind.Kind.TheVariants as kinds
+use Rattle.aig_fault.specs.declared.stopped.Stopped.{Stopped}
 use Rattle.aig_lines.specs.Lines.{Line, Ahead, ahead}
 use Rattle.aig_rows.specs.Scanning.{numbers_at}
 use Rattle.aig_rows.specs.Rows.{Role, Form, roles_of}
@@ -16,11 +17,11 @@ abbrev pub ◌>>=◌ : {A B E : Type 0} → Result A E → (A → Result B E) �
 (Ok x) >>= f = f x
 (Err e) >>= f = Err e
 
-abbrev pub fault_at : ℕ → ReadKind → ReadFault
-fault_at n kind = record { place = places.Line n; kind = kind }
+abbrev pub fault_at : ℕ → Kind → Stopped
+fault_at n kind = refusal kind (places.Line n) 0
 
 -- what is read, or what is wrong at this line
-abbrev pub at_line : {A : Type 0} → ℕ → Result A ReadKind → Result A ReadFault
+abbrev pub at_line : {A : Type 0} → ℕ → Result A Kind → Result A Stopped
 at_line n (Ok x) = Ok x
 at_line n (Err kind) = Err (fault_at n kind)
 
@@ -77,7 +78,7 @@ abbrev pub any_number : (Role → ℕ → Bool) → List Role → List ℕ → B
 any_number test rs ns = list_any (λ p. test p.0 p.1) (zip rs ns)
 
 -- what is wrong with the numbers of a row, where its literals or the sum of sizes may go up to the bound
-abbrev pub fault_in_row : Form → ℕ → ℕ → List ℕ → Option ReadKind
+abbrev pub fault_in_row : Form → ℕ → ℕ → List ℕ → Option Kind
 fault_in_row form bound carried ns =
     if any_number misdefines (roles_of form) ns then Some kinds.NotVariable
     else if any_number (exceeds bound) (roles_of form) ns then Some kinds.LiteralRange
@@ -86,26 +87,26 @@ fault_in_row form bound carried ns =
     else if any_number (oversizes bound carried) (roles_of form) ns then Some kinds.TooLarge
     else None
 
-abbrev pub unless_wrong : {A : Type 0} → A → Option ReadKind → Result A ReadKind
+abbrev pub unless_wrong : {A : Type 0} → A → Option Kind → Result A Kind
 unless_wrong x None = Ok x
 unless_wrong x (Some kind) = Err kind
 
 -- the numbers of a row, where there is one
-unfoldable pub checked_row : Form → ℕ → ℕ → Option (List ℕ) → Result (List ℕ) ReadKind
+unfoldable pub checked_row : Form → ℕ → ℕ → Option (List ℕ) → Result (List ℕ) Kind
 checked_row form bound carried None = Err kinds.BadLine
 checked_row form bound carried (Some ns) = unless_wrong ns (fault_in_row form bound carried ns)
 
 -- the row that a line tells
-unfoldable pub row_of : Form → ℕ → ℕ → Line → Result (List ℕ) ReadKind
+unfoldable pub row_of : Form → ℕ → ℕ → Line → Result (List ℕ) Kind
 row_of form bound carried l =
     checked_row form bound carried (numbers_at l.ended form.least (length form.others) l.text)
 
--- what is found in the lines ahead, and what is ahead behind those
+-- a result and the remaining input
 abbrev pub Found : Type 0 → Type 0
-Found A = Result (A × Ahead) ReadFault
+Found A = Result (A × Ahead) Stopped
 
 -- what the first of these lines tells, or that none is left
-abbrev pub line_found : {A : Type 0} → ReadKind → (Line → Result A ReadKind) → ℕ → List Line → Found A
+abbrev pub line_found : {A : Type 0} → Kind → (Line → Result A Kind) → ℕ → List Line → Found A
 line_found missing tell n [] = Err (fault_at n missing)
 line_found missing tell n (l ∷ ls) = do
   found ← at_line n (tell l)
@@ -122,10 +123,3 @@ rows_at form bound carried (suc count) at = do
   first ← row_at form bound carried at
   others ← rows_at form bound (carried_on form.first carried (slice_index first.0 0)) count first.1
   Ok (first.0 ∷ others.0, others.1)
-
-abbrev pub whole_fault : ReadKind → ReadFault
-whole_fault kind = record { place = places.Whole; kind = kind }
-
--- memory was refused while the text was judged
-abbrev pub want_of_memory : ReadFault
-want_of_memory = whole_fault kinds.OutOfMemory

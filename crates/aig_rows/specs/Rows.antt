@@ -12,7 +12,7 @@ use Rattle.aig_rows.specs.declared.row.Role.TheVariants as roles
 use Rattle.aig_lines.specs.Lines.{Line}
 use Rattle.aig_rows.specs.Spelling.{IsNumberLine}
 
--- What a line of a section has to hold: a number for each role, of which those behind the first may be left out down to
+-- What a line of a section has to hold: a number for each role, of which those after the first may be left out down to
 -- `least` of them. A number that is left out is 0.
 pub record Form : Type 0 where
   pub first : Role

@@ -140,7 +140,7 @@ pub(crate) fn numbers<const N: usize>(line: Line, least: usize) -> Option<(u64, 
     Some((first, others))
 }
 
-/// A number of at most 18 digits at the front, the byte behind it, and what follows that.
+/// A number of at most 18 digits at the front, the byte after it, and what follows that.
 #[inline(always)]
 fn plain_number(bytes: &[u8]) -> Option<(u64, u8, &[u8])>
     ensures { IfSome result (λ x. BeginsWithNumber bytes.now x.0 (x.1 ∷ x.2.now)) }
@@ -172,7 +172,7 @@ fn short_end(bytes: &[u8]) -> Option<u32>
     Some(end)
 }
 
-/// The number of so many digits at the front, the byte behind it, and what follows that.
+/// The number of so many digits at the front, the byte after it, and what follows that.
 #[inline(always)]
 fn short_at(bytes: &[u8], end: u32) -> Option<(u64, u8, &[u8])>
     requires some { 0 < end }
@@ -187,7 +187,7 @@ fn short_at(bytes: &[u8], end: u32) -> Option<(u64, u8, &[u8])>
     Some((value, behind, rest))
 }
 
-/// A number of one to eight digits at the front, the byte behind it, and what follows that, where
+/// A number of one to eight digits at the front, the byte after it, and what follows that, where
 /// nine bytes stand there.
 #[inline(always)]
 fn short_number(bytes: &[u8]) -> Option<(u64, u8, &[u8])>
@@ -197,7 +197,7 @@ fn short_number(bytes: &[u8]) -> Option<(u64, u8, &[u8])>
     short_at(bytes, end)
 }
 
-/// A number of one to eight digits at the front with this byte behind it, and what follows that,
+/// A number of one to eight digits at the front with this byte after it, and what follows that,
 /// where nine bytes stand there.
 #[inline(always)]
 pub(crate) fn short_number_before(bytes: &[u8], stop: u8) -> Option<(u64, &[u8])>
@@ -212,7 +212,7 @@ pub(crate) fn short_number_before(bytes: &[u8], stop: u8) -> Option<(u64, &[u8])
     Some((value, rest))
 }
 
-/// The number at the front, the byte behind it, and what follows that, where it is short or else
+/// The number at the front, the byte after it, and what follows that, where it is short or else
 /// where it has not too many digits.
 #[inline(always)]
 pub(crate) fn front_number(bytes: &[u8], short: bool) -> Option<(u64, u8, &[u8])>
@@ -225,7 +225,7 @@ pub(crate) fn front_number(bytes: &[u8], short: bool) -> Option<(u64, u8, &[u8])
     }
 }
 
-/// Numbers at the front, each after one space, the line feed behind them, and what follows it. The
+/// Numbers at the front, each after one space, the line feed after them, and what follows it. The
 /// first byte is given apart. There are at least `least` numbers; those that are left out are 0.
 #[inline(always)]
 pub(crate) fn plain_numbers<const N: usize>(
@@ -259,7 +259,7 @@ pub(crate) fn plain_numbers<const N: usize>(
     Some((numbers, rest))
 }
 
-/// A number of at most 18 digits at the front with this byte behind it, and what follows that.
+/// A number of at most 18 digits at the front with this byte after it, and what follows that.
 #[inline(always)]
 fn plain_number_before(bytes: &[u8], stop: u8) -> Option<(u64, &[u8])>
     ensures { IfSome result (λ x. BeginsWithNumber bytes.now x.0 (stop ∷ x.1.now)) }
@@ -275,7 +275,7 @@ fn plain_number_before(bytes: &[u8], stop: u8) -> Option<(u64, &[u8])>
     Some((value, rest))
 }
 
-/// The number at the front, however spelled, where this byte is behind it; and what follows that.
+/// The number at the front, however spelled, where this byte is after it; and what follows that.
 #[cold]
 #[inline(never)]
 #[tactic(auto, unfolding(crate::specs::CanonicalNumber::number_before))]
@@ -289,7 +289,7 @@ fn long_number(bytes: &[u8], stop: u8) -> Option<(u64, &[u8])>
     }
 }
 
-/// Whether a zero stands at the front, with another digit behind it.
+/// Whether a zero stands at the front, with another digit after it.
 #[inline(always)]
 fn is_padded(bytes: &[u8]) -> bool
     ensures { result ≡ is_padded bytes.now }
@@ -300,7 +300,7 @@ fn is_padded(bytes: &[u8]) -> bool
     }
 }
 
-/// The canonical number at the front, where this byte stands behind it; and what follows the byte.
+/// The canonical number at the front, where this byte stands after it; and what follows the byte.
 /// Numbers from 2^33 on are above each limit, and are all taken as 2^33.
 #[inline(always)]
 #[tactic(auto, unfolding(crate::specs::CanonicalNumber::canonical_before))]

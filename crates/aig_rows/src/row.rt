@@ -13,9 +13,9 @@ ghost use Rattle.aig_rows.specs.Reading.{own_literal, carried_on};
 ghost use Rattle.aig_rows.specs.Reading.{any_number, fault_in_row, row_of, row_at};
 ghost use Rattle.aig_rows.specs.Parts.Right.{is_right};
 
-use crate::fault::{Place, ReadFault, ReadKind};
 use crate::number::{front_number, numbers, plain_numbers, short_number_before};
 use aig_circuit::{Gate, Latch, Lit, Reset, Var};
+use aig_fault::{Kind, Stopped, refused_at};
 use aig_lines::{Cursor, Line, split_line};
 use std::marker::Model;
 
@@ -112,8 +112,8 @@ pub struct NextState {
 }
 
 /// What one line of numbers means: an entry of a section. It is judged beside the largest index, or
-/// what sizes may add up to (`bound`), and beside what the lines before it leave (`carried`): of
-/// sizes their sum, and elsewhere the literal of the line's variable in a binary file.
+/// what sizes may add up to (`bound`), and beside `carried`, the value from the line before: of
+/// sizes the sum so far, and elsewhere the literal of the line's variable in a binary file.
 pub trait FromRow: Copy {
     /// What the line has to hold.
     ghost form: { Form };
@@ -130,8 +130,8 @@ pub trait FromRow: Copy {
             ≡ Ok (x.0, ahead (number + 1) (lines_of x.1.now))) }
         ensures shorter { IfSome result (λ x. length x.1.now < length bytes.now) };
 
-    /// Reads the next line, and moves behind it, unless it is not right.
-    fn read_row(at: &mut Cursor, bound: u32, carried: u64) -> Result<Self, ReadFault>
+    /// Reads the next line, and moves past it, unless it is not right.
+    fn read_row(at: &mut Cursor, bound: u32, carried: u64) -> Result<Self, Stopped>
         requires bound { bound ≤ largest_index }
         requires carried { carried ≤ 2 ^ 35 }
         ensures { GivesOrFails (λ row. (row, at.new)) result
@@ -248,22 +248,22 @@ fn row_fault(
     others: &[Role],
     first: u64,
     more: &[u64],
-) -> Option<ReadKind>
+) -> Option<Kind>
     ensures { result ≡ fault_in_row (record { first = role; others = others.now; least = 0 })
         bound carried (first ∷ more.now) }
 {
     if misdefines(role, first) || any_misdefines(others, more) {
-        return Some(ReadKind::NotVariable);
+        return Some(Kind::NotVariable);
     }
     if exceeds(bound, role, first) || any_exceeds(bound, others, more) {
-        return Some(ReadKind::LiteralRange);
+        return Some(Kind::LiteralRange);
     }
     let own = own_literal(role, carried, first);
     if misresets(own, role, first) || any_misresets(own, others, more) {
-        return Some(ReadKind::BadReset);
+        return Some(Kind::BadReset);
     }
     if oversizes(bound, carried, role, first) || any_oversizes(bound, carried, others, more) {
-        return Some(ReadKind::TooLarge);
+        return Some(Kind::TooLarge);
     }
     None
 }
@@ -286,7 +286,7 @@ fn row_numbers<const N: usize>(
     line: Line,
     bound: u32,
     carried: u64,
-) -> Result<(u64, [u64; N]), ReadKind>
+) -> Result<(u64, [u64; N]), Kind>
     requires bound { bound ≤ largest_index }
     requires carried { carried ≤ 2 ^ 35 }
     ensures row { GivesOrFails (λ x. x.0 ∷ x.1) result
@@ -294,7 +294,7 @@ fn row_numbers<const N: usize>(
     ensures bounded { IfOk result (λ x. AreBounded form.entry bound x.0 x.1) }
 {
     let Some(found) = numbers::<N>(line, form.least) else {
-        return Err(ReadKind::BadLine);
+        return Err(Kind::BadLine);
     };
     let first = found.0;
     let more = found.1;
@@ -312,7 +312,7 @@ fn lenient_row<const N: usize>(
     at: &mut Cursor,
     bound: u32,
     carried: u64,
-) -> Result<(u64, [u64; N]), ReadFault>
+) -> Result<(u64, [u64; N]), Stopped>
     requires bound { bound ≤ largest_index }
     requires carried { carried ≤ 2 ^ 35 }
     ensures row { GivesOrFails (λ x. (x.0 ∷ x.1, at.new)) result
@@ -320,12 +320,8 @@ fn lenient_row<const N: usize>(
     ensures bounded { IfOk result (λ x. AreBounded form.entry bound x.0 x.1) }
     ensures err { OnErr result (at.new ≡ at.old) }
 {
-    let place = Place::Line(at.number);
     let Some((line, rest)) = split_line(at.rest) else {
-        return Err(ReadFault {
-            place,
-            kind: ReadKind::Truncated,
-        });
+        return Err(refused_at(Kind::Truncated, at.number));
     };
     match row_numbers::<N>(form, line, bound, carried) {
         Ok(found) => {
@@ -333,7 +329,7 @@ fn lenient_row<const N: usize>(
             *at = Cursor { rest, number };
             Ok(found)
         }
-        Err(kind) => Err(ReadFault { place, kind }),
+        Err(kind) => Err(refused_at(kind, at.number)),
     }
 }
 
@@ -406,7 +402,7 @@ pub(crate) fn next_row<const N: usize>(
     at: &mut Cursor,
     bound: u32,
     carried: u64,
-) -> Result<(u64, [u64; N]), ReadFault>
+) -> Result<(u64, [u64; N]), Stopped>
     requires bound { bound ≤ largest_index }
     requires carried { carried ≤ 2 ^ 35 }
     ensures row { GivesOrFails (λ x. (x.0 ∷ x.1, at.new)) result
@@ -436,7 +432,7 @@ impl FromRow for Var {
     }
 
     #[inline(never)]
-    fn read_row(at: &mut Cursor, bound: u32, carried: u64) -> Result<Var, ReadFault> {
+    fn read_row(at: &mut Cursor, bound: u32, carried: u64) -> Result<Var, Stopped> {
         // For a `?` here, and in the rows below, the kit's borrow checker makes no proof.
         match next_row::<0>(INPUT, at, bound, carried) {
             Ok(found) => Ok(Var((found.0 / 2) as u32)),
@@ -488,7 +484,7 @@ impl FromRow for Latch {
     }
 
     #[inline(never)]
-    fn read_row(at: &mut Cursor, bound: u32, carried: u64) -> Result<Latch, ReadFault> {
+    fn read_row(at: &mut Cursor, bound: u32, carried: u64) -> Result<Latch, Stopped> {
         match next_row::<2>(LATCH, at, bound, carried) {
             Ok(found) => {
                 let [next, reset] = found.1;
@@ -544,7 +540,7 @@ impl FromRow for NextState {
     }
 
     #[inline(never)]
-    fn read_row(at: &mut Cursor, bound: u32, carried: u64) -> Result<NextState, ReadFault> {
+    fn read_row(at: &mut Cursor, bound: u32, carried: u64) -> Result<NextState, Stopped> {
         match next_row::<1>(NEXT, at, bound, carried) {
             Ok(found) => {
                 let [reset] = found.1;
@@ -575,7 +571,7 @@ impl FromRow for Lit {
     }
 
     #[inline(never)]
-    fn read_row(at: &mut Cursor, bound: u32, carried: u64) -> Result<Lit, ReadFault> {
+    fn read_row(at: &mut Cursor, bound: u32, carried: u64) -> Result<Lit, Stopped> {
         match next_row::<0>(LITERAL, at, bound, carried) {
             Ok(found) => Ok(Lit(found.0 as u32)),
             Err(fault) => Err(fault),
@@ -601,7 +597,7 @@ impl FromRow for u32 {
     }
 
     #[inline(never)]
-    fn read_row(at: &mut Cursor, bound: u32, carried: u64) -> Result<u32, ReadFault> {
+    fn read_row(at: &mut Cursor, bound: u32, carried: u64) -> Result<u32, Stopped> {
         match next_row::<0>(SIZE, at, bound, carried) {
             Ok(found) => Ok(found.0 as u32),
             Err(fault) => Err(fault),
@@ -632,7 +628,7 @@ impl FromRow for Gate {
     }
 
     #[inline(never)]
-    fn read_row(at: &mut Cursor, bound: u32, carried: u64) -> Result<Gate, ReadFault> {
+    fn read_row(at: &mut Cursor, bound: u32, carried: u64) -> Result<Gate, Stopped> {
         match next_row::<2>(GATE, at, bound, carried) {
             Ok(found) => {
                 let [left, right] = found.1;

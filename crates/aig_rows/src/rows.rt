@@ -6,11 +6,12 @@ ghost use Rattle.aig_rows.specs.Rows.{next_form, next_of};
 ghost use Rattle.aig_rows.specs.Outcomes.{GivesOrMemory, rows_meant};
 ghost use Rattle.aig_lines.specs.Lines.{Line, with_lines};
 ghost use Rattle.aig_rows.specs.Begun.{HaveRead};
-ghost use Rattle.aig_rows.specs.Reading.{rows_at, want_of_memory};
+ghost use Rattle.aig_fault.specs.declared.stopped.Stopped.TheVariants.{OutOfMemory};
+ghost use Rattle.aig_rows.specs.Reading.{rows_at};
 
-use crate::fault::{Place, ReadFault, ReadKind};
 use crate::row::{FromRow, NextState};
 use aig_circuit::Listing;
+use aig_fault::{Kind, Stopped, refused_at};
 use aig_lines::Cursor;
 use std::alloc::Global;
 
@@ -32,22 +33,22 @@ impl Due {
     }
 }
 
-/// Adds the entries of the lines ahead while rows are due, judged beside `bound` and what is
-/// carried, and moves behind these. Answers which rows are due then: none, or else no line is left.
+/// Reads rows until `due` is used up or the input ends, and adds their entries, each judged beside
+/// `bound` and what is carried. Returns what is due then.
 #[inline(never)]
 pub fn read_first_rows<T: FromRow>(
     found: &mut Listing<T>,
     bound: u32,
     due: Due,
     at: &mut Cursor,
-) -> Result<Due, ReadFault>
+) -> Result<Due, Stopped>
     requires bound { bound ≤ largest_index }
     requires small { due.carried + 2 * due.count ≤ 2 ^ 34 }
     ensures rows { IfOk result (λ left.
         HaveRead T.meant_by T.form bound due left found.old found.new at.old at.new) }
     ensures small { IfOk result (λ left. left.carried + 2 * left.count ≤ 2 ^ 34) }
     ensures all { IfOk result (λ left. 0 < left.count → at.new.lines ≡ []) }
-    ensures err { IfErr result (λ e. (e ≡ want_of_memory) ⊎ ((more : List Line)
+    ensures err { IfErr result (λ e. (e ≡ OutOfMemory) ⊎ ((more : List Line)
         → rows_at T.form bound due.carried due.count (with_lines at.old more) ≡ Err e)) }
 {
     // Out of the cursor, so that both stay in registers; where a row is read slowly, one is lent.
@@ -79,14 +80,14 @@ pub fn read_first_rows<T: FromRow>(
 }
 
 /// Adds the entries of the next `count` lines, which are judged beside `bound` and what is carried
-/// to the first, and moves behind them.
+/// to the first, and moves past them.
 pub fn read_rows<T: FromRow>(
     found: &mut Listing<T>,
     count: u32,
     bound: u32,
     start: u64,
     at: &mut Cursor,
-) -> Result<(), ReadFault>
+) -> Result<(), Stopped>
     requires bound { bound ≤ largest_index }
     requires start { start ≤ 2 ^ 33 }
     ensures rows { GivesOrMemory (λ _. (found.new, at.new)) result
@@ -106,24 +107,21 @@ pub fn read_rows<T: FromRow>(
         Err(fault) => return Err(fault),
     };
     if left.count > 0 {
-        return Err(ReadFault {
-            place: Place::Line(from.number),
-            kind: ReadKind::Truncated,
-        });
+        return Err(refused_at(Kind::Truncated, from.number));
     }
     *at = from;
     Ok(())
 }
 
 /// What so many latches become and start at, as a binary file lists them, one on each line; the
-/// first latch has this literal. Goes behind these lines, unless one is not right.
+/// first latch has this literal. Goes past these lines, unless one is not right.
 pub fn next_states(
     alloc: Global,
     count: u32,
     own: u64,
     at: &mut Cursor,
     max_var: u32,
-) -> Result<Listing<NextState>, ReadFault>
+) -> Result<Listing<NextState>, Stopped>
     requires max_var { max_var ≤ largest_index }
     requires own { own ≤ 2 ^ 33 }
     ensures states { GivesOrMemory (λ found. (found, at.new)) result

@@ -13,7 +13,7 @@ use Rattle.aig_lanes.proofs.Side.Sheets.{steps_within, one_more}
 abbrev HaveLength : ℕ → List (List Val) → Type 0
 HaveLength inputs vs = All (λ (vector : List Val). length vector ≡ inputs) vs
 
--- where the characters of vectors stand one behind the other, the first ones say the first
+-- where the characters of vectors stand one after the other, the first ones say the first
 first_said : (inputs : ℕ) (v : List Val) (vs : List (List Val)) → length v ≡ inputs
     → take inputs (flat_map values_text (v ∷ vs)) ≡ values_text v
 first_said inputs v vs long =

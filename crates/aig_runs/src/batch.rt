@@ -67,7 +67,7 @@ fn trace_groups(
     Ok(traces)
 }
 
-/// How many of so many runs are run one after another: a few behind the last full group.
+/// How many of so many runs are run one after another: a few after the last full group.
 fn count_alone(count: usize) -> usize
     ensures { result ≤ count }
 {
@@ -103,6 +103,6 @@ pub fn simulate_batch(
     requires { All (IsRunOf checked.now) runs.now }
     ensures { IfOk result (λ traces. AllZip (IsTraceOf checked.now) runs.now traces) }
 {
-    let mut simulator = Simulator::build(alloc, checked)?;
+    let mut simulator = Simulator::new(alloc, checked)?;
     trace_runs(alloc, &mut simulator, line_room(checked), runs)
 }

@@ -3,7 +3,6 @@ pub use Rattle.aig_step.specs.Showing
 pub use Rattle.aig_step.specs.Stimulus
 pub use Rattle.aig_step.specs.TraceText
 pub use Rattle.aig_step.specs.Outcome
-pub use Rattle.aig_step.specs.Messages
 pub use Rattle.aig_lanes.specs.Runs
 pub use Rattle.aig_batch.specs.Batched
 pub use Rattle.aig_witness.specs.Witness

@@ -12,8 +12,9 @@
 pub mod laws;
 
 pub use aig_batch::simulate_batched;
+pub use aig_fault::{Fault, Kind, Place, Stopped};
 pub use aig_lanes::{FullRow, Run, Trace};
 pub use aig_runs::simulate_batch;
-pub use aig_step::{Columns, Row, SimFault, Simulator, StepError};
+pub use aig_step::{Columns, Row, Simulator};
 pub use aig_trace::simulate;
 pub use aig_witness::{Verdict, confirm};

@@ -16,13 +16,13 @@ use Rattle.aig_step.specs.Stimulus.{entry_in, value_of, values_of, Step, Stop}
 use Rattle.aig_step.specs.TraceText.{character_of, values_text}
 use Rattle.aig_step.specs.Parts.Lines.{line_size, row_read, vector_in}
 
--- the item at i, what stands before it, and what stands behind it
+-- the item at i, what stands before it, and what stands after it
 pub parted : {X : Type 0} (xs : List X) (i : ℕ) (d : X) → i < length xs
     → xs ≡ take i xs ++ get_or xs i d ∷ drop (i + 1) xs
 parted xs i d low =
     sym (take-append-drop i xs) ∙ ap (λ ys. take i xs ++ ys) (rw add-one (drop-cons xs i d low))
 
--- the columns of a line, each behind those before it
+-- the columns of a line, each after those before it
 pub columns_joined : (before state inputs outputs next properties : List ℕ)
     → ((((((before ++ state) ++ 32 ∷ inputs) ++ 32 ∷ outputs) ++ 32 ∷ []) ++ next) ++ properties) ++ 10 ∷ []
     ≡ before ++ (state ++ 32 ∷ (inputs ++ 32 ∷ (outputs ++ 32 ∷ (next ++ (properties ++ 10 ∷ [])))))
@@ -51,7 +51,7 @@ values_on (a ∷ front) b vs v are is =
     first_and (value_of a) (values_of front) (values_of (front ++ b ∷ [])) vs v
     (λ (us : List Val) (e : values_of front ≡ Some us). values_on front b us v e is) are
 
--- a character that stands for none, whatever comes before and behind it
+-- a character that stands for none, whatever comes before and after it
 pub no_values : (front rest : List ℕ) (b : ℕ) → value_of b ≡ None → values_of (front ++ b ∷ rest) ≡ None
 no_values [] rest b none = ap (option_and_then (λ u. option_map (λ us. u ∷ us) (values_of rest))) none
 no_values (a ∷ front) rest b none =

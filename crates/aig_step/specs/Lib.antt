@@ -5,5 +5,4 @@ pub mod TraceText
 pub mod StimulusText
 pub mod Outcome
 pub mod Laws
-pub mod Messages
 pub mod Parts

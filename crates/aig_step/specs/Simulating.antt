@@ -17,7 +17,7 @@ pub record IsReset (s : Simulation) : Type 0 where
   pub no_row : s.row ≡ None
 
 -- A step was taken: it shows a row of the circuit, from the state before it and with these inputs; the row's next state
--- is the state behind it.
+-- is the state after it.
 pub record Stepped (before after : Simulation) (given : List Val) : Type 0 where
   pub row : Row
   pub shown : after.row ≡ Some row

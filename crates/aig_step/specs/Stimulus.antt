@@ -47,7 +47,7 @@ bad_at number = record { entries = []; bad = Some number }
 abbrev pub no_lines : Stimulus
 no_lines = record { entries = []; bad = None }
 
--- what a line of this number and those behind it say
+-- what a line of this number and those after it say
 abbrev pub before_rest : ℕ → Option Entry → Stimulus → Stimulus
 before_rest number None rest = bad_at number
 before_rest number (Some entry) rest = with_entry entry rest

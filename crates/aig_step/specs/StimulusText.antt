@@ -1,4 +1,4 @@
--- A stimulus as a whole (this project's profile): the texts of its lines, one behind the other, and the runs that they
+-- A stimulus as a whole (this project's profile): the texts of its lines, one after the other, and the runs that they
 -- are.
 use Rattle.std.specs.Prelude.{◌≡◌, ◌⊎◌, ◌+◌, ◌++◌, ℕ, List, [], ◌∷◌, Bool, Option, None, Some, codes, length, map}
 use Rattle.std.specs.List.{AllByRecursion, flat_map}

@@ -1,4 +1,4 @@
-//! A table of values as bytes: each value with its negation behind it, so that a literal is the
+//! A table of values as bytes: each value with its negation after it, so that a literal is the
 //! place of its own value.
 ghost use Rattle.std.specs.Prelude.{◌≡◌, ◌+◌, ◌-◌, ◌*◌, ◌<◌, ◌≤◌, ◌^◌, [], ◌∷◌, length, slice_set};
 ghost use Rattle.std.specs.Prelude.{IfOk, List, Some, None, false, option_map, true};
@@ -151,8 +151,7 @@ pub(crate) fn literal_code(codes: &[u8], literal: Lit) -> Code
 }
 
 /// The byte of the value that a character stands for and that of its negation, if it stands for
-/// one. Characters come in no order that could be foreseen, so there is one branch alone, which is
-/// the same for all that stand for one.
+/// one. Characters are unpredictable: one branch, for validity.
 #[inline(always)]
 fn bytes_of_character(character: u8) -> Option<[u8; 2]>
     ensures { result ≡ option_map (λ v. bytes_of_values (v ∷ [])) (value_of character) }

@@ -12,7 +12,7 @@ use crate::stimulus::value_of;
 use aig_circuit::{Gate, Latch, Lit, Reset, Val};
 use std::alloc::{AllocError, Global};
 
-/// The operands of a gate. Its variable is the one behind that of the gate before it.
+/// The operands of a gate. Its variable is the one after that of the gate before it.
 #[derive(Clone, Copy)]
 pub struct Pair {
     pub left: Lit,

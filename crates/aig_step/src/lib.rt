@@ -9,7 +9,6 @@
 
 mod cells;
 mod evaluate;
-mod fault;
 pub mod laws;
 mod machine;
 mod simulator;
@@ -19,9 +18,8 @@ mod trace;
 
 pub use crate::cells::{Code, Table};
 pub use crate::evaluate::Pair;
-pub use crate::fault::SimFault;
 pub use crate::machine::Machine;
-pub use crate::simulator::{Row, Simulator, StepError};
+pub use crate::simulator::{Row, Simulator};
 pub use crate::stepper::Stepper;
 pub use crate::stimulus::is_stop;
 pub use crate::trace::{Columns, RowLine, write_text_column};

@@ -1,49 +1,21 @@
 //! The simulator.
-ghost use Rattle.std.specs.Prelude.{◌≡◌, ◌↔◌, Some, length, IfOk, IfErr, IsOk, OnErr, OnOk};
+ghost use Rattle.std.specs.Prelude.{◌≡◌, ◌↔◌, length, IfOk, IfErr, IsOk, OnErr, OnOk};
+ghost use Rattle.aig_fault.specs.Stopping.{refusal};
+ghost use Rattle.aig_fault.specs.declared.fault.Place.TheVariants.{Whole};
+ghost use Rattle.aig_fault.specs.declared.kind.Kind.TheVariants.{BadCounts};
 ghost use Rattle.aig_meaning.specs.Meaning.{MeansTheSame};
-ghost use Rattle.aig_step.specs.declared.fault.SimFault.TheVariants as faults;
-ghost use Rattle.aig_step.specs.declared.simulator.StepError.TheVariants as errors;
-ghost use Rattle.aig_step.specs.Messages.{step_error_text};
 ghost use Rattle.aig_step.specs.Simulating.{IsReset, Stepped};
 ghost use Rattle.aig_step.specs.Showing.{Shows};
 ghost use Rattle.aig_step.specs.Parts.Simulators.{HasRoom};
 
 use crate::evaluate::{show, show_codes};
-use crate::fault::SimFault;
 use crate::machine::Machine;
 use crate::stepper::Stepper;
 use aig_checked::Checked;
 use aig_circuit::{Circuit, OutOfMemory, Val};
+use aig_fault::{Kind, Stopped, refused_whole};
 use std::alloc::Global;
-use std::error::Error;
-use std::fmt;
 use std::marker::Model;
-
-/// Why a step was not taken.
-#[derive(Clone, Copy, Debug, PartialEq, Eq)]
-pub enum StepError {
-    /// There is not one value for each input of the circuit.
-    WrongInputCount {
-        /// How many values were given.
-        given: usize,
-        /// How many inputs the circuit has.
-        inputs: usize,
-    },
-}
-
-impl fmt::Display for StepError {
-    ghost output = { λ error. Some (step_error_text error) };
-
-    fn fmt<W: fmt::Write>(&self, f: &mut fmt::Formatter<W>) -> fmt::Result {
-        match *self {
-            StepError::WrongInputCount { given, inputs } => {
-                write!(f, "{given} values for {inputs} inputs")
-            }
-        }
-    }
-}
-
-impl Error for StepError {}
 
 /// What can be seen of a step beside its inputs, list by list in the circuit's order.
 #[derive(Clone, Copy)]
@@ -52,7 +24,7 @@ pub struct Row<'a> {
     pub state: &'a [Val],
     /// The values of the outputs.
     pub outputs: &'a [Val],
-    /// The state behind the step.
+    /// The state after the step.
     pub next: &'a [Val],
     /// The values of bad states.
     pub bad: &'a [Val],
@@ -112,8 +84,8 @@ impl Model for Simulator {
 }
 
 impl Simulator {
-    /// A simulator of the circuit, in the reset state, or want of memory.
-    pub fn build(alloc: Global, checked: &Checked) -> Result<Self, OutOfMemory>
+    /// A simulator of the circuit, in the reset state. All room that it needs is made here.
+    pub fn new(alloc: Global, checked: &Checked) -> Result<Self, OutOfMemory>
         ensures same { IfOk result (λ s. MeansTheSame checked.now s.circuit) }
         ensures reset { IfOk result IsReset }
     {
@@ -127,18 +99,6 @@ impl Simulator {
             shown,
             is_stepped: false,
         })
-    }
-
-    /// A simulator of the circuit, in the reset state. All room that it needs is made here.
-    pub fn new(alloc: Global, checked: &Checked) -> Result<Self, SimFault>
-        ensures same { IfOk result (λ s. MeansTheSame checked.now s.circuit) }
-        ensures reset { IfOk result IsReset }
-        ensures err { IfErr result (λ e. e ≡ faults.OutOfMemory) }
-    {
-        match Simulator::build(alloc, checked) {
-            Ok(simulator) => Ok(simulator),
-            Err(_refused) => Err(SimFault::OutOfMemory),
-        }
     }
 
     /// What it runs.
@@ -188,19 +148,14 @@ impl Simulator {
 
     /// Takes a step with these inputs, one value for each in the circuit's order. Where the number
     /// of values does not fit, it takes none, and stays as it was.
-    pub fn try_step(&mut self, given: &[Val]) -> Result<(), StepError>
+    pub fn try_step(&mut self, given: &[Val]) -> Result<(), Stopped>
         ensures fits { IsOk result ↔ (length given.now ≡ length self.old.circuit.inputs) }
         ensures ok { OnOk result (Stepped self.old self.new given.now) }
-        ensures err { IfErr result (λ e. e ≡ errors.WrongInputCount (length given.now)
-            (length self.old.circuit.inputs)) }
+        ensures err { IfErr result (λ stopped. stopped ≡ refusal BadCounts Whole 0) }
         ensures stays { OnErr result (self.new ≡ self.old) }
     {
-        let inputs = self.count_inputs();
-        if given.len() != inputs {
-            return Err(StepError::WrongInputCount {
-                given: given.len(),
-                inputs,
-            });
+        if given.len() != self.count_inputs() {
+            return Err(refused_whole(Kind::BadCounts));
         }
         self.step(given);
         Ok(())

@@ -160,7 +160,7 @@ impl Stepper {
         true
     }
 
-    /// On to the state behind the step that was evaluated last.
+    /// On to the state after the step that was evaluated last.
     #[inline(always)]
     pub fn enter_next_state(&mut self)
         ensures { self.new ≡ in_next_state self.old }

@@ -110,7 +110,7 @@ pub struct RowLine<'a> {
     pub inputs: &'a [u8],
 }
 
-/// Where it is written, the state before the step becomes the one behind it.
+/// Where it is written, the state before the step becomes the one after it.
 impl<'a> Line for RowLine<'a> {
     type State = Stepper;
 

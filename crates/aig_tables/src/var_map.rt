@@ -95,8 +95,8 @@ impl<T: MapValue> VarMap<T> {
     }
 
     /// Whether the place of a variable is overfull, which none is. Who asks wants the read alone:
-    /// what is read of several variables, one behind the other, is on its way from memory before
-    /// the first of them is looked up.
+    /// what is read of several variables, one after the other, is on its way from memory before the
+    /// first of them is looked up.
     #[inline(always)]
     pub fn is_overfull(&self, var: Var) -> bool
         ensures { result ≡ false }

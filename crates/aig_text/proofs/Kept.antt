@@ -12,10 +12,10 @@ use Rattle.aig_circuit.specs.declared.circuit.Symbol.{Symbol}
 use Rattle.aig_core.specs.declared.names.Names.{Names}
 use Rattle.aig_core.specs.Names.{is_named}
 use Rattle.aig_lines.specs.Lines.{line}
-use Rattle.aig_rows.specs.declared.fault.ReadKind.TheVariants as kinds
+use Rattle.aig_fault.specs.declared.kind.Kind.TheVariants as kinds
 use Rattle.aig_rows.specs.Scanning.{more_numbers_at}
 use Rattle.aig_rows.specs.Kept.{kept, kept_numbers, kept_first}
-use Rattle.aig_rows.specs.declared.fault.ReadKind.{ReadKind}
+use Rattle.aig_fault.specs.declared.kind.Kind.{Kind as FaultKind}
 use Rattle.aig_rows.specs.Reading.{at_line, unless_wrong}
 use Rattle.aig_rows.specs.CanonicalNumber.{canonical_before, is_padded}
 use Rattle.aig_rows.proofs.Kept.Numbers.{kept_small, kept_large}
@@ -63,7 +63,7 @@ no_header_found word text rest limit ended same is h = header_found word text re
 
 -- Symbol lines are judged by what is kept of their positions as by the positions.
 
--- the symbol behind what is kept of it
+-- the symbol after what is kept of it
 record Behind (o : Option Symbol) (k : Symbol) : Type 0 where
   pub position : ℕ
   pub is : o ≡ Some (symbol k.kind position k.name)
@@ -116,7 +116,7 @@ module _ (h : Header) (before : Names) where
       ∙ judged (symbol kind position name) false false (lt-leb (count_named h kind) position close) new
 
   -- a symbol that is right is that of the line
-  line_tells : (n : ℕ) (t s : Symbol) (fault : Option ReadKind)
+  line_tells : (n : ℕ) (t s : Symbol) (fault : Option FaultKind)
       → at_line n (unless_wrong t fault) ≡ Ok s → t ≡ s
   line_tells n t s None h = cc
   line_tells n t s (Some kind) h = cc

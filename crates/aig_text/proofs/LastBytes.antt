@@ -7,9 +7,9 @@ use Rattle.aig_circuit.specs.declared.circuit.Circuit.{Circuit}
 use Rattle.aig_lines.specs.Lines.{IsBehind, Ahead, Line, ahead, bytes_of, line_bytes, lines_of}
 use Rattle.aig_lines.proofs.Cutting.{pieces}
 use Rattle.aig_lines.proofs.Pieces.{bytes_joined}
-use Rattle.aig_rows.specs.declared.fault.ReadFault.{ReadFault}
+use Rattle.aig_fault.specs.declared.stopped.Stopped.{Stopped}
+use Rattle.aig_fault.specs.declared.stopped.Stopped.TheVariants.{OutOfMemory}
 use Rattle.aig_rows.specs.Outcomes.{GivesOrMemory}
-use Rattle.aig_rows.specs.Reading.{want_of_memory}
 use Rattle.aig_text.specs.declared.comment.Uncommented.{Uncommented}
 use Rattle.aig_text.specs.Reading.{HasRoomFor, with_comment, with_last_comment}
 
@@ -39,12 +39,12 @@ more_room bytes text rest None cut room = tt
 more_room bytes text rest (Some n) cut room = omega (arith, room, ap length cut, length-append text rest)
 
 -- a circuit that was read is that of all bytes
-abbrev pub IsReadOf : List ℕ → Result Uncommented ReadFault → Result Circuit ReadFault → Type 0
+abbrev pub IsReadOf : List ℕ → Result Uncommented Stopped → Result Circuit Stopped → Type 0
 IsReadOf bytes r read =
     GivesOrMemory (λ (x : Uncommented). with_last_comment bytes x.comment_len x.circuit) r read
     × IfOk r (λ x. HasRoomFor x.comment_len bytes)
 
-pub read_of_all : (bytes text rest : List ℕ) (r : Result Uncommented ReadFault) (read : Result Circuit ReadFault)
+pub read_of_all : (bytes text rest : List ℕ) (r : Result Uncommented Stopped) (read : Result Circuit Stopped)
     → bytes ≡ text ++ rest → IsReadOf rest r read → IsReadOf bytes r read
 read_of_all bytes text rest (Ok x) read cut h = (
   h.0 ∙ ap (λ (c : Circuit). Ok c) (sym (same_comment bytes text rest x.comment_len x.circuit cut h.1)),
@@ -53,9 +53,9 @@ read_of_all bytes text rest (Ok x) read cut h = (
 read_of_all bytes text rest (Err e) read cut h = h
 
 -- with its comment it is what reading gives
-pub with_its_comment : (bytes : List ℕ) (x : Uncommented) (r read : Result Circuit ReadFault)
+pub with_its_comment : (bytes : List ℕ) (x : Uncommented) (r read : Result Circuit Stopped)
     → read ≡ Ok (with_last_comment bytes x.comment_len x.circuit)
-    → IfOk r (λ c. c ≡ with_last_comment bytes x.comment_len x.circuit) → IfErr r (λ e. e ≡ want_of_memory)
+    → IfOk r (λ c. c ≡ with_last_comment bytes x.comment_len x.circuit) → IfErr r (λ e. e ≡ OutOfMemory)
     → GivesOrMemory (λ c. c) r read
 with_its_comment bytes x (Ok c) read h ok err = h ∙ ap (λ (d : Circuit). Ok d) (sym ok)
 with_its_comment bytes x (Err e) read h ok err = inl err

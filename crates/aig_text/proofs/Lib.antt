@@ -1,5 +1,6 @@
 pub mod Grammar
 pub mod Kept
+pub mod Refusals
 pub mod Loops
 pub mod Canonical
 pub mod LastBytes

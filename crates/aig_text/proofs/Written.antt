@@ -67,7 +67,7 @@ all_left P least [] all = tt
 all_left P least (n ∷ ns) all =
     all_before P least n (shortened (least - 1) ns) all.0 (all_left P (least - 1) ns all.1)
 
--- a zero behind as many as have to be there is left out
+-- a zero after as many as have to be there is left out
 zero_is_left_out : (least end : ℕ) (ns : List ℕ) → least ≤ end → end < length ns → get_or ns end 0 ≡ 0
     → shortened least (take (suc end) ns) ≡ shortened least (take end ns)
 zero_is_left_out least end [] low high is = absurd (omega arith)

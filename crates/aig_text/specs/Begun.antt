@@ -4,9 +4,10 @@ use Rattle.std.specs.List.{sum}
 use Rattle.aig_circuit.specs.declared.circuit.Circuit.{Circuit}
 use Rattle.aig_circuit.specs.Wellformed.{largest_index}
 use Rattle.aig_core.specs.Names.{nothing_named}
-use Rattle.aig_rows.specs.declared.fault.ReadFault.{ReadFault}
+use Rattle.aig_fault.specs.declared.stopped.Stopped.{Stopped}
+use Rattle.aig_fault.specs.declared.stopped.Stopped.TheVariants.{OutOfMemory}
 use Rattle.aig_lines.specs.Lines.{Line, Ahead, ahead}
-use Rattle.aig_rows.specs.Reading.{◌>>=◌, Found, rows_at, want_of_memory}
+use Rattle.aig_rows.specs.Reading.{◌>>=◌, Found, rows_at}
 use Rattle.aig_rows.specs.declared.rows.Due.{Due}
 use Rattle.aig_rows.specs.Begun.{AreFirst}
 use Rattle.aig_text.specs.declared.section.Section.TheVariants.{Inputs, JusticeSizes}
@@ -36,7 +37,7 @@ pub record HaveReadOf (listed : Listed) (h : Header) (due left : Due) (before c 
   pub first : AreFirst listed.form (listed.bound h) due left at now rows
   pub circuit : c ≡ listed.with_rows h rows before
 
--- the circuit with the rows of the other sections, and what is ahead behind those
+-- the circuit with the rows of the other sections, and what is ahead after those
 abbrev pub sections_from : Header → Progress → Ahead → Found Circuit
 sections_from h p at = do
   found ← section_from (in_ascii (get_or sections p.section Inputs)) h p.due p.circuit at
@@ -57,28 +58,28 @@ pub record IsWithinHeader (h : Header) (p : Progress) : Type 0 where
   pub sizes : sum p.circuit.justice.sizes ≤ h.limit
   pub summed : get_or sections p.section Inputs ≡ JusticeSizes → p.due.carried ≡ sum p.circuit.justice.sizes
 
--- the circuit that the other lines tell, behind the sections; and behind the header
-abbrev pub then_tail : Header → Circuit × Ahead → Result Circuit ReadFault
+-- the circuit that the other lines tell, after the sections; and after the header
+abbrev pub then_tail : Header → Circuit × Ahead → Result Circuit Stopped
 then_tail h numbered = tail_at h nothing_named numbered.0 numbered.1.number numbered.1.lines
 
-abbrev pub header_then : Result Header ReadFault → Ahead → Result Circuit ReadFault
+abbrev pub header_then : Result Header Stopped → Ahead → Result Circuit Stopped
 header_then header at = do
   h ← header
   numbered ← sections_at in_ascii h sections (empty_circuit h.max_var) at
   then_tail h numbered
 
 -- the circuit that the other lines tell to a reader that stands there
-abbrev pub rest_of : AsciiReader → List Line → Result Circuit ReadFault
+abbrev pub rest_of : AsciiReader → List Line → Result Circuit Stopped
 rest_of r ls = do
   h ← r.header
   numbered ← sections_from h r.progress (ahead r.number ls)
   then_tail h numbered
 
 -- the header is within the limits, and what is held is within those of the header
-abbrev pub IsValid : Result Header ReadFault → Progress → Type 0
+abbrev pub IsValid : Result Header Stopped → Progress → Type 0
 IsValid (Ok h) p = (h.max_var ≤ largest_index) × (h.limit ≤ largest_index) × IsWithinHeader h p
 IsValid (Err fault) p = ⊤
 
 -- what was to be read is what is to be read, unless memory was refused
-abbrev pub ReadsOn : (before now : Result Circuit ReadFault) → Type 0
-ReadsOn before now = (now ≡ Err want_of_memory) ⊎ (before ≡ now)
+abbrev pub ReadsOn : (before now : Result Circuit Stopped) → Type 0
+ReadsOn before now = (now ≡ Err OutOfMemory) ⊎ (before ≡ now)

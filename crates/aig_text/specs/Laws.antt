@@ -5,7 +5,7 @@ use Rattle.aig_circuit.specs.declared.circuit.Circuit.{Circuit}
 use Rattle.aig_circuit.specs.declared.circuit.Symbol.{Symbol}
 use Rattle.aig_core.specs.declared.names.Names.{Names}
 use Rattle.aig_circuit.specs.Wellformed.{IsWellFormed, largest_index}
-use Rattle.aig_rows.specs.declared.fault.ReadKind.TheVariants as kinds
+use Rattle.aig_fault.specs.declared.kind.Kind.TheVariants as kinds
 use Rattle.aig_lines.specs.Lines.{Line}
 use Rattle.aig_text.specs.AsciiGrammar.{IsHeaderLine, IsAsciiText}
 use Rattle.aig_text.specs.Sections.{Header, least_header_numbers, most_header_numbers}

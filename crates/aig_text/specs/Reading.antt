@@ -6,12 +6,11 @@ use Rattle.std.specs.Prelude.{if◌then◌else◌}
 use Rattle.std.specs.List.{list_any, before_first}
 use Rattle.std.specs.Str.{bytes_eq}
 use Rattle.aig_circuit.specs.declared.circuit.Circuit.{Circuit}
-use Rattle.aig_core.specs.declared.fault.CheckFault.{CheckFault}
-use Rattle.aig_core.specs.declared.fault.CheckFault.TheVariants as checks
 use Rattle.aig_core.specs.Fault as structure
-use Rattle.aig_rows.specs.declared.fault.ReadKind.{ReadKind}
-use Rattle.aig_rows.specs.declared.fault.ReadKind.TheVariants as kinds
-use Rattle.aig_rows.specs.declared.fault.ReadFault.{ReadFault}
+use Rattle.aig_fault.specs.declared.kind.Kind.{Kind as FaultKind}
+use Rattle.aig_fault.specs.declared.kind.Kind.TheVariants as kinds
+use Rattle.aig_fault.specs.declared.stopped.Stopped.{Stopped}
+use Rattle.aig_fault.specs.declared.stopped.Stopped.TheVariants.{OutOfMemory}
 use Rattle.aig_text.specs.Sections.{least_header_numbers, most_header_numbers}
 use Rattle.aig_circuit.specs.declared.circuit.Kind.{Kind}
 use Rattle.aig_circuit.specs.declared.circuit.Kind.TheVariants as named
@@ -23,7 +22,7 @@ use Rattle.aig_lines.specs.Lines.{Line, Ahead, ahead, lines_of, bytes_of}
 use Rattle.aig_text.specs.Scanning.{symbol_at, is_comment_line}
 use Rattle.aig_rows.specs.Scanning.{more_numbers_at}
 use Rattle.aig_text.specs.Sections.{ascii_word, Header, Section, sections, Listed, in_ascii}
-use Rattle.aig_rows.specs.Reading.{Found, at_line, line_found, rows_at, unless_wrong, want_of_memory, whole_fault}
+use Rattle.aig_rows.specs.Reading.{Found, at_line, line_found, rows_at, unless_wrong}
 use Rattle.aig_rows.specs.Reading.{◌>>=◌}
 
 -- a word ends at a space or a carriage return, or where the line ends
@@ -54,7 +53,7 @@ header_of_row limit ns = record {
 }
 
 -- the header of its numbers, where they are within the limit and the definitions fit below the largest index
-unfoldable pub header_within : ℕ → Option (List ℕ) → Result Header ReadKind
+unfoldable pub header_within : ℕ → Option (List ℕ) → Result Header FaultKind
 header_within limit None = Err kinds.BadHeader
 header_within limit (Some ns) =
     if list_any (λ n. nat_lt limit n) ns then Err kinds.TooLarge
@@ -62,7 +61,7 @@ header_within limit (Some ns) =
     else Ok (header_of_row limit ns)
 
 -- the header that a line tells: the word, then its numbers
-unfoldable pub header_of : List ℕ → ℕ → Line → Result Header ReadKind
+unfoldable pub header_of : List ℕ → ℕ → Line → Result Header FaultKind
 header_of word limit l =
     if begins_with_word word l.text
     then header_within (min limit largest_index)
@@ -108,14 +107,14 @@ count_named h named.Justice = h.justice
 count_named h named.Fairness = h.fairness
 
 -- what is wrong with a symbol where these things are named before
-abbrev pub fault_in_symbol : Header → Names → Symbol → Option ReadKind
+abbrev pub fault_in_symbol : Header → Names → Symbol → Option FaultKind
 fault_in_symbol h before s =
     if nat_le (count_named h s.kind) s.position then Some kinds.SymbolRange
     else if is_named before s.kind s.position then Some kinds.SymbolTwice
     else None
 
 -- the symbol, where there is one
-unfoldable pub checked_symbol : Header → Names → Option Symbol → Result Symbol ReadKind
+unfoldable pub checked_symbol : Header → Names → Option Symbol → Result Symbol FaultKind
 checked_symbol h before None = Err kinds.BadSymbol
 checked_symbol h before (Some s) = unless_wrong s (fault_in_symbol h before s)
 
@@ -135,7 +134,7 @@ abbrev pub with_symbol : Circuit → Symbol → Circuit
 with_symbol c s = record c { symbols = c.symbols ++ s ∷ [] }
 
 -- the circuit with the symbols and the comment that these lines tell
-unfoldable pub tail_at : Header → Names → Circuit → ℕ → List Line → Result Circuit ReadFault
+unfoldable pub tail_at : Header → Names → Circuit → ℕ → List Line → Result Circuit Stopped
 tail_at h before c n [] = Ok c
 tail_at h before c n (l ∷ ls) =
     if is_comment_line l then Ok (with_comment c (bytes_of ls)) else (do
@@ -147,36 +146,29 @@ abbrev pub header_at : List ℕ → ℕ → Ahead → Found Header
 header_at word limit at = line_found kinds.NotAiger (header_of word limit) at.number at.lines
 
 -- the circuit that the lines of a text tell, judged line by line
-unfoldable pub circuit_at : ℕ → List Line → Result Circuit ReadFault
+unfoldable pub circuit_at : ℕ → List Line → Result Circuit Stopped
 circuit_at limit ls = do
   header ← header_at ascii_word limit (ahead 1 ls)
   numbered ← sections_at in_ascii header.0 sections (empty_circuit header.0.max_var) header.1
   tail_at header.0 nothing_named numbered.0 numbered.1.number numbered.1.lines
 
--- a structural fault as the fault of a text
-abbrev pub kind_of : CheckFault → ReadKind
-kind_of (checks.Redefined v) = kinds.Redefined v
-kind_of (checks.Undefined l) = kinds.Undefined l
-kind_of (checks.Cyclic l) = kinds.Cyclic l
-kind_of checks.OutOfMemory = kinds.OutOfMemory
-
-abbrev pub unless_faulty : Circuit → Option CheckFault → Result Circuit ReadFault
+abbrev pub unless_faulty : Circuit → Option Stopped → Result Circuit Stopped
 unless_faulty c None = Ok c
-unless_faulty c (Some fault) = Err (whole_fault (kind_of fault))
+unless_faulty c (Some fault) = Err fault
 
-unfoldable pub reading : ℕ → List ℕ → Result Circuit ReadFault
+unfoldable pub reading : ℕ → List ℕ → Result Circuit Stopped
 reading limit text = do
   c ← circuit_at limit (lines_of text)
   unless_faulty c (structure.first_structural_fault c)
 
-abbrev pub fault_of : {A : Type 0} → Result A ReadFault → Option ReadFault
+abbrev pub fault_of : {A : Type 0} → Result A Stopped → Option Stopped
 fault_of (Ok x) = None
 fault_of (Err fault) = Some fault
 
 -- the first fault of a text, where it has one
-abbrev pub first_ascii_fault : ℕ → List ℕ → Option ReadFault
+abbrev pub first_ascii_fault : ℕ → List ℕ → Option Stopped
 first_ascii_fault limit text = fault_of (reading limit text)
 
 -- a fault that is reported is the first one, unless memory was refused
-abbrev pub IsFirstFault : ReadFault → Option ReadFault → Type 0
-IsFirstFault reported first = (reported ≡ want_of_memory) ⊎ (first ≡ Some reported)
+abbrev pub IsFirstFault : Stopped → Option Stopped → Type 0
+IsFirstFault reported first = (reported ≡ OutOfMemory) ⊎ (first ≡ Some reported)

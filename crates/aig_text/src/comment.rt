@@ -1,10 +1,10 @@
 //! The comment of a circuit, taken out of the last bytes of what was read.
 ghost use Rattle.std.specs.Prelude.{◌≡◌, ◌-◌, ◌≤◌, IfErr, IfOk, MatchResult, drop, length};
-ghost use Rattle.aig_rows.specs.Reading.{want_of_memory};
+ghost use Rattle.aig_fault.specs.declared.stopped.Stopped.TheVariants.{OutOfMemory};
 ghost use Rattle.aig_text.specs.Reading.{HasRoomFor, with_comment, with_last_comment};
 
 use aig_core::{Circuit, Listing};
-use aig_rows::ReadFault;
+use aig_fault::Stopped;
 use std::alloc::{AllocError, Global};
 
 /// A circuit whose comment is still among the bytes that were read.
@@ -17,11 +17,11 @@ pub struct Uncommented {
 
 impl Uncommented {
     /// The comment is copied.
-    pub fn with_comment_of(self, alloc: Global, bytes: &[u8]) -> Result<Circuit, ReadFault>
+    pub fn with_comment_of(self, alloc: Global, bytes: &[u8]) -> Result<Circuit, Stopped>
         requires { HasRoomFor self.comment_len bytes.now }
         ensures ok { IfOk result
             (λ c. c ≡ with_last_comment bytes.now self.comment_len self.circuit) }
-        ensures err { IfErr result (λ e. e ≡ want_of_memory) }
+        ensures err { IfErr result (λ e. e ≡ OutOfMemory) }
     {
         let Some(len) = self.comment_len else {
             return Ok(self.circuit);
@@ -31,11 +31,11 @@ impl Uncommented {
     }
 
     /// The comment stays in the memory of the bytes.
-    pub fn with_comment_in(self, bytes: Vec<u8>) -> Result<Circuit, ReadFault>
+    pub fn with_comment_in(self, bytes: Vec<u8>) -> Result<Circuit, Stopped>
         requires { HasRoomFor self.comment_len bytes.items }
         ensures ok { IfOk result
             (λ c. c ≡ with_last_comment bytes.items self.comment_len self.circuit) }
-        ensures err { IfErr result (λ e. e ≡ want_of_memory) }
+        ensures err { IfErr result (λ e. e ≡ OutOfMemory) }
     {
         let Some(len) = self.comment_len else {
             return Ok(self.circuit);
@@ -45,13 +45,10 @@ impl Uncommented {
 }
 
 /// The circuit with this comment, unless memory for it was refused.
-fn with_comment(
-    circuit: Circuit,
-    comment: Result<Vec<u8>, AllocError>,
-) -> Result<Circuit, ReadFault>
+fn with_comment(circuit: Circuit, comment: Result<Vec<u8>, AllocError>) -> Result<Circuit, Stopped>
     ensures { MatchResult comment
         (λ bytes. result ≡ Ok (with_comment circuit bytes.items))
-        (λ _. result ≡ Err want_of_memory) }
+        (λ _. result ≡ Err OutOfMemory) }
 {
     let mut circuit = circuit;
     match comment {
@@ -61,7 +58,7 @@ fn with_comment(
         }
         Err(refused) => {
             drop(circuit); // for the proof
-            Err(ReadFault::from(refused))
+            Err(Stopped::from(refused))
         }
     }
 }

@@ -7,8 +7,9 @@ ghost use Rattle.aig_text.specs.Reading.{begins_with_word, ends_word, header_wit
 
 use crate::limits::Limits;
 use aig_core::LARGEST;
+use aig_fault::Kind;
 use aig_lines::Line;
-use aig_rows::{ReadKind, more_numbers};
+use aig_rows::more_numbers;
 
 /// The first word of an ASCII file.
 pub const ASCII_WORD: &[u8] = b"aag";
@@ -68,12 +69,12 @@ fn any_above(limit: u64, numbers: &[u64]) -> bool
 }
 
 #[tactic(auto, unfolding(crate::specs::Reading::header_within))]
-fn within(limit: u32, numbers: [u64; HEADER_NUMBERS]) -> Result<Header, ReadKind>
+fn within(limit: u32, numbers: [u64; HEADER_NUMBERS]) -> Result<Header, Kind>
     ensures value { result ≡ header_within limit (Some numbers) }
     ensures limited { IfOk result (λ h. (h.max_var ≤ limit) × (h.limit ≤ limit)) }
 {
     if any_above(u64::from(limit), &numbers) {
-        return Err(ReadKind::TooLarge);
+        return Err(Kind::TooLarge);
     }
     let [
         max_var,
@@ -87,7 +88,7 @@ fn within(limit: u32, numbers: [u64; HEADER_NUMBERS]) -> Result<Header, ReadKind
         fairness,
     ] = numbers;
     if max_var < inputs + latches + gates {
-        return Err(ReadKind::BadHeader);
+        return Err(Kind::BadHeader);
     }
     Ok(Header {
         max_var: max_var as u32,
@@ -104,17 +105,17 @@ fn within(limit: u32, numbers: [u64; HEADER_NUMBERS]) -> Result<Header, ReadKind
 }
 
 #[tactic(auto, unfolding(crate::specs::Reading::header_of))]
-pub(crate) fn read_header(word: &[u8], line: Line, limits: Limits) -> Result<Header, ReadKind>
+pub(crate) fn read_header(word: &[u8], line: Line, limits: Limits) -> Result<Header, Kind>
     ensures value { result ≡ header_of word.now limits.max_var
         (line_of line.entry.text.now line.entry.ended) }
     ensures limited { IfOk result (λ h. (h.max_var ≤ largest_index) × (h.limit ≤ largest_index)) }
 {
     if !begins_with_word(line.text, word) {
-        return Err(ReadKind::NotAiger);
+        return Err(Kind::NotAiger);
     }
     let (_, rest) = line.text.split_at(word.len());
     match more_numbers::<HEADER_NUMBERS>(rest, line.ended, HEADER_LEAST) {
         Some(numbers) => within(limits.max_var.min(LARGEST), numbers),
-        None => Err(ReadKind::BadHeader),
+        None => Err(Kind::BadHeader),
     }
 }

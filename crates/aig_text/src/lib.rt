@@ -1,8 +1,7 @@
 //! ASCII AIGER files: their header, sections and tail, the reader and the writer.
 //!
-//! Others call `read_ascii` and `read_ascii_keeping` (which keeps the order of the gates, where the
-//! check made one), `write_ascii`, and the parts that binary files have in common with ASCII files.
-//! They also reach by this name what lines of numbers are made of (`aig_rows`).
+//! Others call `read_ascii`, `write_ascii`, and the parts that binary files have in common with ASCII
+//! files. They also reach by this name what lines of numbers are made of (`aig_rows`).
 //!
 //! The definitions that matter most are `IsAsciiText`, `first_ascii_fault` and `ascii_text`.
 #![tactic(auto)]
@@ -23,13 +22,12 @@ pub use crate::header_line::{ASCII_WORD, HEADER_LEAST, HEADER_NUMBERS, Header};
 pub use crate::limits::Limits;
 pub use crate::parts::{first_word_is, header, tail};
 pub use crate::pieces::AsciiReader;
-pub use crate::reader::{check_read, empty_circuit, read_ascii, read_ascii_keeping};
+pub use crate::reader::{check_read, empty_circuit, read_ascii};
 pub use crate::section::{SECTIONS, Section, read_section};
 pub use crate::writer::{
-    NumberedLine, WriteFault, header_numbers, put_header, put_lines, put_literal_sections,
-    put_numbers, put_tail, reset_number, write_ascii,
+    NumberedLine, header_numbers, put_header, put_lines, put_literal_sections, put_numbers,
+    put_tail, reset_number, write_ascii,
 };
 pub use aig_rows::{
-    CANNOT_READ, CANNOT_WRITE, Message, NextState, OUT_OF_MEMORY, Place, ReadFault, ReadKind,
-    canonical_number, next_states,
+    CANNOT_READ, CANNOT_WRITE, Message, NextState, OUT_OF_MEMORY, canonical_number, next_states,
 };

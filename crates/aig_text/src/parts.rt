@@ -12,8 +12,8 @@ use crate::header_line::{Header, begins_with_word, read_header};
 use crate::limits::Limits;
 use crate::tail_lines::read_tail;
 use aig_core::Circuit;
+use aig_fault::{Kind, Stopped, refused_at};
 use aig_lines::{Cursor, split_line};
-use aig_rows::{Place, ReadFault, ReadKind};
 use std::alloc::Global;
 
 /// Whether the first word of a text is this one. A word ends at a space, a carriage return, a line
@@ -27,21 +27,17 @@ pub fn first_word_is(bytes: &[u8], word: &[u8]) -> bool
     }
 }
 
-/// Reads the header line, which has to begin with this word, and moves behind it, unless it is not
+/// Reads the header line, which has to begin with this word, and moves past it, unless it is not
 /// right.
-pub fn header(word: &[u8], at: &mut Cursor, limits: Limits) -> Result<Header, ReadFault>
+pub fn header(word: &[u8], at: &mut Cursor, limits: Limits) -> Result<Header, Stopped>
     ensures header { GivesOrFails (λ header. (header, at.new)) result
         (header_at word.now limits.max_var at.old) }
     ensures limited { IfOk result (λ header. (header.max_var ≤ largest_index)
         × (header.limit ≤ largest_index)) }
     ensures err { OnErr result (at.new ≡ at.old) }
 {
-    let place = Place::Line(at.number);
     let Some((line, rest)) = split_line(at.rest) else {
-        return Err(ReadFault {
-            place,
-            kind: ReadKind::NotAiger,
-        });
+        return Err(refused_at(Kind::NotAiger, at.number));
     };
     match read_header(word, line, limits) {
         Ok(header) => {
@@ -49,7 +45,7 @@ pub fn header(word: &[u8], at: &mut Cursor, limits: Limits) -> Result<Header, Re
             *at = Cursor { rest, number };
             Ok(header)
         }
-        Err(kind) => Err(ReadFault { place, kind }),
+        Err(kind) => Err(refused_at(kind, at.number)),
     }
 }
 
@@ -60,7 +56,7 @@ pub fn tail(
     header: &Header,
     circuit: Circuit,
     at: Cursor,
-) -> Result<Uncommented, ReadFault>
+) -> Result<Uncommented, Stopped>
     ensures read { GivesOrMemory
         (λ x. with_last_comment (bytes_of at.entry.lines) x.comment_len x.circuit) result
         (tail_at header.now nothing_named circuit at.entry.number at.entry.lines) }

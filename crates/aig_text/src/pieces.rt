@@ -3,11 +3,11 @@ ghost use Rattle.std.specs.Prelude.{◌≡◌, ◌+◌, ◌^◌, ◌<◌, ◌≤
 ghost use Rattle.std.specs.Prelude.{List, ℕ, Err, IfErr, IfOk, IsOk, OnOk};
 ghost use Rattle.std.specs.Prelude.{drop, length};
 ghost use Rattle.std.specs.Prelude.{IsTrue, ◌↔◌};
+ghost use Rattle.aig_fault.specs.declared.stopped.Stopped.TheVariants.{OutOfMemory};
 ghost use Rattle.aig_circuit.specs.Wellformed.{largest_index};
 ghost use Rattle.aig_lines.specs.Lines.{Ahead, AreEnded, HasNoLineFeed, IsBehind, Line};
 ghost use Rattle.aig_lines.specs.Lines.{ahead, lines_of, with_lines};
 ghost use Rattle.aig_rows.specs.Outcomes.{GivesOrMemory};
-ghost use Rattle.aig_rows.specs.Reading.{want_of_memory};
 ghost use Rattle.aig_text.specs.Sections.{in_ascii, sections};
 ghost use Rattle.aig_text.specs.Begun.{IsDone, IsMissing, IsValid, IsWithinHeader};
 ghost use Rattle.aig_text.specs.Begun.{ReadsOn, header_then, rest_of};
@@ -22,8 +22,9 @@ use crate::parts::{header, tail};
 use crate::reader::empty_circuit;
 use crate::section::{SECTIONS, missing_line, read_first_of_section, section_rows};
 use aig_core::Circuit;
+use aig_fault::Stopped;
 use aig_lines::{Cursor, ended_lines};
-use aig_rows::{Due, ReadFault};
+use aig_rows::Due;
 use std::alloc::Global;
 
 /// How far the sections of an ASCII file were read.
@@ -72,8 +73,8 @@ impl Progress {
         self.section == SECTIONS.len() - 1 && self.due.count == 0
     }
 
-    /// Adds the entries of the lines ahead, as far as the sections go on, and moves behind them.
-    pub(crate) fn read_lines(&mut self, header: &Header, at: &mut Cursor) -> Result<(), ReadFault>
+    /// Adds the entries of the lines ahead, as far as the sections go on, and moves past them.
+    pub(crate) fn read_lines(&mut self, header: &Header, at: &mut Cursor) -> Result<(), Stopped>
         requires max_var { header.now.max_var ≤ largest_index }
         requires limit { header.now.limit ≤ largest_index }
         requires within { IsWithinHeader header.now self.old }
@@ -83,7 +84,7 @@ impl Progress {
             ≡ sections_from header.now self.new (with_lines at.new more)) }
         ensures behind { OnOk result (IsBehind at.old at.new) }
         ensures all { OnOk result (IsDone self.new ⊎ IsMissing self.new at.new) }
-        ensures err { IfErr result (λ e. (e ≡ want_of_memory) ⊎ ((more : List Line)
+        ensures err { IfErr result (λ e. (e ≡ OutOfMemory) ⊎ ((more : List Line)
             → sections_from header.now self.old (with_lines at.old more) ≡ Err e)) }
     {
         loop {
@@ -100,9 +101,9 @@ impl Progress {
         }
     }
 
-    /// The circuit with the entries of all sections, of which the other lines begin here. Goes
-    /// behind these lines, unless one is not right.
-    pub(crate) fn finish(self, header: &Header, at: &mut Cursor) -> Result<Circuit, ReadFault>
+    /// The circuit with the entries of all sections, of which the other lines begin here. Goes past
+    /// these lines, unless one is not right.
+    pub(crate) fn finish(self, header: &Header, at: &mut Cursor) -> Result<Circuit, Stopped>
         requires max_var { header.now.max_var ≤ largest_index }
         requires limit { header.now.limit ≤ largest_index }
         requires within { IsWithinHeader header.now self }
@@ -128,15 +129,15 @@ impl Progress {
 #[derive(Drop)]
 pub struct AsciiReader {
     /// The header, or the first fault of the lines so far.
-    header: Result<Header, ReadFault>,
+    header: Result<Header, Stopped>,
     progress: Progress,
     /// The number of the next line.
     number: u64,
 }
 
 impl AsciiReader {
-    /// It stands behind the header line, or at a fault of that.
-    fn new(alloc: Global, header: Result<Header, ReadFault>, number: u64) -> Self
+    /// It stands after the header line, or at a fault of that.
+    fn new(alloc: Global, header: Result<Header, Stopped>, number: u64) -> Self
         requires { IfOk header (λ h. (h.max_var ≤ largest_index) × (h.limit ≤ largest_index)) }
         ensures from { (ls : List Line) → rest_of result ls ≡ header_then header (ahead number ls) }
         ensures number { result.number ≡ number }
@@ -203,7 +204,7 @@ impl AsciiReader {
     }
 
     /// The circuit that the lines tell of which the last bytes are these, and its comment too.
-    pub fn finish(self, alloc: Global, bytes: &[u8]) -> Result<Uncommented, ReadFault>
+    pub fn finish(self, alloc: Global, bytes: &[u8]) -> Result<Uncommented, Stopped>
         requires counted { self.number + length bytes.now < 2 ^ 64 }
         requires valid { IsValid self.header self.progress }
         ensures read { GivesOrMemory

@@ -1,26 +1,24 @@
 //! The reader of ASCII files.
 ghost use Rattle.std.specs.Prelude.{◌≡◌, IfOk, IfErr, MatchResult};
+ghost use Rattle.aig_fault.specs.declared.stopped.Stopped.TheVariants.{OutOfMemory};
 ghost use Rattle.aig_circuit.specs.declared.circuit.Circuit.{Circuit as CircuitRecord};
 ghost use Rattle.aig_lines.specs.Lines.{lines_of};
 ghost use Rattle.aig_rows.specs.Outcomes.{GivesOrMemory};
 ghost use Rattle.aig_text.specs.Reading.{IsFirstFault, first_ascii_fault};
-ghost use Rattle.aig_text.specs.Reading.{kind_of, circuit_at, empty_circuit};
+ghost use Rattle.aig_text.specs.Reading.{circuit_at, empty_circuit};
 ghost use Rattle.aig_text.specs.Reading.{tail_at, unless_faulty};
 ghost use Rattle.aig_circuit.specs.Form.{IsInForm};
 ghost use Rattle.aig_core.specs.Fault.{first_structural_fault};
 ghost use Rattle.aig_core.specs.Names.{nothing_named};
-ghost use Rattle.aig_rows.specs.Reading.{want_of_memory};
 ghost use Rattle.aig_text.specs.AsciiGrammar.{IsAsciiText};
 
 use crate::header_line::{ASCII_WORD, Header};
 use crate::limits::Limits;
 use crate::parts::{header, tail};
 use crate::pieces::Progress;
-use aig_core::{
-    CheckFault, Checked, Circuit, Justice, Keep, Listing, Steps, Symbols, check_keeping,
-};
+use aig_core::{Checked, Circuit, Justice, Keep, Listing, Steps, Symbols, check};
+use aig_fault::Stopped;
 use aig_lines::Cursor;
-use aig_rows::{Place, ReadFault, ReadKind};
 use std::alloc::Global;
 
 /// A circuit that has nothing in it.
@@ -51,7 +49,7 @@ fn with_tail(
     header: &Header,
     circuit: Circuit,
     at: Cursor,
-) -> Result<Circuit, ReadFault>
+) -> Result<Circuit, Stopped>
     ensures { GivesOrMemory (λ c. c) result
         (tail_at header.now nothing_named circuit at.entry.number at.entry.lines) }
 {
@@ -63,7 +61,7 @@ fn with_tail(
 }
 
 /// Definitions and uses are not checked here.
-fn read_unchecked(alloc: Global, bytes: &[u8], limits: Limits) -> Result<Circuit, ReadFault>
+fn read_unchecked(alloc: Global, bytes: &[u8], limits: Limits) -> Result<Circuit, Stopped>
     ensures { GivesOrMemory (λ c. c) result (circuit_at limits.max_var (lines_of bytes.now)) }
 {
     let mut at = Cursor::new(bytes);
@@ -74,58 +72,33 @@ fn read_unchecked(alloc: Global, bytes: &[u8], limits: Limits) -> Result<Circuit
     }
 }
 
-fn kind_of_fault(fault: CheckFault) -> ReadKind
-    ensures { result ≡ kind_of fault }
-{
-    match fault {
-        CheckFault::Redefined(var) => ReadKind::Redefined(var),
-        CheckFault::Undefined(lit) => ReadKind::Undefined(lit),
-        CheckFault::Cyclic(lit) => ReadKind::Cyclic(lit),
-        CheckFault::OutOfMemory => ReadKind::OutOfMemory,
-    }
-}
-
 /// Checks a circuit that was read of the lines of a text, and keeps what is wanted of the check
 /// later. The error is its first structural fault, or that memory ran out.
-pub fn check_read(alloc: Global, circuit: Circuit, keep: Keep) -> Result<Checked, ReadFault>
+pub fn check_read(alloc: Global, circuit: Circuit, keep: Keep) -> Result<Checked, Stopped>
     requires { IsInForm circuit }
     ensures { GivesOrMemory (λ c. c) result
         (unless_faulty circuit (first_structural_fault circuit)) }
 {
-    match check_keeping(alloc, circuit, keep, &mut Steps::new()) {
+    match check(alloc, circuit, keep, &mut Steps::new()) {
         Ok(checked) => Ok(checked),
         Err((circuit, fault)) => {
             drop(circuit); // for the proof
-            Err(ReadFault {
-                place: Place::Whole,
-                kind: kind_of_fault(fault),
-            })
+            Err(fault)
         }
     }
 }
 
-/// Reads an ASCII file, within these limits. The error is the first fault of the text, or that
-/// memory ran out. No order of the gates is kept (`read_ascii_keeping`).
-pub fn read_ascii(alloc: Global, bytes: &[u8], limits: Limits) -> Result<Checked, ReadFault>
-    ensures ok { IfOk result (λ c. IsAsciiText bytes.now limits.max_var c) }
-    ensures only { (c : CircuitRecord) → IsAsciiText bytes.now limits.max_var c
-        → MatchResult result (λ d. d ≡ c) (λ e. e ≡ want_of_memory) }
-    ensures fault { IfErr result (λ e. IsFirstFault e
-        (first_ascii_fault limits.max_var bytes.now)) }
-{
-    read_ascii_keeping(alloc, bytes, limits, Keep::Circuit)
-}
-
-/// Reads an ASCII file, as `read_ascii` does, and keeps what is wanted of the check later.
-pub fn read_ascii_keeping(
+/// Reads an ASCII file, within these limits, and keeps what is wanted of the check later. The error
+/// is the first fault of the text, or that memory ran out.
+pub fn read_ascii(
     alloc: Global,
     bytes: &[u8],
     limits: Limits,
     keep: Keep,
-) -> Result<Checked, ReadFault>
+) -> Result<Checked, Stopped>
     ensures ok { IfOk result (λ c. IsAsciiText bytes.now limits.max_var c) }
     ensures only { (c : CircuitRecord) → IsAsciiText bytes.now limits.max_var c
-        → MatchResult result (λ d. d ≡ c) (λ e. e ≡ want_of_memory) }
+        → MatchResult result (λ d. d ≡ c) (λ e. e ≡ OutOfMemory) }
     ensures fault { IfErr result (λ e. IsFirstFault e
         (first_ascii_fault limits.max_var bytes.now)) }
 {

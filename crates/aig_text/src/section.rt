@@ -1,19 +1,21 @@
 //! Sections: rows of one kind, one to a line.
 ghost use Rattle.std.specs.Prelude.{◌≡◌, ◌+◌, ◌*◌, ◌^◌, ◌<◌, ◌≤◌, ◌⊎◌, [], List, IfErr, IfOk, OnOk};
 ghost use Rattle.std.specs.List.{sum};
+ghost use Rattle.aig_fault.specs.declared.stopped.Stopped.TheVariants.{OutOfMemory};
 ghost use Rattle.aig_circuit.specs.Wellformed.{largest_index};
 ghost use Rattle.aig_text.specs.Sections.{in_ascii};
-ghost use Rattle.aig_rows.specs.declared.fault.ReadKind.TheVariants.{Truncated};
+ghost use Rattle.aig_fault.specs.declared.kind.Kind.TheVariants.{Truncated};
 ghost use Rattle.aig_lines.specs.Lines.{Line, with_lines};
 ghost use Rattle.aig_rows.specs.Outcomes.{GivesOrMemory};
-ghost use Rattle.aig_rows.specs.Reading.{fault_at, want_of_memory};
+ghost use Rattle.aig_rows.specs.Reading.{fault_at};
 ghost use Rattle.aig_text.specs.Begun.{due_of, HaveReadOf, rows_due};
 ghost use Rattle.aig_text.specs.Reading.{section_at};
 
 use crate::header_line::Header;
 use aig_core::Circuit;
+use aig_fault::{Kind, Stopped, refused_at};
 use aig_lines::Cursor;
-use aig_rows::{Due, Place, ReadFault, ReadKind, read_first_rows};
+use aig_rows::{Due, read_first_rows};
 
 /// What a file lists.
 #[derive(Clone, Copy)]
@@ -93,7 +95,7 @@ pub(crate) fn read_first_of_section(
     circuit: &mut Circuit,
     due: Due,
     at: &mut Cursor,
-) -> Result<Due, ReadFault>
+) -> Result<Due, Stopped>
     requires max_var { header.now.max_var ≤ largest_index }
     requires limit { header.now.limit ≤ largest_index }
     requires small { due.carried + 2 * due.count ≤ 2 ^ 34 }
@@ -101,7 +103,7 @@ pub(crate) fn read_first_of_section(
         due left circuit.old circuit.new at.old at.new) }
     ensures small { IfOk result (λ left. left.carried + 2 * left.count ≤ 2 ^ 34) }
     ensures all { IfOk result (λ left. 0 < left.count → at.new.lines ≡ []) }
-    ensures err { IfErr result (λ e. (e ≡ want_of_memory) ⊎ ((more : List Line)
+    ensures err { IfErr result (λ e. (e ≡ OutOfMemory) ⊎ ((more : List Line)
         → rows_due (in_ascii section) header.now due (with_lines at.old more) ≡ Err e)) }
 {
     let max_var = header.max_var;
@@ -122,13 +124,13 @@ pub(crate) fn read_first_of_section(
     }
 }
 
-/// Adds the entries of a section as an ASCII file lists them, and moves behind its lines.
+/// Adds the entries of a section as an ASCII file lists them, and moves past its lines.
 pub fn read_section(
     section: Section,
     header: &Header,
     circuit: &mut Circuit,
     at: &mut Cursor,
-) -> Result<(), ReadFault>
+) -> Result<(), Stopped>
     requires max_var { header.now.max_var ≤ largest_index }
     requires limit { header.now.limit ≤ largest_index }
     requires sizes { sum circuit.old.justice.sizes ≤ header.now.limit }
@@ -147,11 +149,8 @@ pub fn read_section(
     Ok(())
 }
 
-pub(crate) fn missing_line(at: &Cursor) -> ReadFault
+pub(crate) fn missing_line(at: &Cursor) -> Stopped
     ensures { result ≡ fault_at at.now.number Truncated }
 {
-    ReadFault {
-        place: Place::Line(at.number),
-        kind: ReadKind::Truncated,
-    }
+    refused_at(Kind::Truncated, at.number)
 }

@@ -1,5 +1,6 @@
 //! The tail of a file: symbols and comment.
 ghost use Rattle.std.specs.Prelude.{◌≡◌, ◌^◌, ◌<◌, drop, IfErr, IfOk, OnOk, Some};
+ghost use Rattle.aig_fault.specs.declared.stopped.Stopped.TheVariants.{OutOfMemory};
 ghost use Rattle.aig_core.specs.Names.{nothing_named, with_name};
 ghost use Rattle.aig_rows.specs.CanonicalNumber.{is_padded};
 ghost use Rattle.aig_rows.specs.Kept.{kept_first};
@@ -9,12 +10,13 @@ ghost use Rattle.aig_rows.specs.Outcomes.{Gives, GivesOrMemory};
 ghost use Rattle.aig_text.specs.Scanning.{is_comment_line, kind_at, symbol, symbol_at};
 ghost use Rattle.aig_text.specs.Reading.{checked_symbol, count_named, tail_at};
 ghost use Rattle.aig_text.specs.Reading.{HasRoomFor, with_last_comment, with_symbol};
-ghost use Rattle.aig_rows.specs.Reading.{at_line, want_of_memory};
+ghost use Rattle.aig_rows.specs.Reading.{at_line};
 
 use crate::header_line::Header;
 use aig_core::{BorrowedSymbol, Circuit, Kind, NamedCounts, Names};
+use aig_fault::{Kind as FaultKind, Stopped, refused_at};
 use aig_lines::{Cursor, Line, split_line};
-use aig_rows::{Place, ReadFault, ReadKind, canonical_number, ends_line, leading_number};
+use aig_rows::{canonical_number, ends_line, leading_number};
 use std::alloc::{AllocError, Global};
 
 /// Positions from here on are not read at once: canonical numbers above it are all taken as it.
@@ -44,7 +46,7 @@ fn kind_of_letter(letter: u8) -> Option<Kind>
     }
 }
 
-/// What is kept of the number at the front, however it is spelled, and what stands behind the one
+/// What is kept of the number at the front, however it is spelled, and what stands after the one
 /// space that follows it.
 #[tactic(auto, unfolding(crate::specs::Parts::Kept::position_at))]
 fn spelled_position(text: &[u8]) -> Option<(u64, &[u8])>
@@ -113,31 +115,21 @@ fn read_symbol<'a>(
     names: &mut Names,
     line: Line<'a>,
     number: u64,
-) -> Result<BorrowedSymbol<'a>, ReadFault>
+) -> Result<BorrowedSymbol<'a>, Stopped>
     ensures symbol { GivesOrMemory (λ s. s) result
         (at_line number (checked_symbol header.now names.old (symbol_at line.entry.text.now))) }
     ensures named { IfOk result (λ s. names.new ≡ with_name names.old s.kind s.position) }
     ensures small { IfOk result (λ s. s.position < 2 ^ 32) }
 {
-    let place = Place::Line(number);
     let Some(found) = leading_symbol(line.text) else {
-        return Err(ReadFault {
-            place,
-            kind: ReadKind::BadSymbol,
-        });
+        return Err(refused_at(FaultKind::BadSymbol, number));
     };
     if u64::from(count_named(header, found.kind)) <= found.position {
-        return Err(ReadFault {
-            place,
-            kind: ReadKind::SymbolRange,
-        });
+        return Err(refused_at(FaultKind::SymbolRange, number));
     }
     let position = found.position as u32;
     if !names.insert(found.kind, position)? {
-        return Err(ReadFault {
-            place,
-            kind: ReadKind::SymbolTwice,
-        });
+        return Err(refused_at(FaultKind::SymbolTwice, number));
     }
     Ok(BorrowedSymbol {
         kind: found.kind,
@@ -162,12 +154,12 @@ fn put_symbol(
     symbol: &BorrowedSymbol,
     line: Line,
     bytes: &[u8],
-) -> Result<(), ReadFault>
+) -> Result<(), Stopped>
     requires symbol { symbol_at line.text.now ≡ Some symbol.now }
     requires small { symbol.now.position < 2 ^ 32 }
     requires bytes { bytes.now ≡ line_bytes (line_of line.text.now line.ended) }
     ensures ok { OnOk result (circuit.new ≡ with_symbol circuit.old symbol.now) }
-    ensures err { IfErr result (λ e. e ≡ want_of_memory) }
+    ensures err { IfErr result (λ e. e ≡ OutOfMemory) }
 {
     if line.ended && !is_position_padded(line.text) {
         circuit.symbols.push_line(symbol, bytes)?;
@@ -184,7 +176,7 @@ fn read_tail_lines(
     names: &mut Names,
     circuit: &mut Circuit,
     at: Cursor,
-) -> Result<Option<usize>, ReadFault>
+) -> Result<Option<usize>, Stopped>
     ensures read { GivesOrMemory
         (λ len. with_last_comment (bytes_of at.entry.lines) len circuit.new) result
         (tail_at header.now names.old circuit.old at.entry.number at.entry.lines) }
@@ -228,7 +220,7 @@ pub(crate) fn read_tail(
     header: &Header,
     circuit: &mut Circuit,
     at: Cursor,
-) -> Result<Option<usize>, ReadFault>
+) -> Result<Option<usize>, Stopped>
     ensures read { GivesOrMemory
         (λ len. with_last_comment (bytes_of at.entry.lines) len circuit.new) result
         (tail_at header.now nothing_named circuit.old at.entry.number at.entry.lines) }

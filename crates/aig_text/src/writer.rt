@@ -1,64 +1,34 @@
 //! The canonical ASCII text of a circuit, written to a sink in blocks.
 ghost use Rattle.std.specs.List.{flat_map};
 ghost use Rattle.std.specs.Prelude.{◌≡◌, ◌-◌, ◌<◌, ◌∷◌, ℕ, List, OnErr, OnOk, Some};
-ghost use Rattle.aig_io.specs.Output.{Put};
-ghost use Rattle.aig_io.specs.Devices.{CanFail, took, TookBeginning};
+ghost use Rattle.aig_io.specs.Output.{Appended};
+ghost use Rattle.aig_io.specs.Devices.{took, TookBeginning};
 ghost use Rattle.aig_text.specs.AsciiText.{ascii_text, comment_text, header_text};
 ghost use Rattle.aig_text.specs.AsciiText.{line_text, more_numbers_text};
 ghost use Rattle.aig_text.specs.AsciiText.{numbers_text, row_text, shortened};
 ghost use Rattle.aig_text.specs.AsciiText.{spaced_number, symbol_text, tail_text};
 ghost use Rattle.aig_text.specs.Sections.{header_row, rows_of, literal_rows_of};
-ghost use Rattle.aig_rows.specs.Messages.{cannot_write_text};
 ghost use Rattle.aig_rows.specs.Rows.{gate_row, input_row, latch_row};
 ghost use Rattle.aig_rows.specs.Rows.{literal_row, reset_number, size_row};
 ghost use Rattle.aig_text.specs.declared.writer.TheConstants.{FEW};
-ghost use Rattle.aig_text.specs.declared.writer.WriteFault.TheVariants.{Device};
 
 use crate::header_line::{ASCII_WORD, HEADER_LEAST, HEADER_NUMBERS};
 use aig_core::{
     Checked, Circuit, DeviceFault, Gate, Latch, Listing, Lit, Output, Reset, Sink, Symbols, Var,
 };
-use aig_rows::CANNOT_WRITE;
-use std::error::Error;
-use std::fmt;
-
-/// Why a text was not written whole.
-#[derive(Debug, Drop)]
-pub enum WriteFault {
-    /// The sink failed.
-    Device,
-}
-
-impl fmt::Display for WriteFault {
-    ghost output = { λ _. Some cannot_write_text };
-
-    fn fmt<W: fmt::Write>(&self, f: &mut fmt::Formatter<W>) -> fmt::Result {
-        write!(f, "{CANNOT_WRITE}")
-    }
-}
-
-impl Error for WriteFault {}
-
-impl From<DeviceFault> for WriteFault {
-    ghost from_gives = { λ _ e. e ≡ Device };
-
-    fn from(_fault: DeviceFault) -> WriteFault {
-        WriteFault::Device
-    }
-}
 
 /// A line of at most so many numbers after the first is put at once.
 const FEW: usize = 8;
 
 fn put_spaced_number<W: Sink>(output: &mut Output<W>, number: u64)
-    ensures { Put output.old output.new (spaced_number number) }
+    ensures { Appended output.old output.new (spaced_number number) }
 {
     output.put(b" ");
     output.put_number(number);
 }
 
 fn put_spaced_numbers<W: Sink>(output: &mut Output<W>, numbers: &[u64])
-    ensures { Put output.old output.new (flat_map spaced_number numbers.now) }
+    ensures { Appended output.old output.new (flat_map spaced_number numbers.now) }
 {
     for number in numbers {
         put_spaced_number(output, *number);
@@ -66,7 +36,7 @@ fn put_spaced_numbers<W: Sink>(output: &mut Output<W>, numbers: &[u64])
 }
 
 fn put_more_numbers<W: Sink>(output: &mut Output<W>, numbers: &[u64])
-    ensures { Put output.old output.new (more_numbers_text numbers.now) }
+    ensures { Appended output.old output.new (more_numbers_text numbers.now) }
 {
     put_spaced_numbers(output, numbers);
     output.put(b"\n");
@@ -75,7 +45,7 @@ fn put_more_numbers<W: Sink>(output: &mut Output<W>, numbers: &[u64])
 /// Puts a numbered line: its first number and the others.
 #[inline(always)]
 pub fn put_numbers<W: Sink>(output: &mut Output<W>, first: u64, others: &[u64])
-    ensures { Put output.old output.new (numbers_text (first ∷ others.now)) }
+    ensures { Appended output.old output.new (numbers_text (first ∷ others.now)) }
 {
     if others.len() <= FEW {
         output.put_row(first, others);
@@ -101,7 +71,7 @@ fn shorten(numbers: &[u64], least: usize) -> &[u64]
 
 /// Puts the header line: its word and its numbers.
 pub fn put_header<W: Sink>(output: &mut Output<W>, word: &[u8], numbers: &[u64])
-    ensures { Put output.old output.new (header_text word.now numbers.now) }
+    ensures { Appended output.old output.new (header_text word.now numbers.now) }
 {
     output.put(word);
     put_more_numbers(output, shorten(numbers, HEADER_LEAST));
@@ -127,7 +97,7 @@ pub trait NumberedLine {
 
     /// Adds the line.
     fn put_line<W: Sink>(&self, output: &mut Output<W>)
-        ensures { Put output.old output.new (line self.now) };
+        ensures { Appended output.old output.new (line self.now) };
 }
 
 impl NumberedLine for Var {
@@ -185,7 +155,7 @@ impl NumberedLine for u32 {
 /// Puts the numbered lines of a section, or of a piece of one.
 #[inline(never)]
 pub fn put_lines<T: NumberedLine, W: Sink>(output: &mut Output<W>, items: &[T])
-    ensures { Put output.old output.new (flat_map T.line items.now) }
+    ensures { Appended output.old output.new (flat_map T.line items.now) }
 {
     for item in items {
         item.put_line(output);
@@ -193,13 +163,13 @@ pub fn put_lines<T: NumberedLine, W: Sink>(output: &mut Output<W>, items: &[T])
 }
 
 fn put_symbols<W: Sink>(output: &mut Output<W>, symbols: &Symbols)
-    ensures { Put output.old output.new (flat_map symbol_text symbols.now) }
+    ensures { Appended output.old output.new (flat_map symbol_text symbols.now) }
 {
     output.put(symbols.as_text());
 }
 
 fn put_comment<W: Sink>(output: &mut Output<W>, comment: &Option<Listing<u8>>)
-    ensures { Put output.old output.new (comment_text comment.now) }
+    ensures { Appended output.old output.new (comment_text comment.now) }
 {
     if let Some(bytes) = comment {
         output.put(b"c\n");
@@ -209,7 +179,7 @@ fn put_comment<W: Sink>(output: &mut Output<W>, comment: &Option<Listing<u8>>)
 
 /// Puts what follows the gates: the symbols, and the comment section where there is one.
 pub fn put_tail<W: Sink>(output: &mut Output<W>, circuit: &Circuit)
-    ensures { Put output.old output.new (tail_text circuit.now) }
+    ensures { Appended output.old output.new (tail_text circuit.now) }
 {
     put_symbols(output, &circuit.symbols);
     put_comment(output, &circuit.comment);
@@ -218,7 +188,7 @@ pub fn put_tail<W: Sink>(output: &mut Output<W>, circuit: &Circuit)
 /// The numbered lines of the sections between latches and gates, which ASCII and binary files list
 /// alike.
 pub fn put_literal_sections<W: Sink>(output: &mut Output<W>, circuit: &Circuit)
-    ensures { Put output.old output.new (flat_map line_text (literal_rows_of circuit.now)) }
+    ensures { Appended output.old output.new (flat_map line_text (literal_rows_of circuit.now)) }
 {
     put_lines(output, circuit.outputs.as_slice());
     put_lines(output, circuit.bad.as_slice());
@@ -229,7 +199,7 @@ pub fn put_literal_sections<W: Sink>(output: &mut Output<W>, circuit: &Circuit)
 }
 
 fn put_sections<W: Sink>(output: &mut Output<W>, circuit: &Circuit)
-    ensures { Put output.old output.new (flat_map line_text (rows_of circuit.now)) }
+    ensures { Appended output.old output.new (flat_map line_text (rows_of circuit.now)) }
 {
     put_lines(output, circuit.inputs.as_slice());
     put_lines(output, circuit.latches.as_slice());
@@ -255,7 +225,7 @@ pub fn header_numbers(circuit: &Circuit) -> [u64; HEADER_NUMBERS]
 }
 
 fn put_text<W: Sink>(output: &mut Output<W>, circuit: &Circuit)
-    ensures { Put output.old output.new (ascii_text circuit.now) }
+    ensures { Appended output.old output.new (ascii_text circuit.now) }
 {
     put_header(output, ASCII_WORD, &header_numbers(circuit));
     put_sections(output, circuit);
@@ -265,11 +235,11 @@ fn put_text<W: Sink>(output: &mut Output<W>, circuit: &Circuit)
 /// Writes the canonical ASCII text of a circuit, in slices of at most 8,192 bytes. It takes no
 /// memory and fails only where the sink fails; the sink then took a beginning of the text, and is
 /// not called again.
-pub fn write_ascii<W: Sink>(circuit: &Checked, sink: &mut W) -> Result<(), WriteFault>
-    requires { CanFail (W.past sink.old) }
-    ensures ok { OnOk result (W.past sink.new ≡ took (ascii_text circuit.now) (W.past sink.old)) }
-    ensures err { OnErr result (TookBeginning (ascii_text circuit.now) (W.past sink.old)
-        (W.past sink.new)) }
+pub fn write_ascii<W: Sink>(circuit: &Checked, sink: &mut W) -> Result<(), DeviceFault>
+    ensures ok { OnOk result (W.history sink.new ≡ took (ascii_text circuit.now)
+        (W.history sink.old)) }
+    ensures err { OnErr result (TookBeginning (ascii_text circuit.now) (W.history sink.old)
+        (W.history sink.new)) }
 {
     let mut output = Output::new(sink);
     put_text(&mut output, circuit.circuit());

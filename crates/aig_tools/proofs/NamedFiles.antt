@@ -2,104 +2,106 @@
 use Rattle.std.proofs.Common.{◌≡◌, ◌<◌, ◌∷◌, ◌∙◌, ℕ, List, [], length, take, Option, None, Some, false, true}
 use Rattle.std.proofs.Common.{Result, Ok, Err, OnErr, OnOk, refl, sym, ap, arith}
 use lib.Seq.{take-length}
-use Rattle.aig_io.specs.Devices.{Past, TookBeginning, took, unused}
+use Rattle.aig_io.specs.Devices.{History, TookBeginning, took, unused}
 use Rattle.aig_io.specs.Files.{End, Files, Left, NotKept, NotMade, NotOpened, ReadFailed, Whole, WriteFailed, Written}
 use Rattle.aig_io.specs.Files.{used}
-use Rattle.aig_io.specs.Runs.{All, AtEnd, Beginning, Broken, Ending, IsCut, NotSent, Open, Ran, Read}
-use Rattle.aig_io.specs.Runs.{Sent, Taking, came}
+use Rattle.aig_io.specs.Runs.{All, AtEnd, Beginning, Broken, Ending, IsCut, Open, Read, Transferred}
+use Rattle.aig_io.specs.Runs.{Delivery, Sent, came}
 use Rattle.aig_io.proofs.Runs.{read_weaker}
 use Rattle.aig_files.specs.Named.{IsFailure, IsShown, named, used_as}
-use Rattle.aig_tools.specs.Worlds.{IsReadAs, IsWriteEnd, RanBetween, ReadIn, SentIn, SentTo, TakesAs}
-use Rattle.aig_tools.specs.Worlds.{World, with_use, world}
+use Rattle.aig_tools.specs.Worlds.{IsReadAs, IsWriteEnd, ReadIn, SentIn, TakesAs, TransferredBetween}
+use Rattle.aig_tools.specs.Worlds.{with_use, world}
 
 -- a file was used once more
-used_is : (name : List ℕ) (lender : ℕ) (files files_now : Files) (past : Past) (end : End) → files.current ≡ None
-    → past.origin ≡ named lender name files.uses → files_now ≡ used_as end past
-    → files_now ≡ with_use name past.bytes end files
-used_is name lender files files_now past end idle of_it is =
-    is ∙ (rw of_it (ap (λ c. record { uses = used name past.bytes end ∷ files.uses; current = c }) (sym idle)))
+used_is : (name : List ℕ) (lender : ℕ) (files files_now : Files) (history : History) (end : End) → files.current ≡ None
+    → history.origin ≡ named lender name files.uses → files_now ≡ used_as end history
+    → files_now ≡ with_use name history.bytes end files
+used_is name lender files files_now history end idle of_it is =
+    is ∙ (rw of_it (ap (λ c. record { uses = used name history.bytes end ∷ files.uses; current = c }) (sym idle)))
 
-module _ (name : List ℕ) (lender : ℕ) (files files_now : Files) (past : Past) (idle : files.current ≡ None)
-    (shown : IsShown false Left past files_now) where
+module _ (name : List ℕ) (lender : ℕ) (files files_now : Files) (history : History) (idle : files.current ≡ None)
+    (shown : IsShown false Left history files_now) where
   -- the files show what came of a file with this name
-  read_as : (bytes : List ℕ) (ending : Ending) → past ≡ came bytes ending (unused (named lender name files.uses))
+  read_as : (bytes : List ℕ) (ending : Ending) → history ≡ came bytes ending (unused (named lender name files.uses))
       → IsReadAs name bytes ending files files_now
   read_as bytes AtEnd is =
-      rw is at (used_is name lender files files_now past Whole idle (rw is refl) (shown.whole (rw is (omega arith))))
+      rw is at (used_is name lender files files_now history Whole idle (rw is refl) (shown.whole (rw is (omega arith))))
   read_as [] Open is =
       rw is at (shown.untouched (rw is refl) (rw is refl) (rw is refl))
       ∙ ap (λ c. record { uses = files.uses; current = c }) (sym idle)
   read_as (byte ∷ bytes) Open is =
-      rw is at (used_is name lender files files_now past Left idle (rw is refl)
+      rw is at (used_is name lender files files_now history Left idle (rw is refl)
       (shown.used (rw is refl) (rw is refl) (rw is (omega arith))))
   read_as bytes Broken is =
       let failed = shown.failed (rw is (omega arith)) in (
         failed.0,
         rw is at failed.1,
-        rw is at (used_is name lender files files_now past failed.0 idle (rw is refl) failed.2),
+        rw is at (used_is name lender files files_now history failed.0 idle (rw is refl) failed.2),
       )
 
-module _ (Says : List ℕ → Ending → Type 0) (source : Option (List ℕ)) (files : Files) (input output errors : Past) where
-  pub of_stream : (input_now : Past) → source ≡ None → Read Says input input_now
+module _ (Says : List ℕ → Ending → Type 0) (source : Option (List ℕ)) (files : Files)
+    (input output errors : History) where
+  pub of_stream : (input_now : History) → source ≡ None → Read Says input input_now
       → ReadIn Says source (world files input output errors) (world files input_now output errors)
   of_stream input_now none read = record {
     bytes = read.bytes;
     ending = read.ending;
     says = read.says;
-    came = rw none (ap (λ (past : Past). world files past output errors) read.came);
+    came = rw none (ap (λ (history : History). world files history output errors) read.came);
   }
 
-  pub of_file : (name : List ℕ) (lender : ℕ) (files_now : Files) (opened past : Past) → source ≡ Some name
-      → opened ≡ unused (named lender name files.uses) → files.current ≡ None → IsShown false Left past files_now
-      → Read Says opened past
+  pub of_file : (name : List ℕ) (lender : ℕ) (files_now : Files) (opened history : History) → source ≡ Some name
+      → opened ≡ unused (named lender name files.uses) → files.current ≡ None → IsShown false Left history files_now
+      → Read Says opened history
       → ReadIn Says source (world files input output errors) (world files_now input output errors)
-  of_file name lender files_now opened past some new idle shown read = record {
+  of_file name lender files_now opened history some new idle shown read = record {
     bytes = read.bytes;
     ending = read.ending;
     says = read.says;
     came = rw some (
       files_now,
-      read_as name lender files files_now past idle shown read.bytes read.ending (rw new at read.came),
+      read_as name lender files files_now history idle shown read.bytes read.ending (rw new at read.came),
       refl,
     );
   }
 
 -- what was sent to the output, of all that a call can reach
-pub to_output : (Says : List ℕ → Taking → Type 0) (files : Files) (input output output_now errors : Past)
+pub to_output : (Says : List ℕ → Delivery → Type 0) (files : Files) (input output output_now errors : History)
     → Sent Says output output_now
     → SentIn Says None (world files input output errors) (world files input output_now errors)
 to_output Says files input output output_now errors s = record {
   text = s.text;
-  taking = s.taking;
+  delivery = s.delivery;
   says = s.says;
-  sent = ap (λ (past : Past). world files input past errors) s.sent;
+  sent = ap (λ (history : History). world files input history errors) s.sent;
 }
 
 -- a source was read, and a text went to the output
-module _ (Says : List ℕ → Ending → List ℕ → Taking → Type 0) (source : Option (List ℕ)) (files : Files)
-    (input output output_now errors : Past) where
+module _ (Says : List ℕ → Ending → List ℕ → Delivery → Type 0) (source : Option (List ℕ)) (files : Files)
+    (input output output_now errors : History) where
   -- of all that a call can reach, where these are the files and the input then
-  gone : (files_now : Files) (input_now : Past) (s s_now : Past) → Ran Says s s_now output output_now
+  gone : (files_now : Files) (input_now : History) (s s_now : History) → Transferred Says s s_now output output_now
       → Read (λ bytes ending. SentIn (Says bytes ending) None (world files_now input_now output errors)
       (world files_now input_now output_now errors)) s s_now
   gone files_now input_now s s_now = read_weaker _ _ s s_now
       (λ bytes ending. to_output (Says bytes ending) files_now input_now output output_now errors)
 
-  pub ran_of_stream : (input_now : Past) → source ≡ None → Ran Says input input_now output output_now
-      → RanBetween Says source None (world files input output errors) (world files input_now output_now errors)
-  ran_of_stream input_now none ran = (
+  pub transferred_of_stream : (input_now : History) → source ≡ None → Transferred Says input input_now output output_now
+      → TransferredBetween Says source None (world files input output errors) (world files input_now output_now errors)
+  transferred_of_stream input_now none transferred = (
     world files input_now output errors,
-    of_stream _ source files input output errors input_now none (gone files input_now input input_now ran),
+    of_stream _ source files input output errors input_now none (gone files input_now input input_now transferred),
   )
 
-  pub ran_of_file : (name : List ℕ) (lender : ℕ) (files_now : Files) (opened past : Past) → source ≡ Some name
-      → opened ≡ unused (named lender name files.uses) → files.current ≡ None → IsShown false Left past files_now
-      → Ran Says opened past output output_now
-      → RanBetween Says source None (world files input output errors) (world files_now input output_now errors)
-  ran_of_file name lender files_now opened past some new idle shown ran = (
+  pub transferred_of_file : (name : List ℕ) (lender : ℕ) (files_now : Files) (opened history : History)
+      → source ≡ Some name
+      → opened ≡ unused (named lender name files.uses) → files.current ≡ None → IsShown false Left history files_now
+      → Transferred Says opened history output output_now
+      → TransferredBetween Says source None (world files input output errors) (world files_now input output_now errors)
+  transferred_of_file name lender files_now opened history some new idle shown transferred = (
     world files_now input output errors,
-    of_file _ source files input output errors name lender files_now opened past some new idle shown
-        (gone files_now input opened past ran),
+    of_file _ source files input output errors name lender files_now opened history some new idle shown
+        (gone files_now input opened history transferred),
   )
 
 -- a failure of a file that is written is an end of writing
@@ -114,62 +116,62 @@ write_end text bytes Written failure = failure
 write_end text bytes NotKept failure = absurd failure
 
 -- a text went to a destination that a request names
-module _ (text : List ℕ) (destination : Option (List ℕ)) (files : Files) (input output errors : Past) where
-  pub sent_whole : (output_now : Past) → destination ≡ None → output_now ≡ took text output
-      → SentIn (λ t taking. (t ≡ text) × (taking ≡ All)) destination (world files input output errors)
+module _ (text : List ℕ) (destination : Option (List ℕ)) (files : Files) (input output errors : History) where
+  pub sent_whole : (output_now : History) → destination ≡ None → output_now ≡ took text output
+      → SentIn (λ t delivery. (t ≡ text) × (delivery ≡ All)) destination (world files input output errors)
       (world files input output_now errors)
   sent_whole output_now none all = record {
     text = text;
-    taking = All;
+    delivery = All;
     says = (refl, refl);
-    sent = rw none (ap (λ (past : Past). world files input past errors) all);
+    sent = rw none (ap (λ (history : History). world files input history errors) all);
   }
 
-  pub sent_in_part : (output_now : Past) → destination ≡ None → TookBeginning text output output_now
-      → SentIn (λ t taking. (t ≡ text) × IsCut taking) destination (world files input output errors)
+  pub sent_in_part : (output_now : History) → destination ≡ None → TookBeginning text output output_now
+      → SentIn (λ t delivery. (t ≡ text) × IsCut delivery) destination (world files input output errors)
       (world files input output_now errors)
   sent_in_part output_now none part = record {
     text = text;
-    taking = Beginning part.count;
+    delivery = Beginning part.count;
     says = (refl, tt);
-    sent = rw none (ap (λ (past : Past). world files input past errors) part.past);
+    sent = rw none (ap (λ (history : History). world files input history errors) part.history);
   }
 
   -- by the answer
-  pub sent_so : {A E : Type 0} (r : Result A E) (output_now : Past) → destination ≡ None
+  pub sent_so : {A E : Type 0} (r : Result A E) (output_now : History) → destination ≡ None
       → OnOk r (output_now ≡ took text output) → OnErr r (TookBeginning text output output_now)
-      → SentIn (λ t taking. (t ≡ text) × TakesAs r taking) destination (world files input output errors)
+      → SentIn (λ t delivery. (t ≡ text) × TakesAs r delivery) destination (world files input output errors)
       (world files input output_now errors)
   sent_so (Ok done) output_now none all part = sent_whole output_now none all
   sent_so (Err fault) output_now none all part = sent_in_part output_now none part
 
-  module _ (name : List ℕ) (lender : ℕ) (files_now : Files) (opened past : Past) (end : End)
+  module _ (name : List ℕ) (lender : ℕ) (files_now : Files) (opened history : History) (end : End)
       (some : destination ≡ Some name) (new : opened ≡ unused (named lender name files.uses))
-      (idle : files.current ≡ None) (shown : IsShown true end past files_now) where
+      (idle : files.current ≡ None) (shown : IsShown true end history files_now) where
     -- all was written, and the file was closed so
-    used_whole : past ≡ took text opened → 0 < length text → files_now ≡ with_use name text end files
+    used_whole : history ≡ took text opened → 0 < length text → files_now ≡ with_use name text end files
     used_whole all long =
-        let is : past ≡ took text (unused (named lender name files.uses)) = rw new at all in
-        let bytes : past.bytes ≡ text = ap (λ (p : Past). p.bytes) is in
-        rw bytes at (used_is name lender files files_now past end idle (rw is refl)
+        let is : history ≡ took text (unused (named lender name files.uses)) = rw new at all in
+        let bytes : history.bytes ≡ text = ap (λ (p : History). p.bytes) is in
+        rw bytes at (used_is name lender files files_now history end idle (rw is refl)
         (shown.used (rw is refl) (rw is refl) (rw bytes long)))
 
-    pub file_whole : past ≡ took text opened → 0 < length text → end ≡ Written
-        → SentIn (λ t taking. (t ≡ text) × (taking ≡ All)) destination (world files input output errors)
+    pub file_whole : history ≡ took text opened → 0 < length text → end ≡ Written
+        → SentIn (λ t delivery. (t ≡ text) × (delivery ≡ All)) destination (world files input output errors)
         (world files_now input output errors)
     file_whole all long closed = record {
       text = text;
-      taking = All;
+      delivery = All;
       says = (refl, refl);
       sent = rw some (files_now, rw closed at (used_whole all long), refl);
     }
 
-    pub file_not_kept : past ≡ took text opened → 0 < length text → end ≡ NotKept
-        → SentIn (λ t taking. (t ≡ text) × IsCut taking) destination (world files input output errors)
+    pub file_not_kept : history ≡ took text opened → 0 < length text → end ≡ NotKept
+        → SentIn (λ t delivery. (t ≡ text) × IsCut delivery) destination (world files input output errors)
         (world files_now input output errors)
     file_not_kept all long closed = record {
       text = text;
-      taking = Beginning (length text);
+      delivery = Beginning (length text);
       says = (refl, tt);
       sent = rw some (
         files_now,
@@ -178,23 +180,23 @@ module _ (text : List ℕ) (destination : Option (List ℕ)) (files : Files) (in
       );
     }
 
-    pub file_in_part : TookBeginning text opened past
-        → SentIn (λ t taking. (t ≡ text) × IsCut taking) destination (world files input output errors)
+    pub file_in_part : TookBeginning text opened history
+        → SentIn (λ t delivery. (t ≡ text) × IsCut delivery) destination (world files input output errors)
         (world files_now input output errors)
     file_in_part part =
-        let is = rw new at part.past in
+        let is = rw new at part.history in
         let failed = shown.failed (rw is (omega arith)) in
-        let bytes : past.bytes ≡ take part.count text = rw is refl in
+        let bytes : history.bytes ≡ take part.count text = rw is refl in
         record {
           text = text;
-          taking = Beginning part.count;
+          delivery = Beginning part.count;
           says = (refl, tt);
           sent = rw some (
             files_now,
             (
               failed.0,
               write_end text (take part.count text) failed.0 (rw bytes at failed.1),
-              rw bytes at (used_is name lender files files_now past failed.0 idle (rw is refl) failed.2),
+              rw bytes at (used_is name lender files files_now history failed.0 idle (rw is refl) failed.2),
             ),
             refl,
           );

@@ -6,21 +6,21 @@ use Rattle.aig_command.specs.declared.request.CommandLine.{CommandLine}
 use Rattle.aig_command.specs.declared.request.Names.{Names}
 use Rattle.aig_command.specs.declared.usage.Usage.{Usage}
 use Rattle.aig_command.specs.declared.usage.Usage.TheVariants as usages
-use Rattle.aig_engines.specs.Jobs.{Makes, Refuses, job_of, source_of, text_of}
-use Rattle.aig_engines.specs.Reading.{ReadSays}
-use Rattle.aig_engines.specs.declared.answer.Answer.{Answer}
-use Rattle.aig_engines.specs.declared.job.Job.{Job}
-use Rattle.aig_engines.specs.declared.job.Job.TheVariants as jobs
-use Rattle.aig_engines.specs.declared.job.Part.{Part}
-use Rattle.aig_engines.specs.declared.job.Part.TheVariants.{File, Model}
-use Rattle.aig_engines.specs.declared.job.Reading.{Reading}
-use Rattle.aig_engines.specs.declared.task.Task.{Task}
-use Rattle.aig_engines.specs.declared.stopped.Stopped.{Stopped}
+use Rattle.aig_commands.specs.Jobs.{Makes, Refuses, job_of, source_of, text_of}
+use Rattle.aig_commands.specs.Reading.{ReadSays}
+use Rattle.aig_commands.specs.declared.answer.Answer.{Answer}
+use Rattle.aig_commands.specs.declared.job.Job.{Job}
+use Rattle.aig_commands.specs.declared.job.Job.TheVariants as jobs
+use Rattle.aig_commands.specs.declared.job.Part.{Part}
+use Rattle.aig_commands.specs.declared.job.Part.TheVariants.{File, Model}
+use Rattle.aig_commands.specs.declared.job.Reading.{Reading}
+use Rattle.aig_commands.specs.declared.task.Task.{Task}
+use Rattle.aig_fault.specs.declared.stopped.Stopped.{Stopped}
 use Rattle.aig_witness.specs.declared.verdict.Verdict.{Verdict}
 use Rattle.aig_witness.specs.declared.verdict.Verdict.TheVariants.{Confirmed, NotConfirmed}
 use Rattle.aig_tools.specs.Lines.{IsReported, name_at, stop_line, usage_text}
 use Rattle.aig_tools.specs.SimulationOutcome.{TaskSays, without_verdict}
-use Rattle.aig_tools.specs.Worlds.{RanBetween, ReadIn, SentIn, TakesAs, World}
+use Rattle.aig_tools.specs.Worlds.{ReadIn, SentIn, TakesAs, TransferredBetween, World}
 
 -- that line was reported, and nothing else was touched
 pub record IsReportedIn (line : List ℕ) (before after : World) : Type 0 where
@@ -53,10 +53,11 @@ pub data Ends (names : Names) : Job → World → World → ℕ → Type 0 where
       → Ends names (jobs.Read reading) before after status
   answers_steps : (task : Task) (model : Circuit) (answer : Result (Option Verdict) Stopped)
       (before between after : World) (status : ℕ)
-      → RanBetween (TaskSays task model answer) (name_at names File) None before between
+      → TransferredBetween (TaskSays task model answer) (name_at names File) None before between
       → Concludes names File answer between after status → Ends names (jobs.Steps task model) before after status
   writes : (answer : Answer) (sent : Result (Unit {0}) Stopped) (before between after : World) (status : ℕ)
-      → SentIn (λ text taking. (text ≡ text_of answer) × TakesAs sent taking) (name_of names.destination) before between
+      → SentIn (λ text delivery. (text ≡ text_of answer) × TakesAs sent delivery) (name_of names.destination) before
+      between
       → Concludes names Model (without_verdict sent) between after status
       → Ends names (jobs.Write answer) before after status
 

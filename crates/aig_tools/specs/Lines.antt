@@ -5,12 +5,12 @@ use Rattle.aig_command.specs.Words.{usage_words}
 use Rattle.aig_command.specs.declared.request.Names.{Names}
 use Rattle.aig_command.specs.declared.usage.Usage.{Usage}
 use Rattle.aig_command.specs.declared.usage.Usage.TheVariants as usages
-use Rattle.aig_engines.specs.declared.job.Part.{Part}
-use Rattle.aig_engines.specs.declared.job.Part.TheVariants.{File, Model, Refutation}
-use Rattle.aig_engines.specs.Stopping.{stopped_text}
-use Rattle.aig_engines.specs.declared.stopped.Stopped.{Stopped}
-use Rattle.aig_engines.specs.declared.stopped.Stopped.TheVariants.{OutOfMemory, ReadFailed, Refused, WriteFailed}
-use Rattle.aig_io.specs.Devices.{Past, TookBeginning, took}
+use Rattle.aig_commands.specs.declared.job.Part.{Part}
+use Rattle.aig_commands.specs.declared.job.Part.TheVariants.{File, Model, Refutation}
+use Rattle.aig_fault.specs.Stopping.{stopped_text}
+use Rattle.aig_fault.specs.declared.stopped.Stopped.{Stopped}
+use Rattle.aig_fault.specs.declared.stopped.Stopped.TheVariants.{OutOfMemory, ReadFailed, Refused, WriteFailed}
+use Rattle.aig_io.specs.Devices.{History, TookBeginning, took}
 use Rattle.aig_io.specs.Messages.{out_of_memory_text}
 
 -- a file by its name, and a stream by `-`
@@ -42,7 +42,7 @@ subject_text names part WriteFailed = shown (name_of names.destination) ++ codes
 subject_text names part ReadFailed = shown (name_at names part) ++ codes ": "
 subject_text names part (Refused fault) = shown (name_at names part) ++ codes ": "
 
--- the line that reports why a job stopped at this source, or behind it
+-- the line that reports why a job stopped at this source, or after it
 abbrev pub stop_line : Names → Part → Stopped → List ℕ
 stop_line names part stopped = line_of (subject_text names part stopped) (stopped_text stopped)
 
@@ -52,5 +52,5 @@ usage_text (usages.Words text) = string_bytes text
 usage_text usage = line_of [] (usage_words usage)
 
 -- the sink took the line, or a beginning of it and failed
-abbrev pub IsReported : List ℕ → (errors errors_now : Past) → Type 0
+abbrev pub IsReported : List ℕ → (errors errors_now : History) → Type 0
 IsReported line errors errors_now = (errors_now ≡ took line errors) ⊎ TookBeginning line errors errors_now

@@ -1,28 +1,25 @@
 -- The files and streams of a program, and what is done with the source and the destination that a request names: each
 -- is a stream, or a file with its name (this project's profile).
 use Rattle.std.specs.Prelude.{◌≡◌, ◌∷◌, ℕ, List, [], take, Option, None, Some, Result, Ok, Err, false, true}
-use Rattle.aig_io.specs.Devices.{CanFail, Past}
+use Rattle.aig_io.specs.Devices.{History}
 use Rattle.aig_io.specs.Files.{End, Files, Left, NotKept, Whole, Written, used}
-use Rattle.aig_io.specs.Runs.{All, AtEnd, Beginning, Broken, Ending, IsCut, NotSent, Open, Taking, came, sent}
+use Rattle.aig_io.specs.Runs.{All, AtEnd, Beginning, Broken, Delivery, Ending, IsCut, NotSent, Open, came, sent}
 use Rattle.aig_files.specs.Named.{IsFailure}
 
 -- all that a program can reach
 pub record World : Type 0 where
   pub files : Files
-  pub input : Past
-  pub output : Past
-  pub errors : Past
+  pub input : History
+  pub output : History
+  pub errors : History
 
-abbrev pub world : Files → Past → Past → Past → World
+abbrev pub world : Files → History → History → History → World
 world files input output errors =
     record { files = files; input = input; output = output; errors = errors }
 
--- no file is open, and each stream can be called
-pub record IsReady (w : World) : Type 0 where
-  pub idle : w.files.current ≡ None
-  pub input : CanFail w.input
-  pub output : CanFail w.output
-  pub errors : CanFail w.errors
+-- no file is open
+abbrev pub IsIdle : World → Type 0
+IsIdle w = w.files.current ≡ None
 
 -- the files after one more use of them
 abbrev pub with_use : List ℕ → List ℕ → End → Files → Files
@@ -43,16 +40,16 @@ IsWriteEnd text bytes NotKept = bytes ≡ text
 IsWriteEnd text bytes end = IsFailure true bytes end
 
 -- the file with this name took so much of this text; it is made for the first byte
-abbrev pub IsWrittenAs : List ℕ → List ℕ → Taking → (files files_now : Files) → Type 0
+abbrev pub IsWrittenAs : List ℕ → List ℕ → Delivery → (files files_now : Files) → Type 0
 IsWrittenAs name text NotSent files files_now = files_now ≡ files
 IsWrittenAs name text All files files_now = files_now ≡ with_use name text Written files
 IsWrittenAs name text (Beginning count) files files_now =
     (end : End) × IsWriteEnd text (take count text) end × (files_now ≡ with_use name (take count text) end files)
 
 -- how much of a text is taken where writing it answers so
-abbrev pub TakesAs : {A E : Type 0} → Result A E → Taking → Type 0
-TakesAs (Ok done) taking = taking ≡ All
-TakesAs (Err fault) taking = IsCut taking
+abbrev pub TakesAs : {A E : Type 0} → Result A E → Delivery → Type 0
+TakesAs (Ok done) delivery = delivery ≡ All
+TakesAs (Err fault) delivery = IsCut delivery
 
 -- the source gave these bytes, which ended so, and no other was touched
 abbrev pub CameFrom : Option (List ℕ) → List ℕ → Ending → (before after : World) → Type 0
@@ -61,10 +58,10 @@ CameFrom (Some name) bytes ending before after =
     (files : Files) × IsReadAs name bytes ending before.files files × (after ≡ record before { files = files })
 
 -- the destination took so much of this text, and no other was touched
-abbrev pub SentTo : Option (List ℕ) → List ℕ → Taking → (before after : World) → Type 0
-SentTo None text taking before after = after ≡ record before { output = sent text taking before.output }
-SentTo (Some name) text taking before after =
-    (files : Files) × IsWrittenAs name text taking before.files files × (after ≡ record before { files = files })
+abbrev pub SentTo : Option (List ℕ) → List ℕ → Delivery → (before after : World) → Type 0
+SentTo None text delivery before after = after ≡ record before { output = sent text delivery before.output }
+SentTo (Some name) text delivery before after =
+    (files : Files) × IsWrittenAs name text delivery before.files files × (after ≡ record before { files = files })
 
 -- The source was read, and this holds of what came.
 pub record ReadIn (Says : List ℕ → Ending → Type 0) (source : Option (List ℕ)) (before after : World) : Type 0 where
@@ -74,16 +71,16 @@ pub record ReadIn (Says : List ℕ → Ending → Type 0) (source : Option (List
   pub came : CameFrom source bytes ending before after
 
 -- A text was sent to the destination, and this holds of it and of how much was taken.
-pub record SentIn (Says : List ℕ → Taking → Type 0) (destination : Option (List ℕ)) (before after : World) : Type 0
+pub record SentIn (Says : List ℕ → Delivery → Type 0) (destination : Option (List ℕ)) (before after : World) : Type 0
   where
     pub text : List ℕ
-    pub taking : Taking
-    pub says : Says text taking
-    pub sent : SentTo destination text taking before after
+    pub delivery : Delivery
+    pub says : Says text delivery
+    pub sent : SentTo destination text delivery before after
 
 -- The source was read and a text was sent to the destination, and this holds of both.
-abbrev pub RanBetween : (List ℕ → Ending → List ℕ → Taking → Type 0) → (source destination : Option (List ℕ))
+abbrev pub TransferredBetween : (List ℕ → Ending → List ℕ → Delivery → Type 0) → (source destination : Option (List ℕ))
     (before after : World) → Type 0
-RanBetween Says source destination before after =
+TransferredBetween Says source destination before after =
     (between : World)
     × ReadIn (λ bytes ending. SentIn (Says bytes ending) destination between after) source before between

@@ -1,7 +1,7 @@
 //! Laws: facts about the definitions alone, each the contract of a function with an empty body.
 ghost use Rattle.aig_tools.specs.SimulationOutcome.{SimulationsWriteTheirTexts};
 
-pub use aig_engines::laws::{
+pub use aig_commands::laws::{
     binary_files_convert_there_and_back, confirmed_witnesses_set_unrolled_circuits,
     conversions_are_unambiguous, files_are_read_exactly, files_are_unambiguous,
     files_convert_there_and_back, headline, mapped_texts_have_no_fault, right_runs_are_confirmed,

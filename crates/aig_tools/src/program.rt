@@ -1,19 +1,18 @@
 //! What the program does with its arguments.
 ghost use Rattle.std.specs.Prelude.{◌≡◌, ◌≤◌, None};
-ghost use Rattle.aig_io.specs.Devices.{CanFail};
 ghost use Rattle.aig_command.specs.Answer.{texts};
-ghost use Rattle.aig_engines.specs.Jobs.{CanDo};
+ghost use Rattle.aig_commands.specs.Jobs.{CanDo};
 ghost use Rattle.aig_tools.specs.Ends.{Ends, ProgramEnds, status_of};
 ghost use Rattle.aig_tools.specs.Lines.{IsReported, memory_line, name_at, usage_text, words_line};
 ghost use Rattle.aig_tools.specs.SimulationOutcome.{without_verdict};
-ghost use Rattle.aig_tools.specs.Worlds.{IsReady};
+ghost use Rattle.aig_tools.specs.Worlds.{IsIdle};
 
 use crate::reporting::{name_at, report_memory, report_usage, report_words};
 use crate::simulation::without_verdict;
 use crate::world::{FAILED, World};
 use aig_command::{CommandLine, Names, Usage, command};
+use aig_commands::{Job, Part};
 use aig_core::{Sink, Source};
-use aig_engines::{Job, Part};
 use aig_files::FileAccess;
 use std::alloc::Global;
 
@@ -29,7 +28,7 @@ pub fn run<A: FileAccess, R: Source, W: Sink, E: Sink>(
     job: Job,
     world: &mut World<A, R, W, E>,
 ) -> u8
-    requires ready { IsReady world.old }
+    requires ready { IsIdle world.old }
     requires can_do { CanDo job }
     ensures idle { world.new.files.current ≡ None }
     ensures ends { Ends names.now job world.old world.new result }
@@ -60,9 +59,9 @@ pub fn run<A: FileAccess, R: Source, W: Sink, E: Sink>(
 /// Reports why arguments are refused, and answers the status.
 #[inline(never)]
 fn refuse<E: Sink>(errors: &mut E, usage: &Usage) -> u8
-    requires { CanFail (E.past errors.old) }
     ensures status { result ≡ status_of usage.now }
-    ensures reported { IsReported (usage_text usage.now) (E.past errors.old) (E.past errors.new) }
+    ensures reported { IsReported (usage_text usage.now) (E.history errors.old)
+        (E.history errors.new) }
 {
     report_usage(errors, usage);
     match usage {
@@ -80,7 +79,7 @@ pub fn serve<A: FileAccess, R: Source, W: Sink, E: Sink>(
     words: &[String],
     world: &mut World<A, R, W, E>,
 ) -> u8
-    requires { IsReady world.old }
+    requires { IsIdle world.old }
     ensures idle { world.new.files.current ≡ None }
     ensures ends { ProgramEnds (texts words.now) world.old world.new result }
     ensures status { result ≤ 2 }
@@ -109,9 +108,8 @@ pub fn serve<A: FileAccess, R: Source, W: Sink, E: Sink>(
 /// Reports that an argument is no text, and answers the status.
 #[inline(never)]
 pub fn refuse_words<E: Sink>(errors: &mut E) -> u8
-    requires { CanFail (E.past errors.old) }
     ensures status { result ≡ 2 }
-    ensures reported { IsReported words_line (E.past errors.old) (E.past errors.new) }
+    ensures reported { IsReported words_line (E.history errors.old) (E.history errors.new) }
 {
     report_words(errors);
     REFUSED
@@ -120,9 +118,8 @@ pub fn refuse_words<E: Sink>(errors: &mut E) -> u8
 /// Reports that memory ran out before the arguments were there, and answers the status.
 #[inline(never)]
 pub fn refuse_for_memory<E: Sink>(errors: &mut E) -> u8
-    requires { CanFail (E.past errors.old) }
     ensures status { result ≡ 1 }
-    ensures reported { IsReported memory_line (E.past errors.old) (E.past errors.new) }
+    ensures reported { IsReported memory_line (E.history errors.old) (E.history errors.new) }
 {
     report_memory(errors);
     FAILED

@@ -2,15 +2,14 @@
 //! place to report it. Formatting and sending take no memory, so that out of memory can be reported
 //! too.
 ghost use Rattle.std.specs.Prelude.{◌≡◌, ◌++◌, [], codes};
-ghost use Rattle.aig_io.specs.Devices.{CanFail};
-ghost use Rattle.aig_io.specs.Output.{Put};
+ghost use Rattle.aig_io.specs.Output.{Appended};
 ghost use Rattle.aig_command.specs.Answer.{name_of};
 ghost use Rattle.aig_tools.specs.Lines.{IsReported, line_of, memory_line, name_at, shown};
 ghost use Rattle.aig_tools.specs.Lines.{stop_line, subject_text, usage_text, words_line};
 
 use aig_command::{Names, Usage};
+use aig_commands::{Part, Stopped};
 use aig_core::{Output, Sink};
-use aig_engines::{Part, Stopped};
 
 /// The name of a source.
 pub(crate) fn name_at(names: &Names, part: Part) -> &Option<String>
@@ -35,8 +34,7 @@ fn name_or_dash(name: &Option<String>) -> &str
 
 /// Sends a text.
 fn report_text<E: Sink>(errors: &mut E, text: &[u8])
-    requires { CanFail (E.past errors.old) }
-    ensures { IsReported text.now (E.past errors.old) (E.past errors.new) }
+    ensures { IsReported text.now (E.history errors.old) (E.history errors.new) }
 {
     let mut output = Output::new(errors);
     output.put(text);
@@ -45,8 +43,7 @@ fn report_text<E: Sink>(errors: &mut E, text: &[u8])
 
 /// Sends a line about no file: the program's name, and what is wrong.
 fn report_line<E: Sink>(errors: &mut E, text: &[u8])
-    requires { CanFail (E.past errors.old) }
-    ensures { IsReported (line_of [] text.now) (E.past errors.old) (E.past errors.new) }
+    ensures { IsReported (line_of [] text.now) (E.history errors.old) (E.history errors.new) }
 {
     let mut output = Output::new(errors);
     output.put(b"aiger: ");
@@ -57,24 +54,21 @@ fn report_line<E: Sink>(errors: &mut E, text: &[u8])
 
 /// Reports that memory ran out. No file is at fault, so none is named.
 pub(crate) fn report_memory<E: Sink>(errors: &mut E)
-    requires { CanFail (E.past errors.old) }
-    ensures { IsReported memory_line (E.past errors.old) (E.past errors.new) }
+    ensures { IsReported memory_line (E.history errors.old) (E.history errors.new) }
 {
     report_line(errors, b"out of memory");
 }
 
 /// Reports that an argument is no text.
 pub(crate) fn report_words<E: Sink>(errors: &mut E)
-    requires { CanFail (E.past errors.old) }
-    ensures { IsReported words_line (E.past errors.old) (E.past errors.new) }
+    ensures { IsReported words_line (E.history errors.old) (E.history errors.new) }
 {
     report_line(errors, b"an argument is not UTF-8 text");
 }
 
 /// Reports why arguments are refused.
 pub(crate) fn report_usage<E: Sink>(errors: &mut E, usage: &Usage)
-    requires { CanFail (E.past errors.old) }
-    ensures { IsReported (usage_text usage.now) (E.past errors.old) (E.past errors.new) }
+    ensures { IsReported (usage_text usage.now) (E.history errors.old) (E.history errors.new) }
 {
     match usage {
         Usage::Words(text) => report_text(errors, text.as_bytes()),
@@ -84,7 +78,7 @@ pub(crate) fn report_usage<E: Sink>(errors: &mut E, usage: &Usage)
 
 /// Puts a name and a colon.
 fn put_name<E: Sink>(output: &mut Output<E>, name: &Option<String>)
-    ensures { Put output.old output.new (shown (name_of name.now) ++ codes ": ") }
+    ensures { Appended output.old output.new (shown (name_of name.now) ++ codes ": ") }
 {
     output.put(name_or_dash(name).as_bytes());
     output.put(b": ");
@@ -92,7 +86,7 @@ fn put_name<E: Sink>(output: &mut Output<E>, name: &Option<String>)
 
 /// Puts what the line is about.
 fn put_subject<E: Sink>(output: &mut Output<E>, names: &Names, part: Part, stopped: &Stopped)
-    ensures { Put output.old output.new (subject_text names.now part stopped.now) }
+    ensures { Appended output.old output.new (subject_text names.now part stopped.now) }
 {
     match stopped {
         Stopped::OutOfMemory => output.put(b""),
@@ -102,11 +96,10 @@ fn put_subject<E: Sink>(output: &mut Output<E>, names: &Names, part: Part, stopp
     }
 }
 
-/// Reports why a job stopped at this source, or behind it, in one line that names what is at fault.
+/// Reports why a job stopped at this source, or after it, in one line that names what is at fault.
 pub(crate) fn report_stop<E: Sink>(errors: &mut E, names: &Names, part: Part, stopped: &Stopped)
-    requires { CanFail (E.past errors.old) }
     ensures { IsReported (stop_line names.now part stopped.now)
-        (E.past errors.old) (E.past errors.new) }
+        (E.history errors.old) (E.history errors.new) }
 {
     let mut output = Output::new(errors);
     output.put(b"aiger: ");

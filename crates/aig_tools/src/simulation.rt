@@ -1,17 +1,16 @@
 //! `aigsim`: simulation of AIGER files, and witness files that are judged.
 ghost use Rattle.std.specs.Prelude.{◌≡◌, false};
-ghost use Rattle.aig_io.specs.Devices.{CanFail};
-ghost use Rattle.aig_io.specs.Runs.{Ran};
+ghost use Rattle.aig_io.specs.Runs.{Transferred};
 ghost use Rattle.aig_dump.specs.Dumped.{DumpSays, TraceSaysAs};
-ghost use Rattle.aig_engines.specs.Outcome.{RanFor};
-ghost use Rattle.aig_engines.specs.WitnessDump.{RunDumpSays};
-ghost use Rattle.aig_engines.specs.Simulation.{task_of};
+ghost use Rattle.aig_commands.specs.Outcome.{TransferredFor};
+ghost use Rattle.aig_commands.specs.WitnessDump.{RunDumpSays};
+ghost use Rattle.aig_commands.specs.Simulation.{task_of};
 ghost use Rattle.aig_tools.specs.SimulationOutcome.{OfSteps, TaskSays, without_verdict};
 
 use aig_command::Sim;
+use aig_commands::{Stopped, Task, judge, read_circuit, task_of};
 use aig_core::{Checked, Keep, Sink, Source};
 use aig_dump::{read_and_dump, send_dump, write_dump, write_trace};
-use aig_engines::{Stopped, Task, judge, read_circuit, task_of};
 use aig_step::Columns;
 use aig_witness::Verdict;
 use std::alloc::Global;
@@ -25,11 +24,10 @@ fn trace_stimulus<R: Source, W: Sink>(
     stimulus: &mut R,
     output: &mut W,
 ) -> Result<Option<Verdict>, Stopped>
-    requires stimulus { CanFail (R.past stimulus.old) }
-    requires output { CanFail (W.past output.old) }
-    ensures stimulus { (R.past stimulus.new).origin ≡ (R.past stimulus.old).origin }
-    ensures ran { Ran (OfSteps (TraceSaysAs batch found columns) result)
-        (R.past stimulus.old) (R.past stimulus.new) (W.past output.old) (W.past output.new) }
+    ensures stimulus { (R.history stimulus.new).origin ≡ (R.history stimulus.old).origin }
+    ensures transferred { Transferred (OfSteps (TraceSaysAs batch found columns) result)
+        (R.history stimulus.old) (R.history stimulus.new) (W.history output.old)
+        (W.history output.new) }
 {
     let written = write_trace(alloc, batch, &found, columns, stimulus, output);
     drop(found); // for the proof
@@ -45,11 +43,10 @@ fn dump_stimulus<R: Source, W: Sink>(
     stimulus: &mut R,
     output: &mut W,
 ) -> Result<Option<Verdict>, Stopped>
-    requires stimulus { CanFail (R.past stimulus.old) }
-    requires output { CanFail (W.past output.old) }
-    ensures stimulus { (R.past stimulus.new).origin ≡ (R.past stimulus.old).origin }
-    ensures ran { Ran (OfSteps (DumpSays batch found) result)
-        (R.past stimulus.old) (R.past stimulus.new) (W.past output.old) (W.past output.new) }
+    ensures stimulus { (R.history stimulus.new).origin ≡ (R.history stimulus.old).origin }
+    ensures transferred { Transferred (OfSteps (DumpSays batch found) result)
+        (R.history stimulus.old) (R.history stimulus.new) (W.history output.old)
+        (W.history output.new) }
 {
     let written = write_dump(alloc, batch, &found, stimulus, output);
     drop(found); // for the proof
@@ -65,10 +62,9 @@ fn dump_run<R: Source, W: Sink>(
     witness: &mut R,
     output: &mut W,
 ) -> Result<Verdict, Stopped>
-    requires witness { CanFail (R.past witness.old) }
-    requires output { CanFail (W.past output.old) }
-    ensures ran { Ran (RunDumpSays found result)
-        (R.past witness.old) (R.past witness.new) (W.past output.old) (W.past output.new) }
+    ensures transferred { Transferred (RunDumpSays found result)
+        (R.history witness.old) (R.history witness.new) (W.history output.old)
+        (W.history output.new) }
 {
     let (verdict, run) = read_and_dump(alloc, found, witness)?;
     let sent = send_dump(verdict, run.as_slice(), output);
@@ -77,8 +73,7 @@ fn dump_run<R: Source, W: Sink>(
     Ok(verdict)
 }
 
-/// Does for a circuit what is asked: there is a verdict where a witness file is judged, which
-/// stands in the place of the stimulus.
+/// Runs the task; a verdict only for witnesses, which stand in the place of the stimulus.
 pub(crate) fn perform<R: Source, W: Sink>(
     alloc: Global,
     task: Task,
@@ -86,11 +81,10 @@ pub(crate) fn perform<R: Source, W: Sink>(
     stimulus: &mut R,
     output: &mut W,
 ) -> Result<Option<Verdict>, Stopped>
-    requires stimulus { CanFail (R.past stimulus.old) }
-    requires output { CanFail (W.past output.old) }
-    ensures stimulus { (R.past stimulus.new).origin ≡ (R.past stimulus.old).origin }
-    ensures ran { Ran (TaskSays task found result)
-        (R.past stimulus.old) (R.past stimulus.new) (W.past output.old) (W.past output.new) }
+    ensures stimulus { (R.history stimulus.new).origin ≡ (R.history stimulus.old).origin }
+    ensures transferred { Transferred (TaskSays task found result)
+        (R.history stimulus.old) (R.history stimulus.new) (W.history output.old)
+        (W.history output.new) }
 {
     match task {
         Task::Trace { batch, columns } => trace_stimulus(
@@ -124,14 +118,12 @@ pub fn run_sim<M: Source, R: Source, W: Sink>(
     stimulus: &mut R,
     output: &mut W,
 ) -> Result<(), Stopped>
-    requires model { CanFail (M.past model.old) }
-    requires stimulus { CanFail (R.past stimulus.old) }
-    requires output { CanFail (W.past output.old) }
     requires traced { request.now.witness ≡ false }
-    ensures ran { RanFor request.now
+    ensures transferred { TransferredFor request.now
         (λ found. TaskSays (task_of request.now) found (without_verdict result)) result
-        (M.past model.old) (M.past model.new)
-        (R.past stimulus.old) (R.past stimulus.new) (W.past output.old) (W.past output.new) }
+        (M.history model.old) (M.history model.new)
+        (R.history stimulus.old) (R.history stimulus.new) (W.history output.old)
+        (W.history output.new) }
 {
     let found = read_circuit(alloc, model, request.max_var, Keep::Order)?;
     perform(alloc, task_of(request), found, stimulus, output)?;

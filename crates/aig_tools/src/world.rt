@@ -1,20 +1,21 @@
 //! The files and streams of a program, and what is done with those that a request names. No two
 //! files are open at once.
 ghost use Rattle.std.specs.Prelude.{◌≡◌, ◌<◌, ◌≤◌, IfErr, IfOk, length, None, OnOk, Some};
-ghost use Rattle.aig_io.specs.Devices.{CanFail, Past};
+ghost use Rattle.aig_io.specs.Devices.{History};
 ghost use Rattle.aig_command.specs.Answer.{name_of};
-ghost use Rattle.aig_engines.specs.declared.stopped.Stopped.TheVariants.{WriteFailed};
-ghost use Rattle.aig_engines.specs.Jobs.{CanDo, CanRead, Makes, Refuses, text_of};
-ghost use Rattle.aig_engines.specs.Reading.{ReadSays};
+ghost use Rattle.aig_fault.specs.declared.stopped.Stopped.TheVariants.{WriteFailed};
+ghost use Rattle.aig_commands.specs.Jobs.{CanDo, CanRead, Makes, Refuses, text_of};
+ghost use Rattle.aig_commands.specs.Reading.{ReadSays};
 ghost use Rattle.aig_tools.specs.Ends.{Concludes, done_status};
 ghost use Rattle.aig_tools.specs.SimulationOutcome.{TaskSays};
-ghost use Rattle.aig_tools.specs.Worlds.{IsReady, RanBetween, ReadIn, SentIn, TakesAs, world};
+ghost use Rattle.aig_tools.specs.Worlds.{IsIdle, ReadIn, SentIn, TakesAs, TransferredBetween};
+ghost use Rattle.aig_tools.specs.Worlds.{world};
 
 use crate::reporting::report_stop;
 use crate::simulation::perform;
 use aig_command::Names;
+use aig_commands::{Answer, Job, Part, Reading, Stopped, Task};
 use aig_core::{Checked, Sink, Source};
-use aig_engines::{Answer, Job, Part, Reading, Stopped, Task};
 use aig_files::{FileAccess, NamedSink, NamedSource};
 use aig_witness::Verdict;
 use std::alloc::Global;
@@ -41,7 +42,7 @@ impl<A: FileAccess, R: Source, W: Sink, E: Sink> Model for World<A, R, W, E> {
     ghost Value = { World };
 
     ghost view = { λ w.
-        world (A.files w.files) (R.past w.input) (W.past w.output) (E.past w.errors) };
+        world (A.files w.files) (R.history w.input) (W.history w.output) (E.history w.errors) };
 }
 
 /// Answers the steps of this model that the file of this name has, which is opened at the first
@@ -55,11 +56,11 @@ fn answer_named<A: FileAccess, W: Sink>(
     output: &mut W,
 ) -> Result<Option<Verdict>, Stopped>
     requires idle { (A.files files.old).current ≡ None }
-    requires output { CanFail (W.past output.old) }
     ensures idle { (A.files files.new).current ≡ None }
-    ensures ran { (input errors : Past) → RanBetween (TaskSays task model result) (Some name.now) None
-        (world (A.files files.old) input (W.past output.old) errors)
-        (world (A.files files.new) input (W.past output.new) errors) }
+    ensures transferred { (input errors : History)
+        → TransferredBetween (TaskSays task model result) (Some name.now) None
+        (world (A.files files.old) input (W.history output.old) errors)
+        (world (A.files files.new) input (W.history output.new) errors) }
 {
     let mut file = NamedSource::new(files, name);
     let done = perform(alloc, task, model, &mut file, output);
@@ -80,17 +81,19 @@ fn done_status(verdict: Option<Verdict>) -> u8
 
 impl<A: FileAccess, R: Source, W: Sink, E: Sink> World<A, R, W, E> {
     /// Reads what is read next, from the source of this name.
+    // Not built into its caller, whose stack would then hold the window of a source while it writes.
+    #[inline(never)]
     pub(crate) fn read(
         &mut self,
         alloc: Global,
         name: &Option<String>,
         reading: Reading,
     ) -> Result<Job, Stopped>
-        requires ready { IsReady self.old }
+        requires ready { IsIdle self.old }
         requires can_read { CanRead reading }
         ensures idle { self.new.files.current ≡ None }
         ensures errors { self.new.errors ≡ self.old.errors }
-        ensures ready { OnOk result (IsReady self.new) }
+        ensures ready { OnOk result (IsIdle self.new) }
         ensures read { ReadIn
             (ReadSays (λ next bytes. Makes reading bytes next) (Refuses reading) result)
             (name_of name.now) self.old self.new }
@@ -115,10 +118,11 @@ impl<A: FileAccess, R: Source, W: Sink, E: Sink> World<A, R, W, E> {
         task: Task,
         model: Checked,
     ) -> Result<Option<Verdict>, Stopped>
-        requires { IsReady self.old }
+        requires { IsIdle self.old }
         ensures idle { self.new.files.current ≡ None }
         ensures errors { self.new.errors ≡ self.old.errors }
-        ensures ran { RanBetween (TaskSays task model result) (name_of name.now) None
+        ensures transferred { TransferredBetween (TaskSays task model result) (name_of name.now)
+            None
             self.old self.new }
     {
         match name {
@@ -136,11 +140,11 @@ impl<A: FileAccess, R: Source, W: Sink, E: Sink> World<A, R, W, E> {
 
     /// Writes an answer to the destination of this name, which is made for the first byte.
     pub(crate) fn write(&mut self, name: &Option<String>, answer: Answer) -> Result<(), Stopped>
-        requires ready { IsReady self.old }
+        requires ready { IsIdle self.old }
         requires some { 0 < length (text_of answer) }
         ensures idle { self.new.files.current ≡ None }
         ensures errors { self.new.errors ≡ self.old.errors }
-        ensures sent { SentIn (λ text taking. (text ≡ text_of answer) × TakesAs result taking)
+        ensures sent { SentIn (λ text delivery. (text ≡ text_of answer) × TakesAs result delivery)
             (name_of name.now) self.old self.new }
         ensures stopped { IfErr result (λ stopped. stopped ≡ WriteFailed) }
     {
@@ -164,7 +168,6 @@ impl<A: FileAccess, R: Source, W: Sink, E: Sink> World<A, R, W, E> {
         part: Part,
         done: Result<Option<Verdict>, Stopped>,
     ) -> u8
-        requires errors { CanFail self.old.errors }
         requires idle { self.old.files.current ≡ None }
         ensures idle { self.new.files.current ≡ None }
         ensures concludes { Concludes names.now part done self.old self.new result }

@@ -7,3 +7,4 @@ pub mod Progress
 pub mod Lists
 pub mod Waiting
 pub mod Resolved
+pub mod Counted

@@ -9,7 +9,7 @@ use Rattle.aig_topo.specs.declared.operands.Needs.{Needs}
 use Rattle.aig_circuit.specs.Wellformed.{AreDistinct}
 use Rattle.aig_topo.specs.Needs.{how_many, needs_of}
 
--- the gate behind one in its list, and the first of its own list
+-- the gate after one in its list, and the first of its own list
 pub record Link : Type 0 where
   pub next : ℕ
   pub first : ℕ
@@ -37,7 +37,7 @@ links_in rows = map links_in_row rows
 abbrev pub no_link : Link
 no_link = record { next = 0; first = 0 }
 
--- the link to the gate behind this one
+-- the link to the gate after this one
 abbrev pub next_of : List Link → ℕ → ℕ
 next_of links gate = (slice_index_or links gate no_link).next
 

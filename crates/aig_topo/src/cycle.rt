@@ -37,7 +37,7 @@ const DONE: u8 = 2;
 #[derive(Drop)]
 struct Search {
     operands: Vec<Pair>,
-    /// What is known of each gate; behind the last one the place of no gate, which is done.
+    /// What is known of each gate; after the last one the place of no gate, which is done.
     states: Vec<u8>,
     /// The gates from the first one to that which is looked at.
     way: Vec<u32>,

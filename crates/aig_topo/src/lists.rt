@@ -15,14 +15,14 @@ use crate::operands::{Needs, look_up};
 use aig_circuit::{Circuit, LARGEST};
 use std::alloc::{AllocError, Global};
 
-/// All that is asked of a gate where it is entered or released. It stands together, since gates are
-/// released in any order: what stands apart comes from memory apart. What a gate needs is asked for
-/// in full once, where it is looked at; from then on the node has what is left to ask, and the link
-/// of the list in which the gate waits takes the other place. So a node has 12 bytes, and more of
-/// them are in the cache. Each number is one more than a position, or 0 for none.
+/// All that is asked of a gate where it is entered or released. One node per gate: one cache miss,
+/// since gates are released in any order. What a gate needs is asked for in full once, where it is
+/// looked at; from then on the node has what is left to ask, and the link of the list in which the
+/// gate waits takes the other place. So a node has 12 bytes, and more of them are in the cache.
+/// Each number is one more than a position, or 0 for none.
 #[derive(Clone, Copy)]
 struct GateNode {
-    /// What the left operand needs; once the gate waits, the gate behind it in its list.
+    /// What the left operand needs; once the gate waits, the gate after it in its list.
     next: u32,
     /// What the right operand needs; once the gate waits, what it needs beside that.
     rest: u32,
@@ -167,7 +167,7 @@ impl Lists {
     }
 }
 
-/// What the gates of a circuit need. Each operand is looked up once, and what comes behind goes by
+/// What the gates of a circuit need. Each operand is looked up once, and what comes after goes by
 /// positions.
 #[derive(Drop)]
 pub struct GateNeeds {

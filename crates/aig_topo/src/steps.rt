@@ -1,19 +1,22 @@
 //! A count of steps that only clauses read.
-ghost use Rattle.std.specs.Prelude.{◌≡◌, ◌+◌, ℕ};
-ghost use Rattle.std.specs.Borrow.{ftrue};
+ghost use Rattle.std.specs.Prelude.{◌≡◌, ◌+◌};
+ghost use Rattle.aig_io.specs.Notes.{sum_of};
+ghost use Rattle.aig_topo.specs.Counted.{Counted};
 
-use std::marker::{Model, PhantomData};
+use aig_io::Record;
+use std::marker::Model;
 
 /// How many steps were made over gates: it takes no memory. It is lent to each search and to each
 /// order, so that work that is thrown away counts too.
 #[derive(Drop)]
 pub struct Steps {
-    marker: PhantomData<u8>,
-    pub ghost count: { ℕ },
+    made: Record,
 }
 
 impl Model for Steps {
-    ghost also_owns = { λ _. ftrue };
+    ghost Value = { Counted };
+
+    ghost view = { λ a. record { count = sum_of a.made.notes } };
 }
 
 impl Steps {
@@ -22,12 +25,14 @@ impl Steps {
         ensures { result.count ≡ 0 }
     {
         Steps {
-            marker: PhantomData,
+            made: Record::new(),
         }
     }
 
     #[inline(always)]
-    pub(crate) fn add(&mut self, _steps: u64)
-        ensures { self.new.count ≡ self.old.count + _steps }
-    {}
+    pub(crate) fn add(&mut self, steps: u64)
+        ensures { self.new.count ≡ self.old.count + steps }
+    {
+        self.made.note(&[steps], &[]);
+    }
 }

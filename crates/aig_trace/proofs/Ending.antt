@@ -2,38 +2,37 @@
 use Rattle.std.proofs.Common.{◌≡◌, ◌∙◌, ℕ, List, [], Bool, true, false, not, Option, Some, None, Result, Ok, Err, refl}
 use Rattle.std.proofs.Common.{sym, ap₂, subst}
 use Rattle.aig_circuit.specs.declared.circuit.Circuit.{Circuit}
-use Rattle.aig_io.specs.Devices.{Past}
+use Rattle.aig_io.specs.Devices.{History}
 use Rattle.aig_io.specs.Output.{Out}
-use Rattle.aig_io.specs.Runs.{All, AtEnd, Beginning, Broken, Ending, IsUnbroken, Taking, came, is_at_end}
+use Rattle.aig_io.specs.Runs.{All, AtEnd, Beginning, Broken, Delivery, Ending, IsUnbroken, came, is_at_end}
 use Rattle.aig_io.proofs.Puts.{all_sent, beginning_sent, put_nothing}
-use Rattle.aig_lines.specs.Fed.{Feeder}
+use Rattle.aig_lines.specs.Feeders.{Feeder}
 use Rattle.aig_meaning.specs.Meaning.{MeansTheSame}
-use Rattle.aig_step.specs.declared.fault.SimFault.{SimFault}
-use Rattle.aig_step.specs.declared.fault.SimFault.TheVariants.{OutOfMemory, BadStimulus, BadWitness, ReadFailed}
-use Rattle.aig_step.specs.declared.fault.SimFault.TheVariants.{WriteFailed}
+use Rattle.aig_fault.specs.declared.stopped.Stopped.{Stopped}
+use Rattle.aig_fault.specs.declared.stopped.Stopped.TheVariants.{OutOfMemory, ReadFailed, Refused, WriteFailed}
 use Rattle.aig_step.specs.declared.trace.Columns.{Columns}
-use Rattle.aig_step.specs.Outcome.{IsTraceUpTo, TraceSays}
+use Rattle.aig_step.specs.Outcome.{IsTraceUpTo, TraceSays, bad_stimulus}
 use Rattle.aig_trace.specs.Parts.Streaming.{StreamEnds, IsTraced, ended_so}
 use Rattle.aig_trace_laws.proofs.Texts.{same_meaning_same_text}
 
 -- lines were taken, and the text for them was put
 module _ {W : Type 0} (c : Circuit) (columns : Columns) (bytes : List ℕ) (ending : Ending) (from to : Out W)
     (f : Feeder) (t : IsTraced c columns bytes (is_at_end ending) from to f) (unheld : from.held ≡ [])
-    (fine : from.failed ≡ false) (empty : to.held ≡ []) (source source_now : Past)
-    (past : source_now ≡ came bytes ending source) where
-  sent_all : (r : Result (Unit {0}) SimFault) → to.failed ≡ false → TraceSays c columns r bytes ending t.text All
+    (fine : from.failed ≡ false) (empty : to.held ≡ []) (source source_now : History)
+    (history : source_now ≡ came bytes ending source) where
+  sent_all : (r : Result (Unit {0}) Stopped) → to.failed ≡ false → TraceSays c columns r bytes ending t.text All
       → StreamEnds c columns r source source_now from to
   sent_all r well says = record {
-    ran = record {
+    transferred = record {
       bytes = bytes;
       ending = ending;
       says = record {
         text = t.text;
-        taking = All;
+        delivery = All;
         says = says;
         sent = all_sent from from to to t.text refl unheld t.put (put_nothing to) empty well;
       };
-      came = past;
+      came = history;
     };
     same = t.put.same;
   }
@@ -42,16 +41,16 @@ module _ {W : Type 0} (c : Circuit) (columns : Columns) (bytes : List ℕ) (endi
   sent_in_part unbroken broke =
       let part = beginning_sent from from to to t.text refl unheld fine t.put (put_nothing to) broke in
       record {
-        ran = record {
+        transferred = record {
           bytes = bytes;
           ending = ending;
           says = record {
             text = t.text;
-            taking = Beginning part.count;
+            delivery = Beginning part.count;
             says = (unbroken, tt, t.is_trace.is_text);
-            sent = part.past;
+            sent = part.history;
           };
-          came = past;
+          came = history;
         };
         same = t.put.same;
       }
@@ -61,16 +60,16 @@ module _ {W : Type 0} (c : Circuit) (columns : Columns) (bytes : List ℕ) (endi
       → StreamEnds c columns (ended_so failed (not refused) f.number) source source_now from to
   ends_by unbroken true refused broke is whole = sent_in_part unbroken broke
   ends_by unbroken false true well is whole =
-      sent_all (Err (BadStimulus f.number)) well (unbroken, refl, rw is at t.is_trace)
+      sent_all (Err (Refused (bad_stimulus f.number))) well (f.number, refl, unbroken, refl, rw is at t.is_trace)
   ends_by unbroken false false well is whole =
       let all = whole refl refl in
       sent_all (Ok tt) well (all, refl, rw (is, all) at t.is_trace)
 
   -- the source did not fail
-  pub ends : (r : Result (Unit {0}) SimFault) → IsUnbroken ending → r ≡ ended_so to.failed (not f.refused) f.number
+  pub ends : (r : Result (Unit {0}) Stopped) → IsUnbroken ending → r ≡ ended_so to.failed (not f.refused) f.number
       → (r ≡ Ok tt → ending ≡ AtEnd) → StreamEnds c columns r source source_now from to
   ends r unbroken is whole =
-      subst (λ (s : Result (Unit {0}) SimFault). StreamEnds c columns s source source_now from to) (sym is)
+      subst (λ (s : Result (Unit {0}) Stopped). StreamEnds c columns s source source_now from to) (sym is)
       (ends_by unbroken to.failed f.refused refl refl (λ well good. whole (is ∙ ap₂
       (λ (failed refused : Bool). ended_so failed (not refused) f.number) well good)))
 
@@ -94,15 +93,14 @@ module _ (c d : Circuit) (means : MeansTheSame c d) (columns : Columns) where
       let same = same_meaning_same_text c d means columns bytes ended in
       record { first = sym same.0 ∙ is.first; is_text = (same.1 text).1 is.is_text }
 
-  pub trace_says_too : (r : Result (Unit {0}) SimFault) (bytes : List ℕ) (ending : Ending) (text : List ℕ)
-      (taking : Taking) → TraceSays d columns r bytes ending text taking
-      → TraceSays c columns r bytes ending text taking
-  trace_says_too (Ok x) bytes ending text taking (end, all, is) = (end, all, trace_too bytes true None text is)
-  trace_says_too (Err OutOfMemory) bytes ending text taking says = says
-  trace_says_too (Err (BadStimulus number)) bytes ending text taking (unbroken, all, is) =
-      (unbroken, all, trace_too bytes (is_at_end ending) (Some number) text is)
-  trace_says_too (Err (BadWitness number)) bytes ending text taking never = never
-  trace_says_too (Err ReadFailed) bytes ending text taking (broken, all, is) =
+  pub trace_says_too : (r : Result (Unit {0}) Stopped) (bytes : List ℕ) (ending : Ending) (text : List ℕ)
+      (delivery : Delivery) → TraceSays d columns r bytes ending text delivery
+      → TraceSays c columns r bytes ending text delivery
+  trace_says_too (Ok x) bytes ending text delivery (end, all, is) = (end, all, trace_too bytes true None text is)
+  trace_says_too (Err OutOfMemory) bytes ending text delivery says = says
+  trace_says_too (Err (Refused fault)) bytes ending text delivery (number, told, unbroken, all, is) =
+      (number, told, unbroken, all, trace_too bytes (is_at_end ending) (Some number) text is)
+  trace_says_too (Err ReadFailed) bytes ending text delivery (broken, all, is) =
       (broken, all, trace_too bytes false None text is)
-  trace_says_too (Err WriteFailed) bytes ending text taking (unbroken, cut, is) =
+  trace_says_too (Err WriteFailed) bytes ending text delivery (unbroken, cut, is) =
       (unbroken, cut, ((same_meaning_same_text c d means columns bytes (is_at_end ending)).1 text).1 is)

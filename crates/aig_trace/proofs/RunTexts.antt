@@ -9,10 +9,10 @@ use Rattle.aig_circuit.specs.declared.circuit.Circuit.{Circuit}
 use Rattle.aig_meaning.specs.Meaning.{Row}
 use Rattle.aig_meaning.specs.Trace.{Follow, IsFirstState, IsTrace, reset_state}
 use Rattle.aig_lines.specs.Lines.{Line}
-use Rattle.aig_lines.specs.Fed.{Feeder, IsFed}
-use Rattle.aig_lines.specs.Feeding.{Told, Turn, ended_if, fed, heard, told, told_to}
+use Rattle.aig_lines.specs.Feeders.{Feeder, HasFoldedBytes}
+use Rattle.aig_lines.specs.Feeding.{Folded, Turn, ended_if, fold_bytes, checked_line, fold_lines, folded_to}
 use Rattle.aig_lines.specs.Texts.{judged_lines, text_of}
-use Rattle.aig_lines.proofs.Tells.{has_told}
+use Rattle.aig_lines.proofs.Tells.{has_folded_lines}
 use Rattle.aig_rows.proofs.Grammar.Rows.{or_yes as or_true}
 use Rattle.aig_step.specs.Stimulus.{value_of, values_of, Entry, Stimulus, before_rest, entry_in, lines_say, stimulus}
 use Rattle.aig_step.specs.Stimulus.{Step, Stop, runs_of, with_step}
@@ -45,14 +45,14 @@ values_more (a ∷ text) b =
     ∙ and_in_turn (is_some (value_of a)) (is_some (values_of text)) (is_some (value_of b))
     ∙ ap (λ (s : Bool). s && is_some (value_of b)) (sym (first_some (value_of a) (values_of text)))
 
--- A simulation goes on by a line, and by lines behind lines.
+-- A simulation goes on by a line, and by lines after lines.
 
 -- by one line
 pub goes_one : (c : Circuit) (columns : Columns) (p q : Point) (e : Entry) (t : List ℕ) → Does c columns p e q t
     → Goes c columns p (e ∷ []) q t
 goes_one c columns p q e t does = (q, t, [], does, (refl, refl), sym (append-nil t))
 
--- by lines behind lines
+-- by lines after lines
 pub goes_over : (c : Circuit) (columns : Columns) (p q u : Point) (es fs : List Entry) (t v : List ℕ)
     → Goes c columns p es q t → Goes c columns q fs u v → Goes c columns p (es ++ fs) u (t ++ v)
 goes_over c columns p q u [] fs t v (same, none) more =
@@ -76,9 +76,9 @@ goes_on c columns p q u es e t v goes does =
 -- To tell the lines of a stimulus is to say what they say.
 
 -- a line that is too long says nothing
-heard_is : {K : Type 0} (s : Saying K) (text : List ℕ)
-    → heard say_line (longest_entry s.inputs) s text ≡ say_line s text
-heard_is s text =
+checked_is : {K : Type 0} (s : Saying K) (text : List ℕ)
+    → checked_line say_line (longest_entry s.inputs) s text ≡ say_line s text
+checked_is s text =
     let limit = longest_entry s.inputs in
     elim (cases_lt limit (length text)) [
       | inl long ↦
@@ -86,17 +86,18 @@ heard_is s text =
       | inr short ↦ rw (le-leb (length text) limit short) refl
     ]
 
--- what was told is what is said, behind what was said before
-pub record IsSaid {K : Type 0} (s : Saying K) (said : Stimulus) (t : Told (Saying K)) : Type 0 where
+-- what was folded is what is said, after what was said before
+pub record IsSaid {K : Type 0} (s : Saying K) (said : Stimulus) (t : Folded (Saying K)) : Type 0 where
   pub state : t.state ≡ record s { entries = s.entries ++ said.entries }
   pub bad : said.bad ≡ (if t.refused then Some t.number else None)
 
 said_rest : {K : Type 0} (o : Option Entry) (s : Saying K) (number : ℕ) (ls : List Line)
     → ((e : Entry) → IsSaid (record s { entries = s.entries ++ e ∷ [] }) (lines_say s.inputs (suc number) ls)
-    (told say_line (longest_entry s.inputs) (record s { entries = s.entries ++ e ∷ [] }) (suc number) ls))
+    (fold_lines say_line (longest_entry s.inputs) (record s { entries = s.entries ++ e ∷ [] }) (suc number) ls))
     → (let t = entry_turn s o in
     IsSaid s (before_rest number o (lines_say s.inputs (suc number) ls))
-    (if t.goes_on then told say_line (longest_entry s.inputs) t.state (suc number) ls else told_to t.state number true))
+    (if t.goes_on then fold_lines say_line (longest_entry s.inputs) t.state (suc number) ls else folded_to t.state
+    number true))
 said_rest None s number ls again = record {
   state = ap (λ (es : List Entry). record s { entries = es }) (sym (append-nil s.entries));
   bad = refl;
@@ -110,19 +111,19 @@ said_rest (Some e) s number ls again =
       bad = rest.bad;
     }
 
-told_said : {K : Type 0} (ls : List Line) (s : Saying K) (number : ℕ)
-    → IsSaid s (lines_say s.inputs number ls) (told say_line (longest_entry s.inputs) s number ls)
-told_said [] s number = record {
+folded_said : {K : Type 0} (ls : List Line) (s : Saying K) (number : ℕ)
+    → IsSaid s (lines_say s.inputs number ls) (fold_lines say_line (longest_entry s.inputs) s number ls)
+folded_said [] s number = record {
   state = ap (λ (es : List Entry). record s { entries = es }) (sym (append-nil s.entries));
   bad = refl;
 }
-told_said {K} (l ∷ ls) s number =
-    let on : Turn (Saying K) → Told (Saying K) = λ t.
-    if t.goes_on then told say_line (longest_entry s.inputs) t.state (suc number) ls
-    else told_to t.state number true in
-    subst (IsSaid s (lines_say s.inputs number (l ∷ ls))) (ap on (sym (heard_is s (text_of l))))
+folded_said {K} (l ∷ ls) s number =
+    let on : Turn (Saying K) → Folded (Saying K) = λ t.
+    if t.goes_on then fold_lines say_line (longest_entry s.inputs) t.state (suc number) ls
+    else folded_to t.state number true in
+    subst (IsSaid s (lines_say s.inputs number (l ∷ ls))) (ap on (sym (checked_is s (text_of l))))
     (said_rest (entry_in s.inputs (text_of l)) s number ls
-    (λ e. told_said ls (record s { entries = s.entries ++ e ∷ [] }) (suc number)))
+    (λ e. folded_said ls (record s { entries = s.entries ++ e ∷ [] }) (suc number)))
 
 -- what was said where a feeder stands
 pub record HasSaid {T K : Type 0} (IsAt : T → Saying K → Type 0) (known : K) (inputs : ℕ) (bytes : List ℕ)
@@ -136,11 +137,11 @@ pub record HasSaid {T K : Type 0} (IsAt : T → Saying K → Type 0) (known : K)
 
 pub has_said : {T K : Type 0} (IsAt : T → Saying K → Type 0) (known : K) (inputs : ℕ) (bytes : List ℕ) (over : Bool)
     (f : Feeder) (t : T)
-    → IsFed IsAt f t (ended_if say_line over (fed say_line (before_lines known inputs) bytes))
+    → HasFoldedBytes IsAt f t (ended_if say_line over (fold_bytes say_line (before_lines known inputs) bytes))
     → HasSaid IsAt known inputs bytes over f t
 has_said IsAt known inputs bytes over f t stands =
-    let has = has_told say_line IsAt f t over (longest_entry inputs) (nothing_said known inputs) bytes stands in
-    let said = told_said (judged_lines bytes over) (nothing_said known inputs) 1 in
+    let has = has_folded_lines say_line IsAt f t over (longest_entry inputs) (nothing_said known inputs) bytes stands in
+    let said = folded_said (judged_lines bytes over) (nothing_said known inputs) 1 in
     record { taker = subst (IsAt t) said.state has.taker; bad = rw (has.number, has.refused) said.bad }
 
 -- The text of a simulation from the reset state is the trace text of its lines.

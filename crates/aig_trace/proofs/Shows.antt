@@ -7,7 +7,7 @@ use Rattle.aig_lanes.specs.Parts.Benches.{HasSameRoom}
 use Rattle.aig_circuit.specs.declared.circuit.Circuit.{Circuit}
 use Rattle.aig_circuit.specs.declared.circuit.Latch.{Latch}
 use Rattle.aig_circuit.specs.declared.value.Val.{Val}
-use Rattle.aig_io.specs.Output.{Out, Put}
+use Rattle.aig_io.specs.Output.{Appended, Out}
 use Rattle.aig_meaning.specs.Meaning.{IsRow, Row, literal_value}
 use Rattle.aig_meaning.specs.Trace.{reset_state, reset_value}
 use Rattle.aig_lanes.specs.declared.lane_columns.LaneColumns.{LaneColumns}
@@ -21,7 +21,7 @@ use Rattle.aig_lanes.proofs.Benches.ShownTexts.{line_kept}
 use Rattle.aig_lanes.proofs.Benches.Steps.{steps_room_stays}
 use Rattle.aig_trace.specs.declared.side_by_side.SideBySide.{SideBySide}
 use Rattle.aig_trace.specs.declared.waiting.Waiting.{Waiting}
-use Rattle.aig_trace.specs.Parts.Tracing.{Did, HeardLine, IsSameTracer, LineTracing, MovedOn, TookLine}
+use Rattle.aig_trace.specs.Parts.Tracing.{AcceptedLine, Did, IsSameTracer, LineTracing, MovedOn, TookLine}
 use Rattle.aig_trace.specs.Parts.Tracing.{Tracing, point_of}
 use Rattle.aig_trace.specs.Parts.Taking.{KeepsLanes, ShowsSteps}
 use Rattle.aig_trace.specs.Parts.Waits.{Serves}
@@ -58,7 +58,7 @@ pub did_step : {W : Type 0} (t u : Tracing) (a b : Out W) (vector : List Val) (s
     (sheet : List BytesText) (lane : ℕ) → t.circuit.latches ≡ [] → length t.state ≡ length t.circuit.latches
     → u ≡ record t { has_step = true } → shown.columns ≡ t.columns
     → KeepsRun t.circuit (one_step vector) lane shown sheet
-    → Put a b (shown_text shown 0 (values_text vector) (text_in lane sheet)) → Did t u (Step vector ∷ []) a b
+    → Appended a b (shown_text shown 0 (values_text vector) (text_in lane sheet)) → Did t u (Step vector ∷ []) a b
 did_step t u a b vector shown sheet lane none each noted columns keeps put =
     let shows = shown_row t.circuit vector shown (text_in lane sheet) keeps.0 keeps.1 in
     let row = shows.row in
@@ -93,7 +93,7 @@ did_step t u a b vector shown sheet lane none each noted columns keeps put =
         (refl, refl),
         sym (append-nil text),
       );
-      put = subst (Put a b) is put;
+      put = subst (Appended a b) is put;
     }
 
 -- one more of these was done
@@ -143,11 +143,11 @@ pub shows_still : (a b : SideBySide) → IsSameTracer a.tracer b.tracer → Keep
 shows_still a b same keeps shows j low =
     rw (same.circuit, keeps.waiting, keeps.shown, keeps.sheet) (shows j (rw (← keeps.waiting) low))
 
--- a line was let in behind those that wait
-pub heard_by : {W : Type 0} (t u : LineTracing W) (waiting : List Entry) (text : List ℕ) (e : Entry) → MovedOn t u
+-- a line was let in after those that wait
+pub accepted_by : {W : Type 0} (t u : LineTracing W) (waiting : List Entry) (text : List ℕ) (e : Entry) → MovedOn t u
     → entry_in (length t.tracing.circuit.inputs) text ≡ Some e → waiting ≡ u.waiting ++ e ∷ []
-    → HeardLine t (record u { waiting = waiting }) text
-heard_by t u waiting text e moved says waits = record {
+    → AcceptedLine t (record u { waiting = waiting }) text
+accepted_by t u waiting text e moved says waits = record {
   entry = e;
   said = says;
   done = moved.done;

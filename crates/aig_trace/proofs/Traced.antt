@@ -2,12 +2,12 @@
 use Rattle.std.proofs.Common.{◌≡◌, ◌++◌, ◌&&◌, ◌∷◌, ◌∙◌, if◌then◌else◌, ℕ, List, [], Bool, true, false, not, Option}
 use Rattle.std.proofs.Common.{Some, None, length, refl, sym, ap, subst, append-nil, append_assoc, codes}
 use Rattle.aig_circuit.specs.declared.circuit.Circuit.{Circuit}
-use Rattle.aig_io.specs.Devices.{Past}
-use Rattle.aig_io.specs.Output.{Out, Put}
+use Rattle.aig_io.specs.Devices.{History}
+use Rattle.aig_io.specs.Output.{Appended, Out}
 use Rattle.aig_io.proofs.Puts.{put_nothing, put_twice}
-use Rattle.aig_lines.specs.Fed.{Feeder, IsFed, IsUnfed}
-use Rattle.aig_lines.specs.Feeding.{Feeding, ended, ended_if, fed, feeding}
-use Rattle.aig_lines.proofs.Feeds.{fed_nothing}
+use Rattle.aig_lines.specs.Feeders.{Feeder, HasFoldedBytes, IsInitial}
+use Rattle.aig_lines.specs.Feeding.{Feeding, ended, ended_if, fold_bytes, feeding}
+use Rattle.aig_lines.proofs.Feeds.{fold_nothing}
 use Rattle.aig_lines.proofs.Tells.{Reached}
 use Rattle.aig_meaning.proofs.Traces.{reset_state_is_first}
 use Rattle.aig_step.specs.declared.trace.Columns.{Columns}
@@ -16,7 +16,8 @@ use Rattle.aig_step.specs.Stimulus.{Entry, entry_in, stimulus}
 use Rattle.aig_trace.specs.Parts.Progress.{Goes, begin_of}
 use Rattle.aig_trace.specs.Parts.Saying.{Saying, before_lines, entry_turn, longest_entry, nothing_said, say_line}
 use Rattle.aig_trace.specs.Parts.Streaming.{IsTraced}
-use Rattle.aig_trace.specs.Parts.Tracing.{Did, HasTraced, HeardLine, IsFresh, IsSameTracer, LineTracing, PutText}
+use Rattle.aig_trace.specs.Parts.Tracing.{AcceptedLine, AppendedText, Did, HasTraced, IsFresh, IsSameTracer}
+use Rattle.aig_trace.specs.Parts.Tracing.{LineTracing}
 use Rattle.aig_trace.specs.Parts.Tracing.{Reading, Task, TookLine, Tracing, point_of, tracing_task, tracing_of}
 use Rattle.aig_trace.proofs.RunTexts.{goes_one, goes_over, closing, goes_is_text, has_said}
 
@@ -75,13 +76,13 @@ module _ {W : Type 0} (t u : LineTracing W) (s : Saying (Task W)) (at : HasTrace
         let inputs = at.inputs ∙ ap (λ (c : Circuit). length c.inputs) (sym at.did.same.circuit) in
         ap (λ (n : ℕ). entry_in n text) inputs ∙ is
 
-    -- a line was heard, or it says nothing
-    pub heard_line : (good : Bool) → (good ≡ true → HeardLine t u text)
+    -- a line was accepted, or it says nothing
+    pub accepted_line : (good : Bool) → (good ≡ true → AcceptedLine t u text)
         → (good ≡ false → (entry_in (length t.tracing.circuit.inputs) text ≡ None) × (u.tracing ≡ t.tracing)
         × (u.waiting ≡ t.waiting) × (u.output ≡ t.output))
         → HasTraced u (say_line s text).state × (good ≡ (say_line s text).goes_on)
-    heard_line true heard other =
-        let line = heard refl in
+    accepted_line true accepted other =
+        let line = accepted refl in
         subst (λ (o : Option Entry). HasTraced u (entry_turn s o).state × (true ≡ (entry_turn s o).goes_on))
         (sym (said_here (Some line.entry) line.said)) (
           record {
@@ -96,7 +97,7 @@ module _ {W : Type 0} (t u : LineTracing W) (s : Saying (Task W)) (at : HasTrace
           },
           refl,
         )
-    heard_line false heard other =
+    accepted_line false accepted other =
         let none = other refl in
         subst (λ (o : Option Entry). HasTraced u (entry_turn s o).state × (false ≡ (entry_turn s o).goes_on))
         (sym (said_here None none.0)) (
@@ -105,9 +106,9 @@ module _ {W : Type 0} (t u : LineTracing W) (s : Saying (Task W)) (at : HasTrace
         )
 
 -- a tracer took a line, and none waited
-pub heard_alone : {W : Type 0} (t u : LineTracing W) (text : List ℕ) → t.waiting ≡ [] → u.waiting ≡ []
-    → IsSameTracer t.tracing u.tracing → TookLine t.tracing u.tracing t.output u.output text → HeardLine t u text
-heard_alone t u text none still same took = record {
+pub accepted_alone : {W : Type 0} (t u : LineTracing W) (text : List ℕ) → t.waiting ≡ [] → u.waiting ≡ []
+    → IsSameTracer t.tracing u.tracing → TookLine t.tracing u.tracing t.output u.output text → AcceptedLine t u text
+accepted_alone t u text none still same took = record {
   entry = took.entry;
   said = took.said;
   done = took.entry ∷ [];
@@ -139,21 +140,22 @@ begun t is none = record {
 }
 
 -- and before the first byte
-pub begins : {W : Type 0} (f : Feeder) (t : LineTracing W) → IsUnfed f
+pub begins : {W : Type 0} (f : Feeder) (t : LineTracing W) → IsInitial f
     → f.limit ≡ longest_entry (length t.tracing.circuit.inputs) → point_of t.tracing ≡ begin_of t.tracing.circuit
-    → t.waiting ≡ [] → IsFed HasTraced f t (before_lines (tracing_task t) (length t.tracing.circuit.inputs))
-begins f t unfed limit is none =
+    → t.waiting ≡ [] → HasFoldedBytes HasTraced f t (before_lines (tracing_task t) (length t.tracing.circuit.inputs))
+begins f t initial limit is none =
     let s = nothing_said (tracing_task t) (length t.tracing.circuit.inputs) in
-    subst (λ (n : ℕ). IsFed HasTraced f t (feeding n s)) limit (fed_nothing HasTraced f t s unfed (begun t is none))
+    subst (λ (n : ℕ). HasFoldedBytes HasTraced f t (feeding n s)) limit
+    (fold_nothing HasTraced f t s initial (begun t is none))
 
 -- nothing more was put
-pub put_sent : {W : Type 0} (a b c : Out W) (text : List ℕ) → Put a b text → Put b c [] → Put a c text
-put_sent a b c text p q = subst (Put a c) (append-nil text) (put_twice a b c text [] p q)
+pub put_sent : {W : Type 0} (a b c : Out W) (text : List ℕ) → Appended a b text → Appended b c [] → Appended a c text
+put_sent a b c text p q = subst (Appended a c) (append-nil text) (put_twice a b c text [] p q)
 
 -- another taker stands there too
-abbrev fed_too : {W : Type 0} (f : Feeder) (t u : LineTracing W) (at : Feeding (Saying (Task W)))
-    → IsFed HasTraced f t at → HasTraced u at.state → IsFed HasTraced f u at
-fed_too f t u at stands has = record {
+abbrev folded_too : {W : Type 0} (f : Feeder) (t u : LineTracing W) (at : Feeding (Saying (Task W)))
+    → HasFoldedBytes HasTraced f t at → HasTraced u at.state → HasFoldedBytes HasTraced f u at
+folded_too f t u at stands has = record {
   taker = has;
   kept = stands.kept;
   room = stands.room;
@@ -163,17 +165,18 @@ fed_too f t u at stands has = record {
 }
 
 -- what waited was done
-pub fed_settled : {W : Type 0} (f : Feeder) (t u : LineTracing W) (at : Feeding (Saying (Task W)))
-    → IsFed HasTraced f t at → Did t.tracing u.tracing t.waiting t.output u.output → u.waiting ≡ []
-    → IsFed HasTraced f u at
-fed_settled f t u at stands did none = fed_too f t u at stands (settled t u at.state stands.taker did none)
+pub folded_settled : {W : Type 0} (f : Feeder) (t u : LineTracing W) (at : Feeding (Saying (Task W)))
+    → HasFoldedBytes HasTraced f t at → Did t.tracing u.tracing t.waiting t.output u.output → u.waiting ≡ []
+    → HasFoldedBytes HasTraced f u at
+folded_settled f t u at stands did none = folded_too f t u at stands (settled t u at.state stands.taker did none)
 
 -- the text was sent
-pub flushed : {W : Type 0} (f : Feeder) (t u : LineTracing W) (at : Feeding (Saying (Task W))) → IsFed HasTraced f t at
-    → u.tracing ≡ t.tracing → u.waiting ≡ t.waiting → Put t.output u.output [] → IsFed HasTraced f u at
+pub flushed : {W : Type 0} (f : Feeder) (t u : LineTracing W) (at : Feeding (Saying (Task W)))
+    → HasFoldedBytes HasTraced f t at
+    → u.tracing ≡ t.tracing → u.waiting ≡ t.waiting → Appended t.output u.output [] → HasFoldedBytes HasTraced f u at
 flushed f t u at stands same waits put =
     let has = stands.taker in
-    fed_too f t u at stands (record {
+    folded_too f t u at stands (record {
       inputs = has.inputs;
       done = has.done;
       all = has.all ∙ ap (λ (es : List Entry). has.done ++ es) (sym waits);
@@ -187,9 +190,9 @@ flushed f t u at stands same waits put =
 
 -- the text for the lines that were taken, and what ends it
 pub traced : {W : Type 0} (task : Task W) (bytes : List ℕ) (over : Bool) (f : Feeder) (t : LineTracing W) (to : Out W)
-    → IsFed HasTraced f t
-    (ended_if say_line over (fed say_line (before_lines task (length task.circuit.inputs)) bytes))
-    → t.waiting ≡ [] → Put t.output to (closing over (first_bad_line task.circuit bytes over) t.tracing.has_step)
+    → HasFoldedBytes HasTraced f t
+    (ended_if say_line over (fold_bytes say_line (before_lines task (length task.circuit.inputs)) bytes))
+    → t.waiting ≡ [] → Appended t.output to (closing over (first_bad_line task.circuit bytes over) t.tracing.has_step)
     → IsTraced task.circuit task.columns bytes over task.from to f
 traced task bytes over f t to stands none put =
     let said = has_said HasTraced task (length task.circuit.inputs) bytes over f t stands in
@@ -215,31 +218,34 @@ ended_run false number has_step = refl
 
 -- the same at the end of the bytes, where the run that is going on is ended if no line was refused
 pub traced_all : {W : Type 0} (task : Task W) (bytes : List ℕ) (f : Feeder) (t : LineTracing W) (to : Out W)
-    → IsFed HasTraced f t (ended say_line (fed say_line (before_lines task (length task.circuit.inputs)) bytes))
+    → HasFoldedBytes HasTraced f t (ended say_line (fold_bytes say_line (before_lines task (length task.circuit.inputs))
+    bytes))
     → t.waiting ≡ [] → (good : Bool) → good ≡ not f.refused
-    → Put t.output to (if good && t.tracing.has_step then codes ".\n" else [])
+    → Appended t.output to (if good && t.tracing.has_step then codes ".\n" else [])
     → IsTraced task.circuit task.columns bytes true task.from to f
 traced_all task bytes f t to stands none good is put =
     let bad = (has_said HasTraced task (length task.circuit.inputs) bytes true f t stands).bad in
     let has_step = t.tracing.has_step in
     traced task bytes true f t to stands none
-    (subst (Put t.output to)
+    (subst (Appended t.output to)
     (ap (λ (b : Bool). if b && has_step then codes ".\n" else []) is ∙ ended_run f.refused f.number has_step
     ∙ ap (λ (o : Option ℕ). closing true o has_step) (sym bad)) put)
 
 -- all lines of these bytes were taken, and the run was ended that was going on
 pub put_all : {W : Type 0} (r : Reading) (bytes : List ℕ) (f g h : Feeder) (t u v w : LineTracing W) (a b : Out W)
     → IsFresh r → f ≡ r.feeder → t ≡ record { tracing = r.tracing; waiting = r.waiting; output = a }
-    → ((at : Feeding (Saying (Task W))) → IsFed HasTraced f t at → IsFed HasTraced g u (fed say_line at bytes))
-    → ((at : Feeding (Saying (Task W))) → IsFed HasTraced g u at → IsFed HasTraced h v (ended say_line at))
+    → ((at : Feeding (Saying (Task W))) → HasFoldedBytes HasTraced f t at
+    → HasFoldedBytes HasTraced g u (fold_bytes say_line at bytes))
+    → ((at : Feeding (Saying (Task W))) → HasFoldedBytes HasTraced g u at
+    → HasFoldedBytes HasTraced h v (ended say_line at))
     → Did v.tracing w.tracing v.waiting v.output w.output → w.waiting ≡ []
-    → Put w.output b (if w.tracing.has_step then codes ".\n" else []) → PutText r.tracing bytes a b
+    → Appended w.output b (if w.tracing.has_step then codes ".\n" else []) → AppendedText r.tracing bytes a b
 put_all {W} r bytes f g h t u v w a b fresh same is took ends did none close =
     let new : LineTracing W = record { tracing = r.tracing; waiting = r.waiting; output = a } in
     let inputs = length r.tracing.circuit.inputs in
-    let start : IsFed HasTraced f t (before_lines (tracing_task new) inputs) =
-    rw (same, is) (begins r.feeder new fresh.unfed fresh.limit fresh.begun fresh.settled) in
-    let all = fed_settled h v w _ (ends _ (took _ start)) did none in
+    let start : HasFoldedBytes HasTraced f t (before_lines (tracing_task new) inputs) =
+    rw (same, is) (begins r.feeder new fresh.initial fresh.limit fresh.begun fresh.settled) in
+    let all = folded_settled h v w _ (ends _ (took _ start)) did none in
     let at = (has_said HasTraced (tracing_task new) inputs bytes true h w all).taker in
     let entries = (stimulus inputs bytes true).entries in
     record {
@@ -253,7 +259,7 @@ put_all {W} r bytes f g h t u v w a b fresh same is took ends did none close =
     }
 
 -- the text for the whole lines among the bytes that came
-pub traced_so_far : {W : Type 0} (task : Task W) (f : Feeder) (t : LineTracing W) (source now : Past)
+pub traced_so_far : {W : Type 0} (task : Task W) (f : Feeder) (t : LineTracing W) (source now : History)
     (r : Reached say_line HasTraced (longest_entry (length task.circuit.inputs))
     (nothing_said task (length task.circuit.inputs)) source now f t)
     → t.waiting ≡ [] → IsTraced task.circuit task.columns r.bytes false task.from t.output f

@@ -1,6 +1,6 @@
 //! What takes the lines of a stimulus, and puts the text for them.
 ghost use Rattle.std.specs.Prelude.{◌≡◌, [], codes, if◌then◌else◌, is_err};
-ghost use Rattle.aig_io.specs.Output.{Put};
+ghost use Rattle.aig_io.specs.Output.{Appended};
 ghost use Rattle.aig_trace.specs.Parts.Taking.{tracing_in, waiting_in};
 ghost use Rattle.aig_trace.specs.Parts.Tracing.{Did};
 
@@ -54,7 +54,7 @@ impl<'a, W: Sink> LineTracer<'a, W> {
 
     /// Puts the line that ends the run that is going on, if it has a step.
     pub(crate) fn end_run(&mut self)
-        ensures { Put self.old.output self.new.output
+        ensures { Appended self.old.output self.new.output
             (if self.old.tracing.has_step then codes ".\n" else []) }
     {
         if self.taker.tracer().has_step() {
@@ -66,7 +66,7 @@ impl<'a, W: Sink> LineTracer<'a, W> {
     pub(crate) fn flush(&mut self) -> Result<(), DeviceFault>
         ensures same { self.new.tracing ≡ self.old.tracing }
         ensures waits { self.new.waiting ≡ self.old.waiting }
-        ensures put { Put self.old.output self.new.output [] }
+        ensures put { Appended self.old.output self.new.output [] }
         ensures empty { self.new.output.held ≡ [] }
         ensures reported { self.new.output.failed ≡ is_err result }
     {

@@ -1,16 +1,16 @@
 //! What takes the bytes of a stimulus.
-ghost use Rattle.std.specs.Prelude.{◌≡◌, IfErr, IfOk};
+ghost use Rattle.std.specs.Prelude.{◌≡◌, IfOk};
 ghost use Rattle.aig_meaning.specs.Meaning.{MeansTheSame};
-ghost use Rattle.aig_step.specs.declared.fault.SimFault.TheVariants.{OutOfMemory as IsOutOfMemory};
-ghost use Rattle.aig_trace.specs.Parts.Tracing.{IsFresh, PutText};
+ghost use Rattle.aig_trace.specs.Parts.Tracing.{AppendedText, IsFresh};
 
 use crate::line_tracer::LineTracer;
 use crate::taker::Taker;
 use crate::tracer::Tracer;
 use aig_checked::Checked;
+use aig_circuit::OutOfMemory;
 use aig_io::{Output, Sink};
 use aig_lines::LineFeeder;
-use aig_step::{Columns, Machine, SimFault};
+use aig_step::{Columns, Machine};
 use std::alloc::Global;
 use std::marker::Model;
 
@@ -36,11 +36,10 @@ impl Model for StimulusReader {
 
 impl StimulusReader {
     /// It stands before the first byte. All room that it needs is made here.
-    pub fn new(alloc: Global, checked: &Checked, columns: Columns) -> Result<Self, SimFault>
+    pub fn new(alloc: Global, checked: &Checked, columns: Columns) -> Result<Self, OutOfMemory>
         ensures same { IfOk result (λ r. MeansTheSame checked.now r.tracing.circuit) }
         ensures columns { IfOk result (λ r. r.tracing.columns ≡ columns) }
         ensures fresh { IfOk result (λ r. IsFresh r) }
-        ensures err { IfErr result (λ e. e ≡ IsOutOfMemory) }
     {
         let tracer = Tracer::new(alloc, checked, columns)?;
         let taker = Taker::new(alloc, checked, tracer)?;
@@ -70,9 +69,11 @@ impl StimulusReader {
 
     /// Puts the text for all lines of the bytes up to the first bad one, and ends the run that is
     /// going on then, if it has a step.
+    // Built into its callers, since it takes and returns an output, whose block is moved each time.
+    #[inline(always)]
     pub fn put_trace_text<'a, W: Sink>(self, output: Output<'a, W>, bytes: &[u8]) -> Output<'a, W>
         requires { IsFresh self }
-        ensures { PutText self.tracing bytes.now output.entry result }
+        ensures { AppendedText self.tracing bytes.now output.entry result }
     {
         // Not by `into_line_tracer`: the block of the output would then be moved twice more.
         let StimulusReader { mut feeder, taker } = self;

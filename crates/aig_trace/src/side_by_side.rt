@@ -4,7 +4,7 @@ ghost use Rattle.std.specs.Prelude.{◌≡◌, ◌<◌, ◌∷◌, [], IfOk, Non
 ghost use Rattle.std.specs.Prelude.{slice_index_or, true};
 ghost use Rattle.aig_step.specs.Parts.Lines.{line_size};
 ghost use Rattle.aig_step.specs.Stimulus.{Stop, entry_in};
-ghost use Rattle.aig_trace.specs.Parts.Tracing.{Did, HeardLine, MovedOn};
+ghost use Rattle.aig_trace.specs.Parts.Tracing.{AcceptedLine, Did, MovedOn};
 ghost use Rattle.aig_trace.specs.Parts.Waits.{HasRoomForLine, Serves, entries_of, entry_at};
 
 use crate::entry::is_vector;
@@ -163,7 +163,7 @@ impl SideBySide {
     /// is no room for it, the text for those before it is put first.
     pub(crate) fn take_line<W: Sink>(&mut self, output: &mut Output<W>, text: &[u8]) -> bool
         ensures good { result ≡ true
-            → HeardLine (lines_in self.old output.old) (lines_in self.new output.new) text.now }
+            → AcceptedLine (lines_in self.old output.old) (lines_in self.new output.new) text.now }
         ensures bad { result ≡ false
             → entry_in (length self.old.tracer.circuit.inputs) text.now ≡ None }
         ensures stays { result ≡ false → (output.new ≡ output.old) × (self.new ≡ self.old) }

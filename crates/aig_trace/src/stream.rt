@@ -1,10 +1,9 @@
 //! A circuit over a stimulus text.
 ghost use Rattle.std.specs.Prelude.{◌≡◌, ◌+◌, ◌-◌, ◌^◌, ◌<◌, ◌≤◌, [], ℕ, List};
 ghost use Rattle.std.specs.Prelude.{false, length, not, true};
-ghost use Rattle.aig_io.specs.Devices.{CanFail};
-ghost use Rattle.aig_io.specs.Runs.{Ran};
-ghost use Rattle.aig_lines.specs.Fed.{IsFed, IsUnfed};
-ghost use Rattle.aig_lines.specs.Feeding.{Feeding, fed};
+ghost use Rattle.aig_io.specs.Runs.{Transferred};
+ghost use Rattle.aig_lines.specs.Feeders.{HasFoldedBytes, IsInitial};
+ghost use Rattle.aig_lines.specs.Feeding.{Feeding, fold_bytes};
 ghost use Rattle.aig_step.specs.Outcome.{TraceSays};
 ghost use Rattle.aig_trace.specs.Parts.Progress.{begin_of};
 ghost use Rattle.aig_trace.specs.Parts.Saying.{Saying, before_lines, longest_entry, say_line};
@@ -14,21 +13,22 @@ ghost use Rattle.aig_trace.specs.Parts.Tracing.{HasTraced, Task, point_of};
 use crate::line_tracer::LineTracer;
 use crate::reader::StimulusReader;
 use aig_checked::Checked;
+use aig_fault::{Kind, Stopped, refused_at};
 use aig_io::{Output, ROOM, Sink, Source};
 use aig_lines::LineFeeder;
-use aig_step::{Columns, SimFault};
+use aig_step::Columns;
 use std::alloc::Global;
 
 /// How lines end that were taken: the text for them was not sent, or the line of this number is
 /// bad, or neither.
-fn outcome_of_lines(failed: bool, good: bool, number: u64) -> Result<(), SimFault>
+fn outcome_of_lines(failed: bool, good: bool, number: u64) -> Result<(), Stopped>
     ensures { result ≡ ended_so failed good number }
 {
     if failed {
-        return Err(SimFault::WriteFailed);
+        return Err(Stopped::WriteFailed);
     }
     if !good {
-        return Err(SimFault::BadStimulus(number));
+        return Err(refused_at(Kind::BadStimulus, number));
     }
     Ok(())
 }
@@ -38,10 +38,11 @@ fn trace_chunk<W: Sink>(
     feeder: &mut LineFeeder,
     lines: &mut LineTracer<W>,
     chunk: &[u8],
-) -> Result<(), SimFault>
+) -> Result<(), Stopped>
     requires { feeder.old.number + length chunk.now < 2 ^ 64 }
-    ensures fed { (at : Feeding (Saying (Task W))) → IsFed HasTraced feeder.old lines.old at
-        → IsFed HasTraced feeder.new lines.new (fed say_line at chunk.now) }
+    ensures folded { (at : Feeding (Saying (Task W)))
+        → HasFoldedBytes HasTraced feeder.old lines.old at
+        → HasFoldedBytes HasTraced feeder.new lines.new (fold_bytes say_line at chunk.now) }
     ensures number { feeder.new.number ≤ feeder.old.number + length chunk.now }
     ensures settled { lines.new.waiting ≡ [] }
     ensures empty { lines.new.output.held ≡ [] }
@@ -55,10 +56,11 @@ fn trace_chunk<W: Sink>(
 }
 
 /// Takes the end of the bytes, and sends the text for it.
-fn trace_end<W: Sink>(feeder: &mut LineFeeder, lines: &mut LineTracer<W>) -> Result<(), SimFault>
+fn trace_end<W: Sink>(feeder: &mut LineFeeder, lines: &mut LineTracer<W>) -> Result<(), Stopped>
     requires { feeder.old.number < 2 ^ 64 - 1 }
-    ensures traced { (task : Task W) (bytes : List ℕ) → IsFed HasTraced feeder.old lines.old
-        (fed say_line (before_lines task (length task.circuit.inputs)) bytes)
+    ensures traced { (task : Task W) (bytes : List ℕ)
+        → HasFoldedBytes HasTraced feeder.old lines.old
+        (fold_bytes say_line (before_lines task (length task.circuit.inputs)) bytes)
         → IsTraced task.circuit task.columns bytes true task.from lines.new.output feeder.new }
     ensures empty { lines.new.output.held ≡ [] }
     ensures ended { result
@@ -79,21 +81,20 @@ fn trace_all<R: Source, W: Sink>(
     lines: &mut LineTracer<W>,
     block: &mut [u8],
     source: &mut R,
-) -> Result<(), SimFault>
-    requires unfed { IsUnfed feeder.old }
+) -> Result<(), Stopped>
+    requires initial { IsInitial feeder.old }
     requires limit { feeder.old.limit ≡ longest_entry (length lines.old.tracing.circuit.inputs) }
     requires begun { point_of lines.old.tracing ≡ begin_of lines.old.tracing.circuit }
     requires settled { lines.old.waiting ≡ [] }
     requires room { 0 < length block.old }
     requires empty { lines.old.output.held ≡ [] }
     requires fine { lines.old.output.failed ≡ false }
-    requires source { CanFail (R.past source.old) }
     ensures { StreamEnds lines.old.tracing.circuit lines.old.tracing.columns result
-        (R.past source.old) (R.past source.new) lines.old.output lines.new.output }
+        (R.history source.old) (R.history source.new) lines.old.output lines.new.output }
 {
     loop {
         let Ok(count) = source.fetch(block) else {
-            return Err(SimFault::ReadFailed);
+            return Err(Stopped::ReadFailed);
         };
         if count == 0 {
             return trace_end(feeder, lines);
@@ -127,19 +128,14 @@ pub fn simulate<R: Source, W: Sink>(
     columns: Columns,
     source: &mut R,
     sink: &mut W,
-) -> Result<(), SimFault>
-    requires source { CanFail (R.past source.old) }
-    requires sink { CanFail (W.past sink.old) }
-    ensures ran { Ran (TraceSays checked.now columns result)
-        (R.past source.old) (R.past source.new) (W.past sink.old) (W.past sink.new) }
+) -> Result<(), Stopped>
+    ensures transferred { Transferred (TraceSays checked.now columns result)
+        (R.history source.old) (R.history source.new) (W.history sink.old) (W.history sink.new) }
 {
     let mut block = vec![in alloc; 0; block_room(checked)]?;
-    let reader = match StimulusReader::new(alloc, checked, columns) {
-        Ok(reader) => reader,
-        Err(fault) => {
-            drop(block); // for the proof
-            return Err(fault);
-        }
+    let Ok(reader) = StimulusReader::new(alloc, checked, columns) else {
+        drop(block); // for the proof
+        return Err(Stopped::OutOfMemory);
     };
     let (mut feeder, mut lines) = reader.into_line_tracer(Output::new(sink));
     let traced = trace_all(&mut feeder, &mut lines, &mut block, source);

@@ -1,17 +1,17 @@
 //! Lines of a stimulus, and the lines of the trace for them.
-ghost use Rattle.std.specs.Prelude.{◌≡◌, ◌+◌, IfErr, IfOk, None, codes, false, length, true};
+ghost use Rattle.std.specs.Prelude.{◌≡◌, ◌+◌, IfOk, None, codes, false, length, true};
 ghost use Rattle.aig_circuit.specs.Wellformed.{IsWellFormed};
-ghost use Rattle.aig_io.specs.Output.{Put};
+ghost use Rattle.aig_io.specs.Output.{Appended};
 ghost use Rattle.aig_meaning.specs.Meaning.{MeansTheSame};
-ghost use Rattle.aig_step.specs.declared.fault.SimFault.TheVariants.{OutOfMemory as IsOutOfMemory};
 ghost use Rattle.aig_step.specs.Stimulus.{entry_in};
 ghost use Rattle.aig_step.specs.Parts.Lines.{line_size, vector_in};
 ghost use Rattle.aig_trace.specs.Parts.Progress.{begin_of};
 ghost use Rattle.aig_trace.specs.Parts.Tracing.{IsSameTracer, TookLine, TookStep, point_of};
 
 use aig_checked::Checked;
+use aig_circuit::OutOfMemory;
 use aig_io::{Output, Sink};
-use aig_step::{Columns, Machine, RowLine, SimFault, Stepper, is_stop};
+use aig_step::{Columns, Machine, RowLine, Stepper, is_stop};
 use std::alloc::Global;
 use std::marker::Model;
 
@@ -59,11 +59,14 @@ pub fn line_room(checked: &Checked) -> usize
 
 impl Tracer {
     /// It stands before the first line. All room that it needs is made here.
-    pub(crate) fn new(alloc: Global, checked: &Checked, columns: Columns) -> Result<Self, SimFault>
+    pub(crate) fn new(
+        alloc: Global,
+        checked: &Checked,
+        columns: Columns,
+    ) -> Result<Self, OutOfMemory>
         ensures same { IfOk result (λ t. MeansTheSame checked.now t.circuit) }
         ensures columns { IfOk result (λ t. t.columns ≡ columns) }
         ensures begun { IfOk result (λ t. point_of t ≡ begin_of t.circuit) }
-        ensures err { IfErr result (λ e. e ≡ IsOutOfMemory) }
     {
         let line = vec![in alloc; 0; line_room(checked)]?;
         Ok(Tracer {
@@ -138,7 +141,7 @@ impl Tracer {
     /// Ends the run.
     pub(crate) fn stop<W: Sink>(&mut self, output: &mut Output<W>)
         ensures point { point_of self.new ≡ begin_of self.old.circuit }
-        ensures put { Put output.old output.new (codes ".\n") }
+        ensures put { Appended output.old output.new (codes ".\n") }
         ensures same { IsSameTracer self.old self.new }
     {
         self.stepper.reset();

@@ -31,7 +31,7 @@ fn overwrite(texts: &mut [u8], at: usize, text: &[u8])
 #[derive(Drop)]
 pub(crate) struct Waiting {
     inputs: usize,
-    /// The characters of the steps, one behind the other.
+    /// The characters of the steps, one after the other.
     texts: Vec<u8>,
     /// How many steps there are.
     steps: usize,

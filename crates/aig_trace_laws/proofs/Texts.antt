@@ -148,7 +148,7 @@ values_stay [] (w ∷ ws) are = absurd are
 values_stay (v ∷ vs) [] are = absurd are
 values_stay (v ∷ vs) (w ∷ ws) are = (character_stays v w are.0, values_stay vs ws are.1)
 
--- behind a space
+-- after a space
 spaced : (ts us : List ℕ) → AllKeep ts us → AllKeep (codes " " ++ ts) (codes " " ++ us)
 spaced ts us are = ((λ _. refl), are)
 
@@ -161,7 +161,7 @@ properties_stay Properties row other stays =
     (spaced (values_text row.constraints) (values_text other.constraints)
     (values_stay row.constraints other.constraints stays.constraints)))
 
--- values with more behind them
+-- values with more after them
 then_values : (vs ws : List Val) (ts us : List ℕ) → AllZip Stays vs ws → AllKeep ts us
     → AllKeep (values_text vs ++ ts) (values_text ws ++ us)
 then_values vs ws ts us are more = joined (values_text vs) (values_text ws) ts us (values_stay vs ws are) more

@@ -20,10 +20,10 @@ use Rattle.aig_circuit.specs.Wellformed.{IsKnown, IsWellFormed, defined_variable
 use Rattle.aig_circuit.proofs.Checking.{all_weaker, known_in_range}
 use Rattle.aig_checked.specs.BinaryOrder.{AreOrderedGates, IsInBinaryOrder}
 use Rattle.aig_meaning.proofs.Related.{AreDefined, known_next, known_outputs, known_bad, known_constraints}
-use Rattle.aig_unroll.specs.Parts.Standing.{stood, with_sign, GateHasRoom, FitsLiteral}
+use Rattle.aig_unroll.specs.Parts.Substitution.{substituted, with_sign, GateHasRoom, FitsLiteral}
 use Rattle.aig_unroll.specs.Unrolled.{IsTooLarge, all_inputs, at, first_gate, first_input, frame_size, latches_at}
 use Rattle.aig_unroll.specs.Unrolled.{chain_at, chain_behind, first_constraint, first_latches, next_of, resets_of}
-use Rattle.aig_unroll.specs.Unrolled.{standing_for, uninitialised}
+use Rattle.aig_unroll.specs.Unrolled.{substitute_for, uninitialised}
 use Rattle.aig_unroll.specs.Parts.Frames.{IsFrame, table, table_at}
 use Rattle.aig_unroll.proofs.Ordering.Frames.{latches_length, row_end}
 
@@ -50,10 +50,11 @@ sign_carried literal stands =
     ]
 
 -- what is looked up in the table stands for the literal
-pub looked_up : (standing : List ℕ) (first literal variable stands : ℕ) → variable ≡ variable_of literal
-    → variable < length standing → stands ≡ get_or standing variable stands
-    → bit_xor stands (bit_and literal 1) ≡ stood standing first literal
-looked_up standing first literal variable stands same below is = search (rules, get_or_default, sign_carried, lt-ltb)
+pub looked_up : (substitution : List ℕ) (first literal variable stands : ℕ) → variable ≡ variable_of literal
+    → variable < length substitution → stands ≡ get_or substitution variable stands
+    → bit_xor stands (bit_and literal 1) ≡ substituted substitution first literal
+looked_up substitution first literal variable stands same below is =
+    search (rules, get_or_default, sign_carried, lt-ltb)
 
 -- A frame: by its table stands what stands in the frame, and there is room for it.
 table_length : (first inputs : ℕ) (latches : List ℕ)
@@ -73,7 +74,7 @@ module _ (c : Circuit) (frames t : ℕ) (latches : List ℕ) (all : length latch
 
   -- the table has what stands for a variable up to the last latch
   in_table : (v : ℕ) → v < 1 + n + m
-      → get_or (table (first_input c t) n latches) v 0 ≡ standing_for c frames t latches v
+      → get_or (table (first_input c t) n latches) v 0 ≡ substitute_for c frames t latches v
   in_table zero below = refl
   in_table (suc w) below =
       search (
@@ -90,25 +91,25 @@ module _ (c : Circuit) (frames t : ℕ) (latches : List ℕ) (all : length latch
 
   -- and a gate's variable is one of the frame
   behind_table : (v : ℕ) → 1 + n + m ≤ v
-      → standing_for c frames t latches v ≡ literal_of (first_gate c frames t + (v - 1 - n - m))
+      → substitute_for c frames t latches v ≡ literal_of (first_gate c frames t + (v - 1 - n - m))
   behind_table zero behind = absurd (omega (arith, behind))
   behind_table (suc w) behind =
       rw (eqb-suc-zero w, lt-leb (suc w) n (omega arith), lt-leb (suc w) (n + m) (omega arith)) refl
 
-  stands_as : (literal : ℕ) → stood (table (first_input c t) n latches) (first_gate c frames t) literal
-      ≡ with_sign literal (standing_for c frames t latches (variable_of literal))
+  stands_as : (literal : ℕ) → substituted (table (first_input c t) n latches) (first_gate c frames t) literal
+      ≡ with_sign literal (substitute_for c frames t latches (variable_of literal))
   stands_as literal = search (rules, table_length, cases_lt, lt-ltb, in_table, le-ltb, behind_table)
 
 -- by the table of a frame stands what stands in the frame
 stands_in_frame : (c : Circuit) (frames t literal : ℕ)
-    → stood (table_at c frames t) (first_gate c frames t) literal ≡ at c frames t literal
+    → substituted (table_at c frames t) (first_gate c frames t) literal ≡ at c frames t literal
 stands_in_frame c frames t literal = stands_as c frames t (latches_at c frames t) (latches_length c frames t) literal
 
 -- the table's literals are those of the frame
-pub stands_at : (c : Circuit) (frames t gate : ℕ) (standing : List ℕ) → gate ≡ first_gate c frames t
-    → standing ≡ table_at c frames t → stood standing gate ≡ at c frames t
-stands_at c frames t gate standing gate_is standing_is =
-    ap₂ stood standing_is gate_is ∙ fun_ext (stands_in_frame c frames t)
+pub stands_at : (c : Circuit) (frames t gate : ℕ) (substitution : List ℕ) → gate ≡ first_gate c frames t
+    → substitution ≡ table_at c frames t → substituted substitution gate ≡ at c frames t
+stands_at c frames t gate substitution gate_is substitution_is =
+    ap₂ substituted substitution_is gate_is ∙ fun_ext (stands_in_frame c frames t)
 
 -- what holds of each next literal
 next_places : (P : ℕ → Type 0) (latches : List Latch) → AllByRecursion P (map (λ (l : Latch). l.next) latches)
@@ -178,7 +179,7 @@ module _ (c : Circuit) (frames t : ℕ) (formed : IsWellFormed c) (ordered : IsI
       gate_places (1 + length c.inputs + length c.latches) (1 + length c.inputs + length c.latches + length c.gates)
       places here c.gates (omega arith) (omega (arith, places_are, gates_fit)) ordered.gates
 
--- the chain behind some constraints is the last one's gate
+-- the chain after some constraints is the last one's gate
 chain_end : (v chain x : ℕ) (xs : List ℕ) → chain_behind v chain (x ∷ xs) ≡ literal_of (v + length xs)
 chain_end v chain x [] = omega arith
 chain_end v chain x (y ∷ ys) = chain_end (v + 1) (literal_of v) y ys ∙ omega arith
@@ -203,15 +204,15 @@ pub chain_before : (c : Circuit) (frames t : ℕ) → 0 < t → 0 < length c.con
 chain_before c frames zero later some = absurd (omega (arith, later))
 chain_before c frames (suc t) later some = search (rules, suc-mul, chain_last)
 
--- The next frame: its inputs and gates are behind those of this one, and its latches have what stands for their next
+-- The next frame: its inputs and gates are after those of this one, and its latches have what stands for their next
 -- literals in this one.
-module _ (c : Circuit) (frames t input gate : ℕ) (standing next : List ℕ)
-    (is : IsFrame c frames t input gate standing next) (more : t + 1 < frames) (latches : List ℕ)
-    (are : latches ≡ map (stood standing gate) (next_of c)) where
+module _ (c : Circuit) (frames t input gate : ℕ) (substitution next : List ℕ)
+    (is : IsFrame c frames t input gate substitution next) (more : t + 1 < frames) (latches : List ℕ)
+    (are : latches ≡ map (substituted substitution gate) (next_of c)) where
   new_latches : latches ≡ latches_at c frames (t + 1)
   new_latches =
       let behind : suc t ≡ t + 1 = omega arith in
-      are ∙ ap (λ f. map f (next_of c)) (stands_at c frames t gate standing is.gate_is is.standing_is)
+      are ∙ ap (λ f. map f (next_of c)) (stands_at c frames t gate substitution is.gate_is is.substitution_is)
       ∙ ap (latches_at c frames) behind
 
   new_input : input + length c.inputs ≡ first_input c (t + 1)
@@ -222,10 +223,11 @@ module _ (c : Circuit) (frames t input gate : ℕ) (standing next : List ℕ)
   next_frame = search (rules, add-one, suc-mul, new_input, new_latches, latches_length)
 
 -- frame 0
-pub first_frame : (c : Circuit) (frames input gate : ℕ) (standing next : List ℕ) → IsWellFormed c → IsInBinaryOrder c
+pub first_frame : (c : Circuit) (frames input gate : ℕ) (substitution next : List ℕ) → IsWellFormed c
+    → IsInBinaryOrder c
     → ¬ IsTooLarge c frames → 1 ≤ frames → input ≡ 1 + uninitialised (resets_of c)
     → gate ≡ input + frames * length c.inputs
-    → standing ≡ table input (length c.inputs) (first_latches 1 (resets_of c)) → length next ≡ length c.latches
-    → IsFrame c frames 0 input gate standing next
-first_frame c frames input gate standing next formed ordered fits some input_is gate_is standing_is next_room =
+    → substitution ≡ table input (length c.inputs) (first_latches 1 (resets_of c)) → length next ≡ length c.latches
+    → IsFrame c frames 0 input gate substitution next
+first_frame c frames input gate substitution next formed ordered fits some input_is gate_is substitution_is next_room =
     search rules

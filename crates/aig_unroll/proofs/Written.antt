@@ -10,7 +10,7 @@ use Rattle.aig_checked.specs.BinaryOrder.{IsInBinaryOrder}
 use Rattle.aig_circuit.specs.Wellformed.{IsWellFormed}
 use Rattle.aig_circuit.specs.declared.circuit.Gate.{Gate}
 use Rattle.aig_checked.proofs.Numbered.{range_more}
-use Rattle.aig_io.specs.Output.{Out, Put}
+use Rattle.aig_io.specs.Output.{Appended, Out}
 use Rattle.aig_io.proofs.Puts.{put_twice}
 use Rattle.aig_text.specs.AsciiText.{ascii_text, header_text, line_text}
 use Rattle.aig_text.specs.Sections.{ascii_word, header_row, literal_rows_of, rows_of}
@@ -28,34 +28,35 @@ module _ {W : Type 0} where
   -- the texts of so many frames, and that of the next one
   pub frame_more : {X : Type 0} (f : Circuit → ℕ → ℕ → List X) (text : X → List ℕ) (copies now : Frame) (t : ℕ)
       (a b c : Out W) → now ≡ record copies { frame = now.frame }
-      → Put a b (flat_map text (flat_map (f copies.circuit copies.frames) (range_with_len 0 t)))
-      → Put b c (flat_map text (f now.circuit now.frames t))
-      → Put a c (flat_map text (flat_map (f copies.circuit copies.frames) (range_with_len 0 (t + 1))))
+      → Appended a b (flat_map text (flat_map (f copies.circuit copies.frames) (range_with_len 0 t)))
+      → Appended b c (flat_map text (f now.circuit now.frames t))
+      → Appended a c (flat_map text (flat_map (f copies.circuit copies.frames) (range_with_len 0 (t + 1))))
   frame_more {X} f text copies now t a b c kept p q =
       let items : ℕ → List X = f copies.circuit copies.frames in
       let before = flat_map items (range_with_len 0 t) in
-      subst (λ (whole : List ℕ). Put a c whole)
+      subst (λ (whole : List ℕ). Appended a c whole)
       (sym (ap (flat_map text) (one_row_more items t) ∙ flat_map-append text before (items t)))
       (put_twice a b c (flat_map text before) (flat_map text (items t)) p
-      (subst (λ (xs : List X). Put b c (flat_map text xs)) (ap (λ (k : Frame). f k.circuit k.frames t) kept) q))
+      (subst (λ (xs : List X). Appended b c (flat_map text xs)) (ap (λ (k : Frame). f k.circuit k.frames t) kept) q))
 
   -- the texts of some items, and those of the next ones
   pub piece_more : {X : Type 0} (text : X → List ℕ) (xs : List X) (at count : ℕ) (a b c : Out W)
-      → Put a b (flat_map text (take at xs)) → Put b c (flat_map text (take count (drop at xs)))
-      → Put a c (flat_map text (take (at + count) xs))
+      → Appended a b (flat_map text (take at xs)) → Appended b c (flat_map text (take count (drop at xs)))
+      → Appended a c (flat_map text (take (at + count) xs))
   piece_more text xs at count a b c p q = search (rules, take-add, flat_map-append, put_twice)
 
   -- the texts of the first items, and those of all others
   pub rest_more : {X : Type 0} (text : X → List ℕ) (xs : List X) (at : ℕ) (a b c : Out W)
-      → Put a b (flat_map text (take at xs)) → Put b c (flat_map text (drop at xs)) → Put a c (flat_map text xs)
+      → Appended a b (flat_map text (take at xs)) → Appended b c (flat_map text (drop at xs))
+      → Appended a c (flat_map text xs)
   rest_more text xs at a b c p q =
-      subst (λ t. Put a c t) (sym (flat_map-append text (take at xs) (drop at xs))
+      subst (λ t. Appended a c t) (sym (flat_map-append text (take at xs) (drop at xs))
       ∙ ap (flat_map text) (take-append-drop at xs)) (put_twice a b c _ _ p q)
 
   -- the texts of so many variables, and that of the next one
   pub variable_more : (text : ℕ → List ℕ) (first n : ℕ) (a b c : Out W)
-      → Put a b (flat_map text (range_with_len first n)) → Put b c (text (first + n))
-      → Put a c (flat_map text (range_with_len first (n + 1)))
+      → Appended a b (flat_map text (range_with_len first n)) → Appended b c (text (first + n))
+      → Appended a c (flat_map text (range_with_len first (n + 1)))
   variable_more text first n a b c p q = search (rules, range_more, flat_map-append, append-nil, put_twice)
 
 -- where no frame has anything, all together have nothing

@@ -2,5 +2,4 @@ pub mod Unrolled
 pub mod SideBySide
 pub mod Laws
 pub mod Outcome
-pub mod Messages
 pub mod Parts

@@ -1,3 +1,3 @@
-pub mod Standing
+pub mod Substitution
 pub mod Frames
 pub mod Writing

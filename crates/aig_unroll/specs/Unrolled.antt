@@ -56,8 +56,8 @@ first_bad c frames t = first_constraint c frames t + length c.constraints
 
 -- The literal that stands for a variable in frame t, where these stand for the latches: the constant stays, an input
 -- and a gate have a variable of their own in each frame.
-abbrev pub standing_for : Circuit → ℕ → ℕ → List ℕ → ℕ → ℕ
-standing_for c frames t latches v =
+abbrev pub substitute_for : Circuit → ℕ → ℕ → List ℕ → ℕ → ℕ
+substitute_for c frames t latches v =
     if v == 0 then 0
     else if nat_le v (length c.inputs) then literal_of (first_input c t + (v - 1))
     else if nat_le v (length c.inputs + length c.latches) then slice_index_or latches (v - 1 - length c.inputs) 0
@@ -66,10 +66,10 @@ standing_for c frames t latches v =
 -- the same for a literal, whose sign carries over
 abbrev pub literal_in : Circuit → ℕ → ℕ → List ℕ → ℕ → ℕ
 literal_in c frames t latches literal =
-    if literal % 2 == 0 then standing_for c frames t latches (variable_of literal)
-    else negation_of (standing_for c frames t latches (variable_of literal))
+    if literal % 2 == 0 then substitute_for c frames t latches (variable_of literal)
+    else negation_of (substitute_for c frames t latches (variable_of literal))
 
--- the literals of latches in frame t: behind frame 0 those of their next literals in the frame before
+-- the literals of latches in frame t: after frame 0 those of their next literals in the frame before
 abbrev pub latches_at : Circuit → ℕ → ℕ → List ℕ
 latches_at c frames zero = first_latches 1 (resets_of c)
 latches_at c frames (suc t) = map (literal_in c frames t (latches_at c frames t)) (next_of c)
@@ -92,7 +92,7 @@ abbrev pub chained : ℕ → ℕ → List ℕ → List Gate
 chained v chain [] = []
 chained v chain (x ∷ xs) = gate_of v chain x ∷ chained (v + 1) (literal_of v) xs
 
--- the chain behind these constraints
+-- the chain after these constraints
 abbrev pub chain_behind : ℕ → ℕ → List ℕ → ℕ
 chain_behind v chain [] = chain
 chain_behind v chain (x ∷ xs) = chain_behind (v + 1) (literal_of v) xs

@@ -12,9 +12,9 @@ ghost use Rattle.aig_unroll.specs.Unrolled.{IsTooLarge, all_inputs, bad_at};
 ghost use Rattle.aig_unroll.specs.Unrolled.{chain_at, first_latches, frame_size};
 ghost use Rattle.aig_unroll.specs.Unrolled.{gates_at, outputs_at, resets_of, uninitialised};
 ghost use Rattle.aig_unroll.specs.Parts.Frames.{behind_by, table};
-ghost use Rattle.aig_unroll.specs.Parts.Standing.{GateHasRoom, FitsLiteral, stood};
+ghost use Rattle.aig_unroll.specs.Parts.Substitution.{GateHasRoom, FitsLiteral, substituted};
 
-use crate::standing::{
+use crate::substitution::{
     put_chain, put_copies, put_first_latches, put_guards, put_literals, put_nexts, put_numbered,
 };
 use aig_core::{Circuit, Gate, Latch, Lit, Ordered, OutOfMemory, Reset};
@@ -33,7 +33,7 @@ pub(crate) struct Frames {
     /// The first variable of the frame's gates.
     first_gate: u32,
     /// What stands for the constant, the inputs and the latches.
-    standing: Vec<Lit>,
+    substitution: Vec<Lit>,
     /// Room for what stands for the latches in the next frame.
     next: Vec<Lit>,
 }
@@ -46,7 +46,7 @@ impl Model for Frames {
     ghost view = { λ f. record { circuit = f.circuit; frames = f.frames; frame = f.frame } };
 
     ghost invariant = { λ f. IsFrame f.circuit f.frames f.frame f.first_input f.first_gate
-        f.standing.items f.next.items };
+        f.substitution.items f.next.items };
 }
 
 pub(crate) fn count_uninitialised(latches: &[Latch]) -> usize
@@ -71,20 +71,20 @@ pub(crate) fn gates_of_frame(circuit: &Circuit) -> usize
 }
 
 /// Makes the table of frame 0 of one with as many places.
-fn put_standing(first_input: u32, inputs: usize, latches: &[Latch], standing: &mut [Lit])
-    requires room { length standing.old ≡ 1 + inputs + length latches.now }
+fn put_substitution(first_input: u32, inputs: usize, latches: &[Latch], substitution: &mut [Lit])
+    requires room { length substitution.old ≡ 1 + inputs + length latches.now }
     requires inputs { first_input + inputs ≤ LARGEST + 1 }
     requires latches { length latches.now ≤ LARGEST }
-    requires constant { standing.old ≡ 0 ∷ drop 1 standing.old }
-    ensures { standing.new
+    requires constant { substitution.old ≡ 0 ∷ drop 1 substitution.old }
+    ensures { substitution.new
         ≡ table first_input inputs (first_latches 1
         (map (λ (l : LatchRecord). l.reset) latches.now)) }
 {
-    put_numbered(first_input, &mut standing[1..1 + inputs]);
-    put_first_latches(latches, &mut standing[1 + inputs..]);
+    put_numbered(first_input, &mut substitution[1..1 + inputs]);
+    put_first_latches(latches, &mut substitution[1 + inputs..]);
 }
 
-fn first_standing(
+fn first_substitution(
     alloc: Global,
     first_input: u32,
     inputs: usize,
@@ -92,13 +92,13 @@ fn first_standing(
 ) -> Result<Vec<Lit>, AllocError>
     requires inputs { first_input + inputs ≤ LARGEST + 1 }
     requires latches { length latches.now ≤ LARGEST }
-    ensures { IfOk result (λ standing. standing.items
+    ensures { IfOk result (λ substitution. substitution.items
         ≡ table first_input inputs (first_latches 1
         (map (λ (l : LatchRecord). l.reset) latches.now))) }
 {
-    let mut standing = vec![in alloc; Lit(0); 1 + inputs + latches.len()]?;
-    put_standing(first_input, inputs, latches, &mut standing);
-    Ok(standing)
+    let mut substitution = vec![in alloc; Lit(0); 1 + inputs + latches.len()]?;
+    put_substitution(first_input, inputs, latches, &mut substitution);
+    Ok(substitution)
 }
 
 fn make_tables(
@@ -108,38 +108,39 @@ fn make_tables(
 ) -> Result<(Vec<Lit>, Vec<Lit>), OutOfMemory>
     requires inputs { first_input + length circuit.now.inputs ≤ LARGEST + 1 }
     requires latches { length circuit.now.latches ≤ LARGEST }
-    ensures standing { IfOk result (λ tables. tables.0.items
+    ensures substitution { IfOk result (λ tables. tables.0.items
         ≡ table first_input (length circuit.now.inputs)
         (first_latches 1 (map (λ (l : LatchRecord). l.reset) circuit.now.latches))) }
     ensures next { IfOk result (λ tables. length tables.1.items ≡ length circuit.now.latches) }
 {
     let latches = circuit.latches.as_slice();
-    let standing = first_standing(alloc, first_input, circuit.inputs.len(), latches)?;
+    let substitution = first_substitution(alloc, first_input, circuit.inputs.len(), latches)?;
     let next = vec![in alloc; Lit(0); latches.len()]?;
-    Ok((standing, next))
+    Ok((substitution, next))
 }
 
 /// Changes a table: its inputs are the variables from this one on, and this stands for the latches.
-fn change_standing(first_input: u32, next: &[Lit], standing: &mut [Lit])
-    requires room { 1 + length next.now ≤ length standing.old }
-    requires inputs { first_input + length standing.old ≤ LARGEST + 2 + length next.now }
-    requires constant { standing.old ≡ 0 ∷ drop 1 standing.old }
-    ensures { standing.new ≡ table first_input
-        (length standing.old - 1 - length next.now) next.now }
+fn change_substitution(first_input: u32, next: &[Lit], substitution: &mut [Lit])
+    requires room { 1 + length next.now ≤ length substitution.old }
+    requires inputs { first_input + length substitution.old ≤ LARGEST + 2 + length next.now }
+    requires constant { substitution.old ≡ 0 ∷ drop 1 substitution.old }
+    ensures { substitution.new ≡ table first_input
+        (length substitution.old - 1 - length next.now) next.now }
 {
-    let inputs = standing.len() - 1 - next.len();
-    put_numbered(first_input, &mut standing[1..1 + inputs]);
-    standing[1 + inputs..].copy_from_slice(next);
+    let inputs = substitution.len() - 1 - next.len();
+    put_numbered(first_input, &mut substitution[1..1 + inputs]);
+    substitution[1 + inputs..].copy_from_slice(next);
 }
 
-/// Puts the chain of a circuit's constraints behind this one, and the gates of its bad states, by
-/// what stands for their literals where the circuit's gates have the variables from this one on.
-fn put_behind(standing: &[Lit], first: u32, chain: Lit, circuit: &Circuit, out: &mut [Gate])
+/// Appends the frame's constraint chain and bad-state gates. The chain goes on from `chain`, and
+/// the gates of the circuit have the variables from `first` on.
+fn put_behind(substitution: &[Lit], first: u32, chain: Lit, circuit: &Circuit, out: &mut [Gate])
     requires room { length out.old ≡ length circuit.now.constraints + length circuit.now.bad }
-    requires constraints { All (FitsLiteral (length standing.now) first) circuit.now.constraints }
-    requires bad { All (FitsLiteral (length standing.now) first) circuit.now.bad }
+    requires constraints { All (FitsLiteral (length substitution.now) first)
+        circuit.now.constraints }
+    requires bad { All (FitsLiteral (length substitution.now) first) circuit.now.bad }
     requires small { first + frame_size circuit.now ≤ LARGEST + 1 }
-    ensures { out.new ≡ behind_by (stood standing.now first) first chain circuit.now }
+    ensures { out.new ≡ behind_by (substituted substitution.now first) first chain circuit.now }
 {
     let constraints = circuit.constraints.as_slice();
     let bad = circuit.bad.as_slice();
@@ -147,14 +148,14 @@ fn put_behind(standing: &[Lit], first: u32, chain: Lit, circuit: &Circuit, out: 
     let second = first + circuit.gates.len() as u32;
     let third = second + count as u32;
     let behind = put_chain(
-        standing,
+        substitution,
         first,
         second,
         chain,
         constraints,
         &mut out[..count],
     );
-    put_guards(standing, first, third, behind, bad, &mut out[count..]);
+    put_guards(substitution, first, third, behind, bad, &mut out[count..]);
 }
 
 impl Frames {
@@ -169,13 +170,13 @@ impl Frames {
         let first_input = 1 + uninitialised;
         let first_gate = first_input + frames * inputs as u32;
         match make_tables(alloc, first_input, &circuit) {
-            Ok((standing, next)) => Ok(Frames {
+            Ok((substitution, next)) => Ok(Frames {
                 circuit,
                 frames,
                 frame: 0,
                 first_input,
                 first_gate,
-                standing,
+                substitution,
                 next,
             }),
             Err(refused) => {
@@ -237,9 +238,9 @@ impl Frames {
         requires { length out.old ≡ length self.now.circuit.outputs }
         ensures { out.new ≡ outputs_at self.now.circuit self.now.frames self.now.frame }
     {
-        let standing = self.standing.as_slice();
+        let substitution = self.substitution.as_slice();
         put_literals(
-            standing,
+            substitution,
             self.first_gate,
             self.circuit.outputs.as_slice(),
             out,
@@ -262,21 +263,27 @@ impl Frames {
             (gates_at self.now.circuit self.now.frames self.now.frame)) }
         ensures deltas { All HasDeltas out.new }
     {
-        let standing = self.standing.as_slice();
+        let substitution = self.substitution.as_slice();
         let first = self.first_gate + at as u32;
         let gates = &self.circuit.gates.as_slice()[at..at + out.len()];
-        put_copies(standing, self.first_gate, first, gates, out);
+        put_copies(substitution, self.first_gate, first, gates, out);
     }
 
-    /// Puts the gates of constraints and of bad states in the frame, which are behind the copies.
+    /// Puts the gates of constraints and of bad states in the frame, which are after the copies.
     fn put_behind(&self, out: &mut [Gate])
         requires { length out.old
             ≡ length self.now.circuit.constraints + length self.now.circuit.bad }
         ensures { out.new ≡ drop (length self.now.circuit.gates)
             (gates_at self.now.circuit self.now.frames self.now.frame) }
     {
-        let standing = self.standing.as_slice();
-        put_behind(standing, self.first_gate, self.chain(), &self.circuit, out);
+        let substitution = self.substitution.as_slice();
+        put_behind(
+            substitution,
+            self.first_gate,
+            self.chain(),
+            &self.circuit,
+            out,
+        );
     }
 
     pub(crate) fn put_gates_from(&self, at: usize, out: &mut [Gate])
@@ -299,7 +306,7 @@ impl Frames {
         self.frame = 0;
         self.first_input = 1 + count_uninitialised(latches) as u32;
         self.first_gate = self.first_input + self.frames * inputs as u32;
-        put_standing(self.first_input, inputs, latches, &mut self.standing);
+        put_substitution(self.first_input, inputs, latches, &mut self.substitution);
     }
 
     pub(crate) fn enter_next(&mut self)
@@ -307,11 +314,11 @@ impl Frames {
         ensures { self.new ≡ record self.old { frame = self.old.frame + 1 } }
     {
         let latches = self.circuit.latches.as_slice();
-        put_nexts(&self.standing, self.first_gate, latches, &mut self.next);
+        put_nexts(&self.substitution, self.first_gate, latches, &mut self.next);
         self.frame += 1;
         self.first_input += self.circuit.inputs.len() as u32;
         self.first_gate += gates_of_frame(&self.circuit) as u32;
-        change_standing(self.first_input, &self.next, &mut self.standing);
+        change_substitution(self.first_input, &self.next, &mut self.substitution);
     }
 
     /// Goes to a frame: to frame 0 from anywhere, and to a later one from the one before it.

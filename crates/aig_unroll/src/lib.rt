@@ -6,14 +6,12 @@
 //! The definitions that matter most are `unrolled`, `IsUnrolled` and `side_by_side`.
 #![tactic(auto)]
 
-mod fault;
 mod frames;
 pub mod laws;
-mod standing;
+mod substitution;
 mod unroller;
 mod unrolling;
 mod writing;
 
-pub use crate::fault::{ClauseFault, UnrollFault};
 pub use crate::unroller::Unrolling;
 pub use crate::unrolling::unroll;

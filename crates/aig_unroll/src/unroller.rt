@@ -1,8 +1,8 @@
 //! The unrolled circuit, written frame by frame: it is never held.
 ghost use Rattle.std.specs.Prelude.{◌≡◌, ◌<◌, ◌≤◌, length, IfErr, IfOk, OnErr, OnOk};
 ghost use Rattle.aig_circuit.specs.Wellformed.{IsWellFormed};
-ghost use Rattle.aig_io.specs.Output.{Put};
-ghost use Rattle.aig_io.specs.Devices.{CanFail, took, TookBeginning};
+ghost use Rattle.aig_io.specs.Output.{Appended};
+ghost use Rattle.aig_io.specs.Devices.{took, TookBeginning};
 ghost use Rattle.aig_text.specs.AsciiText.{ascii_text};
 ghost use Rattle.aig_binary.specs.BinaryText.{binary_text};
 ghost use Rattle.aig_cnf.specs.ClauseText.{cnf_text};
@@ -10,7 +10,6 @@ ghost use Rattle.aig_unroll.specs.Unrolled.{IsTooLarge, IsUnrolled, IsUnsupporte
 ghost use Rattle.aig_unroll.specs.Outcome.{HasClauses, NotInClauses, NotUnrolled};
 ghost use Rattle.aig_unroll.specs.Parts.Writing.{gate_room};
 
-use crate::fault::{ClauseFault, UnrollFault};
 use crate::frames::Frames;
 use crate::unrolling::check_supported;
 use crate::writing::{
@@ -19,9 +18,10 @@ use crate::writing::{
 };
 use aig_binary::BINARY_WORD;
 use aig_cnf::{put_clause, put_clause_end, put_clauses_header};
-use aig_core::{Checked, Circuit, Gate, Lit, Ordered, OutOfMemory, Output, Sink, Var};
+use aig_core::{Checked, Circuit, DeviceFault, Gate, Lit, Ordered, OutOfMemory, Output, Sink, Var};
+use aig_fault::Stopped;
 use aig_image::{Steps, into_binary};
-use aig_text::{ASCII_WORD, WriteFault, put_header};
+use aig_text::{ASCII_WORD, put_header};
 use std::alloc::Global;
 use std::marker::Model;
 
@@ -96,7 +96,7 @@ impl Unrolling {
     ///
     /// A circuit with justice properties or fairness constraints is refused, and so is one whose
     /// unrolled circuit would be too large: both before any memory is taken.
-    pub fn new(alloc: Global, checked: Checked, frames: u32) -> Result<Self, UnrollFault>
+    pub fn new(alloc: Global, checked: Checked, frames: u32) -> Result<Self, Stopped>
         requires { (1 ≤ frames) × (frames ≤ 1000000) }
         ensures ok { IfOk result (λ d. IsUnrolled checked frames d) }
         ensures supported { OnOk result ((¬ IsUnsupported checked)
@@ -116,7 +116,7 @@ impl Unrolling {
     }
 
     fn put_ascii<W: Sink>(self, output: &mut Output<W>)
-        ensures { Put output.old output.new (ascii_text self) }
+        ensures { Appended output.old output.new (ascii_text self) }
     {
         let Unrolling {
             mut copies,
@@ -133,7 +133,7 @@ impl Unrolling {
     }
 
     fn put_binary<W: Sink>(self, output: &mut Output<W>)
-        ensures { Put output.old output.new (binary_text self) }
+        ensures { Appended output.old output.new (binary_text self) }
     {
         let Unrolling {
             mut copies,
@@ -151,11 +151,11 @@ impl Unrolling {
     /// Writes the canonical ASCII text of the unrolled circuit, in slices of at most 8,192 bytes.
     /// It takes no memory and fails only where the sink fails; the sink then took a beginning of
     /// the text, and is not called again.
-    pub fn write_ascii<W: Sink>(self, sink: &mut W) -> Result<(), WriteFault>
-        requires { CanFail (W.past sink.old) }
-        ensures ok { OnOk result (W.past sink.new ≡ took (ascii_text self) (W.past sink.old)) }
-        ensures err { OnErr result (TookBeginning (ascii_text self) (W.past sink.old)
-            (W.past sink.new)) }
+    pub fn write_ascii<W: Sink>(self, sink: &mut W) -> Result<(), DeviceFault>
+        ensures ok { OnOk result (W.history sink.new
+            ≡ took (ascii_text self) (W.history sink.old)) }
+        ensures err { OnErr result (TookBeginning (ascii_text self) (W.history sink.old)
+            (W.history sink.new)) }
     {
         let mut output = Output::new(sink);
         self.put_ascii(&mut output);
@@ -167,11 +167,11 @@ impl Unrolling {
     /// Writes the canonical binary text of the unrolled circuit, in slices of at most 8,192 bytes.
     /// It takes no memory and fails only where the sink fails; the sink then took a beginning of
     /// the text, and is not called again.
-    pub fn write_binary<W: Sink>(self, sink: &mut W) -> Result<(), WriteFault>
-        requires { CanFail (W.past sink.old) }
-        ensures ok { OnOk result (W.past sink.new ≡ took (binary_text self) (W.past sink.old)) }
-        ensures err { OnErr result (TookBeginning (binary_text self) (W.past sink.old)
-            (W.past sink.new)) }
+    pub fn write_binary<W: Sink>(self, sink: &mut W) -> Result<(), DeviceFault>
+        ensures ok { OnOk result (W.history sink.new
+            ≡ took (binary_text self) (W.history sink.old)) }
+        ensures err { OnErr result (TookBeginning (binary_text self) (W.history sink.old)
+            (W.history sink.new)) }
     {
         let mut output = Output::new(sink);
         self.put_binary(&mut output);
@@ -183,7 +183,7 @@ impl Unrolling {
     /// Whether clauses can be made of the unrolled circuit. Its variables have numbers one larger
     /// there, for a solver's numbers of 32 bits with a sign; and without a bad state the clauses
     /// could not be satisfied, which is no answer.
-    pub fn check_clauses(&self) -> Result<(), ClauseFault>
+    pub fn check_clauses(&self) -> Result<(), Stopped>
         ensures ok { OnOk result (HasClauses self.now) }
         ensures err { IfErr result (NotInClauses self.now) }
     {
@@ -191,7 +191,7 @@ impl Unrolling {
     }
 
     fn put_cnf<W: Sink>(self, output: &mut Output<W>)
-        ensures { Put output.old output.new (cnf_text self) }
+        ensures { Appended output.old output.new (cnf_text self) }
     {
         let Unrolling {
             mut copies,
@@ -212,11 +212,10 @@ impl Unrolling {
     /// Writes the clauses by which a bad state of the unrolled circuit is 1, as DIMACS text, in
     /// slices of at most 8,192 bytes. It takes no memory and fails only where the sink fails; the
     /// sink then took a beginning of the text, and is not called again.
-    pub fn write_cnf<W: Sink>(self, sink: &mut W) -> Result<(), WriteFault>
-        requires { CanFail (W.past sink.old) }
-        ensures ok { OnOk result (W.past sink.new ≡ took (cnf_text self) (W.past sink.old)) }
-        ensures err { OnErr result (TookBeginning (cnf_text self) (W.past sink.old)
-            (W.past sink.new)) }
+    pub fn write_cnf<W: Sink>(self, sink: &mut W) -> Result<(), DeviceFault>
+        ensures ok { OnOk result (W.history sink.new ≡ took (cnf_text self) (W.history sink.old)) }
+        ensures err { OnErr result (TookBeginning (cnf_text self) (W.history sink.old)
+            (W.history sink.new)) }
     {
         let mut output = Output::new(sink);
         self.put_cnf(&mut output);

@@ -8,11 +8,11 @@ ghost use Rattle.aig_unroll.specs.Unrolled.{frame_size, gates_at, outputs_at, un
 ghost use Rattle.aig_unroll.specs.Outcome.{NotUnrolled};
 ghost use Rattle.aig_unroll.specs.Parts.Frames.{IsPutAt, circuit_with};
 
-use crate::fault::UnrollFault;
 use crate::frames::{Frames, count_uninitialised};
 use aig_core::{
     Checked, Circuit, Gate, Justice, LARGEST, Listing, Lit, Ordered, OutOfMemory, Symbols, Var,
 };
+use aig_fault::{Kind, Stopped, refused_whole};
 use aig_image::{Steps, binary_image};
 use std::alloc::{AllocError, Global};
 
@@ -31,7 +31,7 @@ fn is_too_large(circuit: &Circuit, frames: u32) -> bool
 }
 
 /// Whether a circuit can be unrolled, where there is memory for it.
-pub(crate) fn check_supported(circuit: &Circuit, frames: u32) -> Result<(), UnrollFault>
+pub(crate) fn check_supported(circuit: &Circuit, frames: u32) -> Result<(), Stopped>
     requires formed { IsWellFormed circuit.now }
     requires frames { frames ≤ 1000000 }
     ensures supported { OnOk result ((¬ IsUnsupported circuit.now)
@@ -39,9 +39,9 @@ pub(crate) fn check_supported(circuit: &Circuit, frames: u32) -> Result<(), Unro
     ensures err { IfErr result (NotUnrolled circuit.now frames) }
 {
     if !circuit.justice.sizes.is_empty() || !circuit.fairness.is_empty() {
-        Err(UnrollFault::Unsupported)
+        Err(refused_whole(Kind::NotUnrollable))
     } else if is_too_large(circuit, frames) {
-        Err(UnrollFault::TooLarge)
+        Err(refused_whole(Kind::TooLargeUnrolled))
     } else {
         Ok(())
     }
@@ -188,7 +188,7 @@ fn unroll_image(alloc: Global, image: Ordered, frames: u32) -> Result<Circuit, O
 ///
 /// A circuit with justice properties or fairness constraints is refused, and so is one whose
 /// unrolled circuit would be too large: both before any memory is taken.
-pub fn unroll(alloc: Global, checked: &Checked, frames: u32) -> Result<Ordered, UnrollFault>
+pub fn unroll(alloc: Global, checked: &Checked, frames: u32) -> Result<Ordered, Stopped>
     requires { (1 ≤ frames) × (frames ≤ 1000000) }
     ensures ok { IfOk result (λ d. IsUnrolled checked.now frames d) }
     ensures supported { OnOk result ((¬ IsUnsupported checked.now)

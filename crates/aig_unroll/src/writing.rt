@@ -3,7 +3,7 @@ ghost use Rattle.std.specs.Prelude.{◌≡◌, ◌+◌, ◌<◌, ◌≤◌, drop
 ghost use Rattle.std.specs.Prelude.{IfErr, OnOk};
 ghost use Rattle.std.specs.List.{flat_map, range_with_len};
 ghost use Rattle.aig_circuit.specs.declared.circuit.TheConstants.{LARGEST};
-ghost use Rattle.aig_io.specs.Output.{Put};
+ghost use Rattle.aig_io.specs.Output.{Appended};
 ghost use Rattle.aig_text.specs.Sections.{header_row};
 ghost use Rattle.aig_circuit.specs.Wellformed.{IsWellFormed};
 ghost use Rattle.aig_cnf.specs.Clauses.{bad_clauses};
@@ -11,11 +11,11 @@ ghost use Rattle.aig_unroll.specs.Outcome.{HasClauses, NotInClauses};
 ghost use Rattle.aig_unroll.specs.Unrolled.{frame_size, gates_at, unrolled};
 ghost use Rattle.aig_unroll.specs.Parts.Writing.{gate_room, input_lines};
 
-use crate::fault::ClauseFault;
 use crate::frames::{Frames, gates_of_frame};
 use aig_binary::put_gates;
 use aig_cnf::{put_gates_clauses, put_literals};
 use aig_core::{Circuit, Gate, LARGEST, Lit, Output, Sink, Var};
+use aig_fault::{Kind, Stopped, refused_whole};
 use aig_text::{HEADER_NUMBERS, NumberedLine, put_lines};
 
 pub(crate) fn header_numbers(copies: &Frames) -> [u64; HEADER_NUMBERS]
@@ -34,7 +34,7 @@ pub(crate) fn header_numbers(copies: &Frames) -> [u64; HEADER_NUMBERS]
 #[inline(never)]
 pub(crate) fn put_inputs<W: Sink>(output: &mut Output<W>, count: u32)
     requires { count ≤ LARGEST }
-    ensures { Put output.old output.new (input_lines (range_with_len 1 count)) }
+    ensures { Appended output.old output.new (input_lines (range_with_len 1 count)) }
 {
     for before in 0..count {
         Var(1 + before).put_line(output);
@@ -46,7 +46,7 @@ pub(crate) trait FrameSection {
     ghost use Rattle.std.specs.Prelude.{◌≡◌, ℕ, List, [], IsTrue, length};
     ghost use Rattle.std.specs.List.{flat_map};
     ghost use Rattle.aig_circuit.specs.declared.circuit.Circuit.{Circuit as CircuitRecord};
-    ghost use Rattle.aig_io.specs.Output.{Put};
+    ghost use Rattle.aig_io.specs.Output.{Appended};
 
     type Item;
 
@@ -66,7 +66,7 @@ pub(crate) trait FrameSection {
 
     fn put<W: Sink>(output: &mut Output<W>, copies: &Frames, room: &mut [Self::Item])
         requires { length room.old ≡ size copies.now.circuit }
-        ensures { Put output.old output.new
+        ensures { Appended output.old output.new
             (flat_map text (at copies.now.circuit copies.now.frames copies.now.frame)) };
 }
 
@@ -85,14 +85,14 @@ trait GateText {
     ghost use Rattle.std.specs.List.{All, flat_map};
     ghost use Rattle.aig_circuit.specs.declared.circuit.Gate.{Gate as GateRecord};
     ghost use Rattle.aig_binary.specs.BinaryText.{HasDeltas};
-    ghost use Rattle.aig_io.specs.Output.{Put};
+    ghost use Rattle.aig_io.specs.Output.{Appended};
 
     /// The text of one.
     ghost one: { GateRecord → List ℕ };
 
     fn put_some<W: Sink>(output: &mut Output<W>, gates: &[Gate])
         requires { All HasDeltas gates.now }
-        ensures { Put output.old output.new (flat_map one gates.now) };
+        ensures { Appended output.old output.new (flat_map one gates.now) };
 }
 
 impl GateText for GateLines {
@@ -118,7 +118,7 @@ impl GateText for GateDeltas {
 /// How many gates are made at once, and more where a frame ends.
 const PIECE: usize = 256;
 
-/// How much room the gates of a frame take: a piece of the copies, and what is behind them.
+/// How much room the gates of a frame take: a piece of the copies, and what is after them.
 pub(crate) fn room_of_gates(circuit: &Circuit) -> usize
     requires { IsWellFormed circuit.now }
     ensures { result ≡ gate_room circuit.now }
@@ -136,7 +136,7 @@ fn put_pieces<F: GateText, W: Sink>(
     ensures within { result ≤ length copies.now.circuit.gates }
     ensures last { length copies.now.circuit.gates ≤ result + length room.old }
     ensures room { length room.new ≡ length room.old }
-    ensures put { Put output.old output.new (flat_map F.one
+    ensures put { Appended output.old output.new (flat_map F.one
         (take result (gates_at copies.now.circuit copies.now.frames copies.now.frame))) }
 {
     let gates = copies.circuit().gates.len();
@@ -157,7 +157,7 @@ fn put_rest<F: GateText, W: Sink>(
 )
     requires within { at ≤ length copies.now.circuit.gates }
     requires room { frame_size copies.now.circuit ≤ at + length room.old }
-    ensures { Put output.old output.new
+    ensures { Appended output.old output.new
         (flat_map F.one
         (drop at (gates_at copies.now.circuit copies.now.frames copies.now.frame))) }
 {
@@ -166,10 +166,10 @@ fn put_rest<F: GateText, W: Sink>(
     F::put_some(output, &room[..count]);
 }
 
-/// What is behind the copies is put together with the last of these.
+/// What is after the copies is put together with the last of these.
 fn put_frame_gates<F: GateText, W: Sink>(output: &mut Output<W>, copies: &Frames, room: &mut [Gate])
     requires { length room.old ≡ gate_room copies.now.circuit }
-    ensures { Put output.old output.new
+    ensures { Appended output.old output.new
         (flat_map F.one (gates_at copies.now.circuit copies.now.frames copies.now.frame)) }
 {
     let at = put_pieces::<F, W>(output, copies, &mut room[..PIECE]);
@@ -277,7 +277,7 @@ fn put_frame_section<S: FrameSection, W: Sink>(
     requires room { length room.old ≡ S.size copies.old.circuit }
     ensures kept { copies.new ≡ record copies.old { frame = copies.new.frame } }
     ensures here { output.new.failed ≡ false → copies.new.frame ≡ frame }
-    ensures put { Put output.old output.new
+    ensures put { Appended output.old output.new
         (flat_map S.text (S.at copies.old.circuit copies.old.frames frame)) }
 {
     if output.has_failed() {
@@ -297,7 +297,7 @@ pub(crate) fn put_section<S: FrameSection, W: Sink>(
 )
     requires { length room.old ≡ S.size copies.old.circuit }
     ensures kept { copies.new ≡ record copies.old { frame = copies.new.frame } }
-    ensures put { Put output.old output.new (flat_map S.text
+    ensures put { Appended output.old output.new (flat_map S.text
         (flat_map (S.at copies.old.circuit copies.old.frames)
         (range_with_len 0 copies.old.frames))) }
 {
@@ -328,7 +328,7 @@ pub(crate) fn clause_numbers(copies: &Frames) -> (u64, u64)
 }
 
 /// Whether the clauses have a bad state to speak of, and numbers that are not too large.
-pub(crate) fn check_clauses(copies: &Frames) -> Result<(), ClauseFault>
+pub(crate) fn check_clauses(copies: &Frames) -> Result<(), Stopped>
     requires { copies.now.frame ≡ 0 }
     ensures ok { OnOk result
         (HasClauses (unrolled copies.now.circuit copies.now.frames)) }
@@ -336,11 +336,11 @@ pub(crate) fn check_clauses(copies: &Frames) -> Result<(), ClauseFault>
         (NotInClauses (unrolled copies.now.circuit copies.now.frames)) }
 {
     if copies.circuit().bad.is_empty() {
-        return Err(ClauseFault::NoBadStates);
+        return Err(refused_whole(Kind::NoBadStates));
     }
     let (variables, _clauses) = clause_numbers(copies);
     if variables > u64::from(LARGEST) {
-        return Err(ClauseFault::TooLarge);
+        return Err(refused_whole(Kind::TooLargeUnrolled));
     }
     Ok(())
 }

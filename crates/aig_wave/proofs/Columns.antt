@@ -118,7 +118,7 @@ row_line row =
     values_text row.state ++ (32 ∷ (values_text row.inputs ++ (32 ∷ (values_text row.outputs
     ++ (32 ∷ (values_text row.next ++ (32 ∷ (values_text row.bad ++ (32 ∷ values_text row.constraints)))))))))
 
--- what stands behind some characters and a space, and these characters themselves
+-- what stands after some characters and a space, and these characters themselves
 module _ (k n : ℕ) (line text rest : List ℕ) (long : length text ≡ n) where
   behind_text : drop k line ≡ text ++ 32 ∷ rest → drop (k + n + 1) line ≡ rest
   behind_text e =
@@ -251,7 +251,7 @@ module _ (c : Circuit) (state : List Val) (as_long : length state ≡ length c.l
   pub closing_state : column c Latch closing ≡ values_text state
   closing_state = text_at 0 (length c.latches) closing (values_text state) _ (text_long state _ as_long) refl
 
-  -- behind the state all is off
+  -- after the state all is off
   column_off : (kind : Kind) (more : ℕ) → place c kind ≡ length c.latches + more → AreOff (column c kind closing)
   column_off kind more at =
       let long = text_long state (length c.latches) as_long in

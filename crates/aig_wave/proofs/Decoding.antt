@@ -196,11 +196,11 @@ module _ (w : Layout) where
   abbrev pub AreSame : Frame → Frame → Type 0
   AreSame f g = (f.run ≡ g.run) × ShowSame w.signals f.line g.line
 
-  -- how a dump ends behind the last frame, at this time
+  -- how a dump ends after the last frame, at this time
   abbrev end_text : Bool → ℕ → List ℕ
   end_text done time = if done then time_text time else []
 
-  -- what stands in a dump behind a frame
+  -- what stands in a dump after a frame
   abbrev behind : Bool → ℕ → Frame → List Frame → List ℕ
   behind done time before fs = body w time before fs ++ end_text done (time + length fs)
 
@@ -227,7 +227,7 @@ module _ (w : Layout) where
   end_is_some time before [] = λ e. omega (arith, ap length e)
   end_is_some time before (f ∷ fs) = frame_is_some true time before f fs
 
-  -- what is behind a dump's end where another dump has a frame
+  -- what is after a dump's end where another dump has a frame
   past_end : (done : Bool) (time : ℕ) (before other g : Frame) (gs : List Frame)
       → behind true time before [] ≡ behind done time other (g ∷ gs)
       → [] ≡ run_number_text time other g ++

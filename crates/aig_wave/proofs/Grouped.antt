@@ -59,7 +59,7 @@ pub not_indexed : (bs : List ℕ) → IsLastByte (is_byte 91) bs None → indexe
 unfolding indexed
 not_indexed bs found = ap indexed_in (parted_none bs found)
 
--- what is read behind the last bracket
+-- what is read after the last bracket
 pub indexed_is : (bs front digits : List ℕ) (at : ℕ) → IsLastByte (is_byte 91) bs (Some at) → front ≡ take at bs
     → digits ≡ drop 1 (drop at bs) → indexed bs ≡ index_in front (canonical_before 93 digits)
 unfolding indexed

@@ -553,7 +553,7 @@ module _ (c : Circuit) where
       let parts = parts_told 0 a.runs b.runs a.last b.last told a.are b.are a.is_last b.is_last same in
       a.is ∙ ap₂ parts_text parts.0 parts.1 ∙ sym b.is
 
-  -- A dump with its end is none without: behind the end of a run the next one begins.
+  -- A dump with its end is none without: after the end of a run the next one begins.
   run_goes_on : (time before run : ℕ) (state other : List Val) (rows others : List Row) (more behind : List Frame)
       → ShowsSteps c → AreRows c state rows → AreRows c other others
       → GoOnAlike w time before (run_frames run state rows more) (run_frames run other others behind)

@@ -2,7 +2,7 @@
 use Rattle.std.proofs.Common.{◌≡◌, ◌∙◌, ◌+◌, ◌∷◌, ◌++◌, if◌then◌else◌, ℕ, List, [], Bool, true, false, fold, take, refl}
 use Rattle.std.proofs.Common.{sym, ap, ap₂, subst, append_assoc, append-nil}
 use Rattle.std.proofs.lemmas.List.Sums.{fold-append}
-use Rattle.aig_io.specs.Output.{Out, Put}
+use Rattle.aig_io.specs.Output.{Appended, Out}
 use Rattle.aig_io.proofs.Puts.{put_nothing, put_twice}
 use Rattle.aig_lines.specs.Keeping.{Keeping, keeping_more}
 use Rattle.aig_lines.specs.Lines.{HasNoLineFeed}
@@ -54,7 +54,7 @@ module _ {W : Type 0} (w : Layout) (o : Out W) where
         kept = took.kept ∙ ap (λ (k : Keeping). record k { bytes = [] }) d.kept
             ∙ ap (λ (bytes : List ℕ). record { bytes = bytes; room = w.width + 2 })
             (sym (take_none (w.width + 2)) ∙ ap (λ (x : Cut). take (w.width + 2) x.begun) (sym cuts));
-        put = subst (Put o b.output) (ap₂ (λ (x y : List ℕ). x ++ y) before piece ∙ all)
+        put = subst (Appended o b.output) (ap₂ (λ (x y : List ℕ). x ++ y) before piece ∙ all)
             (put_twice _ _ _ _ _ d.put took.put);
       }
 
@@ -71,7 +71,7 @@ module _ {W : Type 0} (w : Layout) (o : Out W) where
         kept = ap (λ (k : Keeping). keeping_more k rest) d.kept
             ∙ ap (λ (bytes : List ℕ). record { bytes = bytes; room = w.width + 2 })
             (kept_twice (w.width + 2) c.begun rest ∙ ap (λ (x : Cut). take (w.width + 2) x.begun) (sym cuts));
-        put = subst (Put o a.output) (ap of_lines same) d.put;
+        put = subst (Appended o a.output) (ap of_lines same) d.put;
       })
 
   -- nothing was taken yet
@@ -81,16 +81,16 @@ module _ {W : Type 0} (w : Layout) (o : Out W) where
   dumps_nothing s dump_state kept same = record {
     dump_state = dump_state;
     kept = kept ∙ ap (λ (bytes : List ℕ). record { bytes = bytes; room = w.width + 2 }) (sym (take_none (w.width + 2)));
-    put = rw same (subst (Put o o) (ap of_lines (sym (whole_lines_are []))) (put_nothing o));
+    put = rw same (subst (Appended o o) (ap of_lines (sym (whole_lines_are []))) (put_nothing o));
   }
 
   -- what is put without more of the text
   pub dumps_still : (a b : Waving W) (text : List ℕ) → Dumps w o a text → b.dump_state ≡ a.dump_state → b.kept ≡ a.kept
-      → Put a.output b.output [] → Dumps w o b text
+      → Appended a.output b.output [] → Dumps w o b text
   dumps_still a b text d dump_state kept put = record {
     dump_state = dump_state ∙ d.dump_state;
     kept = kept ∙ d.kept;
-    put = subst (Put o b.output) (append-nil _) (put_twice _ _ _ _ _ d.put put);
+    put = subst (Appended o b.output) (append-nil _) (put_twice _ _ _ _ _ d.put put);
   }
 
   -- what is put at the end
@@ -109,9 +109,9 @@ module _ {W : Type 0} (w : Layout) (o : Out W) where
       ∙ sym (dump_done w (framed_lines w (whole_lines text)))
 
   pub dumps_end : (a : Waving W) (b c : Out W) (text : List ℕ) (done : Bool) → Dumps w o a text
-      → Put a.output b (ending done a.dump_state) → Put b c [] → Put o c (dump w (frames_of w text) done)
+      → Appended a.output b (ending done a.dump_state) → Appended b c [] → Appended o c (dump w (frames_of w text) done)
   dumps_end a b c text done d end put =
-      subst (Put o c)
+      subst (Appended o c)
       (append-nil (dump w (frames_of w text) false ++ ending done a.dump_state)
       ∙ ap (λ (t : Taping). dump w (frames_of w text) false ++ ending done t) d.dump_state ∙ ended_text text done)
       (put_twice _ _ _ _ _ (put_twice _ _ _ _ _ d.put end) put)

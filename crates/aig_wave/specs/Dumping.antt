@@ -1,6 +1,6 @@
 -- What a wave sink came to: it took a trace text, and its sink the dump of it.
 use Rattle.std.specs.Prelude.{◌≡◌, ◌+◌, ℕ, List, false, fold, take}
-use Rattle.aig_io.specs.Output.{Out, Put}
+use Rattle.aig_io.specs.Output.{Appended, Out}
 use Rattle.aig_lines.specs.Keeping.{Keeping}
 use Rattle.aig_wave.specs.Frames.{frames_of}
 use Rattle.aig_wave.specs.Layout.{Layout}
@@ -21,4 +21,4 @@ pub record Dumps {W : Type 0} (w : Layout) (o : Out W) (s : Waving W) (text : Li
     point = fold (behind_line w) (begin_of w) (cut text).lines;
   }
   pub kept : s.kept ≡ record { bytes = take (w.width + 2) (cut text).begun; room = w.width + 2 }
-  pub put : Put o s.output (dump w (frames_of w text) false)
+  pub put : Appended o s.output (dump w (frames_of w text) false)

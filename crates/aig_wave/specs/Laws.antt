@@ -66,7 +66,7 @@ ShowsSteps c = 0 < length c.inputs + length c.outputs + length c.bad + length c.
 
 -- A dump without its end loses nothing of what came: of the lines of a stimulus that goes on, of those before a bad
 -- line, or of all. Where two of these have one such dump, they have one trace text: the same steps, no more and no
--- fewer. The state behind the last step, which is not shown, follows from that step.
+-- fewer. The state after the last step, which is not shown, follows from that step.
 abbrev pub BegunDumpsLoseNothing : Type 0
 BegunDumpsLoseNothing = (c : Circuit) → IsWellFormed c → ShowsSteps c
     → (stimulus other text other_text : List ℕ) (ended other_ended : Bool)

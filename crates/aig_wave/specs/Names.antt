@@ -20,7 +20,7 @@ pub record Indexed : Type 0 where
   pub front : List ℕ
   pub index : ℕ
 
--- what stands before the last `[`, and what stands behind it
+-- what stands before the last `[`, and what stands after it
 pub record Parted : Type 0 where
   pub front : List ℕ
   pub rest : List ℕ

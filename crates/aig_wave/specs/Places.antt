@@ -19,7 +19,7 @@ letter Fairness = 102
 abbrev pub kinds : List Kind
 kinds = Input ∷ Latch ∷ Output ∷ Bad ∷ Constraint ∷ []
 
--- where the next state begins in the line of a step, behind state, inputs and outputs
+-- where the next state begins in the line of a step, after state, inputs and outputs
 abbrev pub next_place : Circuit → ℕ
 next_place c = length c.latches + 1 + length c.inputs + 1 + length c.outputs + 1
 

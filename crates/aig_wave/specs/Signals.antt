@@ -17,7 +17,7 @@ named kind names s = if letter s.kind == letter kind then slice_set names s.posi
 abbrev pub names_of : Circuit → Kind → List (List ℕ)
 names_of c kind = fold (named kind) (replicate (count_of c kind) []) c.symbols
 
--- how many of these names follow, one after the other, behind that name
+-- how many of these names follow, one after the other, after that name
 abbrev pub followers : List ℕ → List (List ℕ) → ℕ
 followers name [] = 0
 followers name (n ∷ ns) = if follows name n then suc (followers n ns) else 0
@@ -26,7 +26,7 @@ followers name (n ∷ ns) = if follows name n then suc (followers n ns) else 0
 abbrev pub signal : Circuit → Kind → ℕ → ℕ → Signal
 signal c kind first size = record { kind = kind; first = first; size = size; start = place c kind + first }
 
--- The signals of names, of which the first has this position and stands behind that name: each name that does not
+-- The signals of names, of which the first has this position and stands after that name: each name that does not
 -- follow the one before begins a signal.
 abbrev pub signals_behind : Circuit → Kind → ℕ → List ℕ → List (List ℕ) → List Signal
 signals_behind c kind p before [] = []

@@ -34,7 +34,7 @@ change_text time before f s =
     then value_text s (bits s f.line) ++ (code s ++ codes "\n")
     else []
 
--- a frame behind another; at time 0 all is shown
+-- a frame after another; at time 0 all is shown
 abbrev pub frame_text : Layout → ℕ → Frame → Frame → List ℕ
 frame_text w time before f =
     time_text time ++ (run_number_text time before f ++ flat_map (change_text time before f) w.signals)

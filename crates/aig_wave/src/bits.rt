@@ -1,7 +1,7 @@
 //! Changes of signals of one position, each written whole where it is to stand.
 ghost use Rattle.std.specs.Prelude.{◌≡◌, ◌+◌, ◌*◌, ◌≤◌, ◌==◌, ◌++◌, length, take, if◌then◌else◌};
 ghost use Rattle.std.specs.List.{AllByRecursion};
-ghost use Rattle.aig_io.specs.Output.{Put};
+ghost use Rattle.aig_io.specs.Output.{Appended};
 ghost use Rattle.aig_wave.specs.declared.bits.TheConstants.{GROUP};
 ghost use Rattle.aig_wave.specs.declared.signal_code.TheConstants.{TAIL};
 ghost use Rattle.aig_wave.specs.Parts.SignalCodes.{AreIn, IsSignalCode, bit_text};
@@ -82,7 +82,7 @@ pub(crate) fn put_bits<W: Sink>(
     requires signal_codes { AllByRecursion IsSignalCode signal_codes.now }
     requires before { AreIn (length before.now) signal_codes.now }
     requires line { AreIn (length line.now) signal_codes.now }
-    ensures { Put output.old output.new (bits_text before.now line.now signal_codes.now) }
+    ensures { Appended output.old output.new (bits_text before.now line.now signal_codes.now) }
 {
     let mut room = [0u8; GROUP * (TAIL + 1)];
     output.put_line(

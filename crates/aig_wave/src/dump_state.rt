@@ -3,7 +3,7 @@ ghost use Rattle.std.specs.Prelude.{◌≡◌, ◌+◌, ◌-◌, ◌^◌, ◌<�
 ghost use Rattle.std.specs.Prelude.{replicate, false, if◌then◌else◌, bytes_eq, not, ◌==◌, ◌||◌};
 ghost use Rattle.std.specs.Fmt.{digits};
 ghost use Rattle.std.specs.List.{AllByRecursion};
-ghost use Rattle.aig_io.specs.Output.{Put};
+ghost use Rattle.aig_io.specs.Output.{Appended};
 ghost use Rattle.aig_wave.specs.Frames.{closing_line, frame, next_state};
 ghost use Rattle.aig_wave.specs.Wave.{bits, change_text, frame_text, run_number_text};
 ghost use Rattle.aig_wave.specs.Wave.{time_text, value_text};
@@ -41,7 +41,7 @@ fn bits<'a>(signal: &Signal, line: &'a [u8]) -> &'a [u8]
 
 /// Puts the value of a signal.
 fn put_value<W: Sink>(output: &mut Output<W>, signal: &Signal, characters: &[u8])
-    ensures { Put output.old output.new (value_text signal.now characters.now) }
+    ensures { Appended output.old output.new (value_text signal.now characters.now) }
 {
     if signal.size == 1 {
         output.put(characters);
@@ -76,7 +76,7 @@ fn put_change<W: Sink>(
     signal_code: &SignalCode,
 )
     requires { IsSignalCode signal_code.now }
-    ensures { Put output.old output.new
+    ensures { Appended output.old output.new
         (change_text time (frame 0 before.now) (frame 0 line.now) (signal_in signal_code.now)) }
 {
     let characters = bits(&signal_code.signal, line);
@@ -95,7 +95,8 @@ fn put_signal_codes<W: Sink>(
     signal_codes: &[SignalCode],
 )
     requires { AllByRecursion IsSignalCode signal_codes.now }
-    ensures { Put output.old output.new (changes_text time before.now line.now signal_codes.now) }
+    ensures { Appended output.old output.new (changes_text time before.now line.now
+        signal_codes.now) }
 {
     for signal_code in signal_codes {
         put_change(output, time, before, line, signal_code);
@@ -114,7 +115,8 @@ fn put_group<W: Sink>(
 )
     requires group { IsGroup group.now signal_codes.now }
     requires signal_codes { AllByRecursion IsSignalCode signal_codes.now }
-    ensures { Put output.old output.new (changes_text time before.now line.now signal_codes.now) }
+    ensures { Appended output.old output.new (changes_text time before.now line.now
+        signal_codes.now) }
 {
     if time > 0 && group.has_bits_in(before) && group.has_bits_in(line) {
         put_bits(output, before, line, signal_codes);
@@ -136,7 +138,8 @@ fn put_new_group<W: Sink>(
 )
     requires group { IsGroup group.now signal_codes.now }
     requires signal_codes { AllByRecursion IsSignalCode signal_codes.now }
-    ensures { Put output.old output.new (changes_text time before.now line.now signal_codes.now) }
+    ensures { Appended output.old output.new (changes_text time before.now line.now
+        signal_codes.now) }
 {
     if signal_codes.len() <= FEW || is_new(time, group.stretch(before), group.stretch(line)) {
         put_group(output, time, before, line, group, signal_codes);
@@ -155,7 +158,8 @@ fn put_changes<W: Sink>(
 )
     requires groups { AreSignalGroups groups.now signal_codes.now }
     requires signal_codes { AllByRecursion IsSignalCode signal_codes.now }
-    ensures { Put output.old output.new (changes_text time before.now line.now signal_codes.now) }
+    ensures { Appended output.old output.new (changes_text time before.now line.now
+        signal_codes.now) }
 {
     let mut rest = signal_codes;
     for group in groups {
@@ -168,7 +172,7 @@ fn put_changes<W: Sink>(
 /// Puts a time.
 #[inline(always)]
 fn put_time<W: Sink>(output: &mut Output<W>, time: u64)
-    ensures { Put output.old output.new (time_text time) }
+    ensures { Appended output.old output.new (time_text time) }
 {
     output.put(b"#");
     output.put_row(time, &[]);
@@ -176,7 +180,7 @@ fn put_time<W: Sink>(output: &mut Output<W>, time: u64)
 
 /// Puts a number in binary.
 fn put_binary_number<W: Sink>(output: &mut Output<W>, number: u64)
-    ensures { Put output.old output.new (digits 2 false number) }
+    ensures { Appended output.old output.new (digits 2 false number) }
 {
     let mut room = [0u8; 64];
     let at = write_digits(number, 2, &mut room);
@@ -186,7 +190,8 @@ fn put_binary_number<W: Sink>(output: &mut Output<W>, number: u64)
 /// Puts the run of a frame, where it is another one than before.
 #[inline(always)]
 fn put_run_number<W: Sink>(output: &mut Output<W>, time: u64, before: u64, run: u64)
-    ensures { Put output.old output.new (run_number_text time (frame before []) (frame run [])) }
+    ensures { Appended output.old output.new (run_number_text time (frame before [])
+        (frame run [])) }
 {
     if is_new_run(time, before, run) {
         output.put(b"b");
@@ -197,7 +202,7 @@ fn put_run_number<W: Sink>(output: &mut Output<W>, time: u64, before: u64, run: 
 
 /// Puts the head, where nothing was put before.
 fn put_head<W: Sink>(output: &mut Output<W>, layout: &Layout, time: u64)
-    ensures { Put output.old output.new (head_at layout.now time) }
+    ensures { Appended output.old output.new (head_at layout.now time) }
 {
     if time == 0 {
         output.put(layout.head());
@@ -211,7 +216,7 @@ struct Frame<'a> {
     line: &'a [u8],
 }
 
-/// Puts a frame behind another, and the head before the first.
+/// Puts a frame after another, and the head before the first.
 #[inline(always)]
 fn put_frame<W: Sink>(
     output: &mut Output<W>,
@@ -220,7 +225,7 @@ fn put_frame<W: Sink>(
     before: Frame,
     shown: Frame,
 )
-    ensures { Put output.old output.new (head_at layout.now time ++ frame_text layout.now time
+    ensures { Appended output.old output.new (head_at layout.now time ++ frame_text layout.now time
         (frame before.entry.run before.entry.line.now)
         (frame shown.entry.run shown.entry.line.now)) }
 {
@@ -331,7 +336,7 @@ impl DumpState {
             before = frame self.old.point.run text.now;
           };
         } }
-        ensures put { Put output.old output.new (head_at self.old.layout self.old.point.time
+        ensures put { Appended output.old output.new (head_at self.old.layout self.old.point.time
             ++ frame_text self.old.layout self.old.point.time self.old.point.before
             (frame self.old.point.run text.now)) }
     {
@@ -361,7 +366,7 @@ impl DumpState {
             before = frame self.old.point.run (closing_line self.old.layout self.old.point.state);
           };
         } }
-        ensures put { Put output.old output.new (head_at self.old.layout self.old.point.time
+        ensures put { Appended output.old output.new (head_at self.old.layout self.old.point.time
             ++ frame_text self.old.layout self.old.point.time self.old.point.before
             (frame self.old.point.run (closing_line self.old.layout self.old.point.state))) }
     {
@@ -389,7 +394,7 @@ impl DumpState {
     pub(crate) fn take_line<W: Sink>(&mut self, output: &mut Output<W>, text: &[u8])
         ensures point { self.new
             ≡ record self.old { point = behind_line self.old.layout self.old.point text.now } }
-        ensures put { Put output.old output.new
+        ensures put { Appended output.old output.new
             (line_piece self.old.layout self.old.point text.now) }
     {
         if self.time == u64::MAX {
@@ -404,7 +409,7 @@ impl DumpState {
 
     /// Puts the time at which the last frame ends, where the trace is done.
     pub(crate) fn put_end<W: Sink>(&self, output: &mut Output<W>, done: bool)
-        ensures { Put output.old output.new (if done
+        ensures { Appended output.old output.new (if done
             then head_at self.now.layout self.now.point.time ++ time_text self.now.point.time
             else []) }
     {

@@ -1,7 +1,6 @@
 //! What takes a trace text, and puts the dump of it.
 ghost use Rattle.std.specs.Prelude.{◌≡◌, ◌++◌, ℕ, List, [], false, true, is_err};
-ghost use Rattle.aig_io.specs.Devices.{CanFail};
-ghost use Rattle.aig_io.specs.Output.{Out, Put, output_to};
+ghost use Rattle.aig_io.specs.Output.{Appended, Out, output_to};
 ghost use Rattle.aig_wave.specs.Dumping.{Dumps};
 ghost use Rattle.aig_wave.specs.Frames.{frames_of};
 ghost use Rattle.aig_wave.specs.Layout.{Layout as LayoutRecord};
@@ -61,9 +60,8 @@ impl<'a, W: Sink> Model for DumpWriter<'a, W> {
 impl<'a, W: Sink> DumpWriter<'a, W> {
     /// Nothing was taken yet.
     pub(crate) fn new(room: WaveMemory, sink: &'a mut W) -> Self
-        requires { CanFail (W.past sink.old) }
-        ensures begun { Dumps room (output_to W.past sink.entry [] false) result [] }
-        ensures output { result.output ≡ output_to W.past sink.entry [] false }
+        ensures begun { Dumps room (output_to W.history sink.entry [] false) result [] }
+        ensures output { result.output ≡ output_to W.history sink.entry [] false }
     {
         let (dump_state, kept) = room.into_parts();
         DumpWriter {
@@ -108,7 +106,7 @@ impl<'a, W: Sink> DumpWriter<'a, W> {
     pub(crate) fn finish(self, done: bool) -> (Result<(), DeviceFault>, &'a mut W)
         ensures reported { self.entry.output.failed ≡ true → is_err result.0 ≡ true }
         ensures put { (w : LayoutRecord) (o : Out W) (text : List ℕ) → Dumps w o self.entry text
-            → Put o (output_to W.past result.1 [] (is_err result.0))
+            → Appended o (output_to W.history result.1 [] (is_err result.0))
             (dump w (frames_of w text) done) }
     {
         let DumpWriter {

@@ -111,7 +111,7 @@ impl Group {
     }
 }
 
-/// How many signals the next group has: the first one, and those behind it that have one position,
+/// How many signals the next group has: the first one, and those after it that have one position,
 /// or more, as it has.
 fn next_count(signal_codes: &[SignalCode]) -> usize
     ensures within { result ≤ length signal_codes.now }

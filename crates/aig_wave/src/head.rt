@@ -169,7 +169,7 @@ pub(crate) fn put_opening(text: &mut Vec<u8>) -> Result<(), OutOfMemory>
     put(text, OPENING)
 }
 
-/// Adds what stands behind all scopes.
+/// Adds what stands after all scopes.
 pub(crate) fn put_closing(text: &mut Vec<u8>) -> Result<(), OutOfMemory>
     ensures { OnOk result (text.new.items ≡ text.old.items ++ closing) }
 {

@@ -3,8 +3,8 @@
 //! Others call `WaveMemory`, which takes all memory, and `WaveSink`, a sink for a trace text, which
 //! sends the dump of it on to another sink.
 //!
-//! The definitions that matter most are `frames`, `wave_text`, and `wave_origin`, by which a past
-//! tells what it stands on.
+//! The definitions that matter most are `frames`, `wave_text`, and `wave_origin`, by which a
+//! history tells what it stands on.
 #![tactic(auto)]
 
 mod bits;

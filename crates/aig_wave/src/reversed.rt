@@ -1,6 +1,6 @@
 //! The characters of a vector, the last one first.
 ghost use Rattle.std.specs.Prelude.{length, reverse};
-ghost use Rattle.aig_io.specs.Output.{Put};
+ghost use Rattle.aig_io.specs.Output.{Appended};
 
 use aig_io::{Line, Output, Sink};
 
@@ -36,7 +36,7 @@ impl<'a> Line for Reversed<'a> {
 
 /// Puts characters from the last to the first.
 pub(crate) fn put_reversed<W: Sink>(output: &mut Output<W>, bytes: &[u8])
-    ensures { Put output.old output.new (reverse bytes.now) }
+    ensures { Appended output.old output.new (reverse bytes.now) }
 {
     let mut rest = bytes;
     while rest.len() > 0 {

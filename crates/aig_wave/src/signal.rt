@@ -86,7 +86,7 @@ pub(crate) fn names_of(
     Ok(names)
 }
 
-/// How many of the names follow, one after the other, behind the first.
+/// How many of the names follow, one after the other, after the first.
 fn followers(first: &[u8], names: &[Name]) -> usize
     ensures value { result ≡ followers first.now names.now }
     ensures within { result ≤ length names.now }

@@ -1,7 +1,7 @@
 //! A sink for a trace text, which sends the dump of it on.
 ghost use Rattle.std.specs.Prelude.{◌≡◌, ◌<◌, ◌≤◌, ℕ, [], IfOk, IsTrue, OnOk, is_err};
 ghost use Rattle.std.specs.Prelude.{is_ok, length};
-ghost use Rattle.aig_io.specs.Devices.{CanFail, Past, after_send, block_size, unused};
+ghost use Rattle.aig_io.specs.Devices.{History, after_send, block_size, unused};
 ghost use Rattle.aig_wave.specs.Frames.{frames_of};
 ghost use Rattle.aig_wave.specs.Layout.{Layout as LayoutRecord};
 ghost use Rattle.aig_wave.specs.Standing.{WasSent, wave_origin};
@@ -20,7 +20,7 @@ use std::snapshot::Snapshot;
 pub struct WaveSink<'a, W: Sink> {
     dump_writer: DumpWriter<'a, W>,
     before: Snapshot<W>,
-    failures: u64,
+    failures: Record,
     log: Record,
 }
 
@@ -33,18 +33,18 @@ impl<'a, W: Sink> Model for WaveSink<'a, W> {
 
     ghost view = { λ s. record {
       waving = s.dump_writer;
-      past = record {
+      history = record {
         origin = wave_origin s.dump_writer.dump_state.layout s.dump_writer.output.name
-            (W.past s.before.value);
+            (W.history s.before.value);
         bytes = bytes_of s.log.notes;
         ends = sum_of s.log.notes;
-        failures = s.failures;
+        failures = sum_of s.failures.notes;
       };
     } };
 
-    ghost invariant = { λ s. IsDump s.before.value (W.past s.before.value) s.dump_writer
+    ghost invariant = { λ s. IsDump s.before.value (W.history s.before.value) s.dump_writer
         (bytes_of s.log.notes)
-        × (0 < s.failures → s.dump_writer.output.failed ≡ true) };
+        × (0 < sum_of s.failures.notes → s.dump_writer.output.failed ≡ true) };
 }
 
 impl<'a, W: Sink> WaveSink<'a, W> {
@@ -52,14 +52,14 @@ impl<'a, W: Sink> WaveSink<'a, W> {
     // Not built into its callers, whose stack would then hold the block of the output more often.
     #[inline(never)]
     pub fn new(room: WaveMemory, sink: &'a mut W) -> Self
-        requires { CanFail (W.past sink.old) }
-        ensures { result.past ≡ unused (wave_origin room sink.entry.ghost_name (W.past sink.old)) }
+        ensures { result.history ≡ unused (wave_origin room sink.entry.ghost_name
+            (W.history sink.old)) }
     {
         let before = Snapshot::of(sink);
         WaveSink {
             dump_writer: DumpWriter::new(room, sink),
             before,
-            failures: 0,
+            failures: Record::new(),
             log: Record::new(),
         }
     }
@@ -69,12 +69,12 @@ impl<'a, W: Sink> WaveSink<'a, W> {
     // Nor is this built into its callers.
     #[inline(never)]
     pub fn finish(self, done: bool) -> (Result<(), DeviceFault>, &'a mut W)
-        ensures lender { result.1.ghost_name ≡ self.entry.past.origin.lender }
-        ensures sent { (w : LayoutRecord) (name : ℕ) (before : Past)
-            → self.entry.past.origin ≡ wave_origin w name before
-            → WasSent result.0 (dump w (frames_of w self.entry.past.bytes) done) before
-            (W.past result.1.now) }
-        ensures reported { OnOk result.0 (self.entry.past.failures ≡ 0) }
+        ensures lender { result.1.ghost_name ≡ self.entry.history.origin.lender }
+        ensures sent { (w : LayoutRecord) (name : ℕ) (before : History)
+            → self.entry.history.origin ≡ wave_origin w name before
+            → WasSent result.0 (dump w (frames_of w self.entry.history.bytes) done) before
+            (W.history result.1.now) }
+        ensures reported { OnOk result.0 (self.entry.history.failures ≡ 0) }
     {
         let WaveSink {
             dump_writer,
@@ -87,29 +87,24 @@ impl<'a, W: Sink> WaveSink<'a, W> {
 }
 
 impl<W: Sink> Sink for WaveSink<'_, W> {
-    ghost past = { λ s. s.past };
+    ghost history = { λ s. s.history };
 
     fn send(&mut self, bytes: &[u8]) -> Result<usize, DeviceFault>
         requires some { 0 < length bytes.now }
         requires short { length bytes.now ≤ block_size }
-        requires countable { CanFail self.old.past }
         ensures within { IfOk result (λ n. n ≤ length bytes.now) }
         ensures moves { IfOk result (λ n. 0 < n) }
-        ensures past { self.new.past ≡ after_send bytes.now result self.old.past }
+        ensures history { self.new.history ≡ after_send bytes.now result self.old.history }
         ensures refuses { is_err result ≡ self.old.waving.output.failed }
         ensures sent { IsTrue (is_ok result) → self.new.waving.output.held ≡ [] }
     {
         if self.dump_writer.has_failed() {
-            self.failures += 1;
+            self.failures.note(&[1], &[]);
             return Err(DeviceFault);
         }
         self.dump_writer.take_bytes(bytes);
         self.dump_writer.flush();
         self.log.note(&[0], bytes);
         Ok(bytes.len())
-    }
-
-    fn failures(&self) -> u64 {
-        self.failures
     }
 }

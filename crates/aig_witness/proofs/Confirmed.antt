@@ -1,4 +1,4 @@
--- The first step that confirms a claim, row behind row.
+-- The first step that confirms a claim, row after row.
 use Rattle.std.proofs.Common.{◌≡◌, ◌<◌, ◌&&◌, ◌⊎◌, ◌∷◌, ◌++◌, ◌∙◌, if◌then◌else◌, rules, ℕ, List, [], Bool, true, false}
 use Rattle.std.proofs.Common.{length, Option, Some, None, is_none, refl, sym, ap, ap₂, subst, append_assoc, arith, inl}
 use Rattle.std.proofs.Common.{inr, All}

@@ -1,5 +1,5 @@
 pub mod Confirmed
-pub mod Hearing
+pub mod WitnessState
 pub mod WitnessEnds
 pub mod Witnessing
 pub mod WitnessTexts

@@ -7,21 +7,22 @@ use Rattle.aig_meaning.specs.Meaning.{MeansTheSame}
 use Rattle.aig_meaning.specs.Trace.{IsTrace}
 use Rattle.aig_meaning.proofs.Traces.{same_meaning_same_traces}
 use Rattle.aig_io.specs.declared.device.DeviceFault.{DeviceFault}
-use Rattle.aig_io.specs.Devices.{Past}
+use Rattle.aig_io.specs.Devices.{History}
 use Rattle.aig_io.specs.Runs.{AtEnd, Broken, Ending, Open, Read, is_at_end}
-use Rattle.aig_lines.specs.Fed.{FedSource, Feeder}
+use Rattle.aig_lines.specs.Feeders.{Feeder, FoldedSource}
 use Rattle.aig_lines.specs.Texts.{judged_lines}
-use Rattle.aig_step.specs.declared.fault.SimFault.{SimFault}
-use Rattle.aig_step.specs.declared.fault.SimFault.TheVariants as faults
+use Rattle.aig_fault.specs.declared.stopped.Stopped.{Stopped}
+use Rattle.aig_fault.specs.declared.stopped.Stopped.TheVariants as stops
 use Rattle.aig_witness.specs.declared.checker.Due.TheVariants as due
 use Rattle.aig_witness.specs.declared.verdict.Verdict.{Verdict}
-use Rattle.aig_witness.specs.Confirming.{ConfirmSays, Judged}
+use Rattle.aig_witness.specs.Confirming.{ConfirmSays, Judged, bad_witness}
 use Rattle.aig_witness.specs.Witness.{Claim, IsVerdict, IsVerdictOf, Nothing, Property, Said, SaysClaim, Shape, Steps}
 use Rattle.aig_witness.specs.Witness.{Version, Whole, first_bad_witness_line, missing_line, shape_of, witness_of}
 use Rattle.aig_witness.specs.Witness.{wrong_line}
-use Rattle.aig_witness.specs.Parts.Witnessing.{HasHeard, StandsWhen, Witnessing, hear_line, hearing, longest_line}
+use Rattle.aig_witness.specs.Parts.Witnessing.{HasWitnessState, StandsWhen, Witnessing, longest_line, witness_state}
+use Rattle.aig_witness.specs.Parts.Witnessing.{witness_step}
 use Rattle.aig_witness.specs.Parts.Witnessing.{verdict_of}
-use Rattle.aig_witness.proofs.Hearing.{none_wrong, one_wrong}
+use Rattle.aig_witness.proofs.WitnessState.{none_wrong, one_wrong}
 
 -- a line is missing where one is due
 one_missing : (lines : ℕ) (w : Witnessing) (said : Said) → StandsWhen w said → w.due ≢ due.Nothing
@@ -32,14 +33,15 @@ one_missing lines w (Property p) stands some = ap (λ (n : ℕ). Some n) (omega 
 one_missing lines w (Steps claim) stands some = ap (λ (n : ℕ). Some n) (omega arith)
 one_missing lines w (Whole claim) stands some = absurd (some stands.0)
 
-module _ (c : Circuit) (few : length c.bad ≤ LARGEST) (source source_now : Past) (f : Feeder) (w : Witnessing)
+module _ (c : Circuit) (few : length c.bad ≤ LARGEST) (source source_now : History) (f : Feeder) (w : Witnessing)
   where
     abbrev longest : ℕ
     longest = longest_line (shape_of c)
 
     -- what came of the source, for lines as long as this
     abbrev CameAt : ℕ → Result Bool DeviceFault → Type 0
-    CameAt limit result = FedSource hear_line HasHeard limit (hearing c Nothing) source source_now result f w
+    CameAt limit result = FoldedSource witness_step HasWitnessState limit (witness_state c Nothing) source source_now
+        result f w
 
     pub came_so : (limit : ℕ) (good known : Bool) → limit ≡ longest → good ≡ known → CameAt limit (Ok good)
         → CameAt longest (Ok known)
@@ -47,26 +49,26 @@ module _ (c : Circuit) (few : length c.bad ≤ LARGEST) (source source_now : Pas
         subst (λ (b : Bool). CameAt longest (Ok b)) is (subst (λ (n : ℕ). CameAt n (Ok good)) long came)
 
     -- what an answer says of what came
-    abbrev Answers : Result Verdict SimFault → Type 0
+    abbrev Answers : Result Verdict Stopped → Type 0
     Answers result = Read (ConfirmSays c result) source source_now
 
     -- a line was refused
-    pub wrong_among : CameAt longest (Ok false) → Answers (Err (faults.BadWitness f.number))
+    pub wrong_among : CameAt longest (Ok false) → Answers (Err (stops.Refused (bad_witness f.number)))
     wrong_among (true, r) = record {
       bytes = r.bytes;
       ending = AtEnd;
-      says = (tt, one_wrong c few r.bytes true f w r.stands r.refused);
-      came = r.past;
+      says = (f.number, refl, tt, one_wrong c few r.bytes true f w r.stands r.refused);
+      came = r.history;
     }
     wrong_among (false, r) = record {
       bytes = r.bytes;
       ending = Open;
-      says = (tt, one_wrong c few r.bytes false f w r.stands r.refused);
-      came = r.past;
+      says = (f.number, refl, tt, one_wrong c few r.bytes false f w r.stands r.refused);
+      came = r.history;
     }
 
     -- the source failed
-    pub cut_off : (fault : DeviceFault) → CameAt longest (Err fault) → Answers (Err faults.ReadFailed)
+    pub cut_off : (fault : DeviceFault) → CameAt longest (Err fault) → Answers (Err stops.ReadFailed)
     cut_off fault r =
         let right = none_wrong c few r.bytes false f w r.stands r.refused in
         let lines = length (judged_lines r.bytes false) in
@@ -74,17 +76,17 @@ module _ (c : Circuit) (few : length c.bad ≤ LARGEST) (source source_now : Pas
           bytes = r.bytes;
           ending = Broken;
           says = (refl, ap (wrong_line lines false) right.says);
-          came = r.past;
+          came = r.history;
         }
 
     -- the bytes have ended where a line is due
-    pub wrong_behind : CameAt longest (Ok true) → w.due ≢ due.Nothing → Answers (Err (faults.BadWitness f.number))
+    pub wrong_behind : CameAt longest (Ok true) → w.due ≢ due.Nothing → Answers (Err (stops.Refused (bad_witness f.number)))
     wrong_behind r some =
         let right = none_wrong c few r.bytes true f w r.stands r.refused in
         let lines = length (judged_lines r.bytes true) in
-        let first = ap (wrong_line lines true) right.says ∙ one_missing lines w right.said right.heard.1 some
+        let first = ap (wrong_line lines true) right.says ∙ one_missing lines w right.said right.has_state.1 some
         ∙ ap (λ (n : ℕ). Some n) (sym right.number) in
-        record { bytes = r.bytes; ending = AtEnd; says = (tt, first); came = r.past }
+        record { bytes = r.bytes; ending = AtEnd; says = (f.number, refl, tt, first); came = r.history }
 
     -- they have ended where none is
     whole : (v : Verdict) (bytes : List ℕ) (said : Said) → StandsWhen w said → w.due ≡ due.Nothing → w.circuit ≡ c
@@ -108,8 +110,8 @@ module _ (c : Circuit) (few : length c.bad ≤ LARGEST) (source source_now : Pas
         → Answers (Ok v)
     judged v r none is =
         let right = none_wrong c few r.bytes true f w r.stands r.refused in
-        let judged = whole v r.bytes right.said right.heard.1 none right.heard.0 right.says is in
-        record { bytes = r.bytes; ending = AtEnd; says = (refl, judged); came = r.past }
+        let judged = whole v r.bytes right.said right.has_state.1 none right.has_state.0 right.says is in
+        record { bytes = r.bytes; ending = AtEnd; says = (refl, judged); came = r.history }
 
 -- circuits that mean the same, with as many bad states, have the same witness files
 module _ (c d : Circuit) (means : MeansTheSame c d) (bad : length d.bad ≡ length c.bad) where
@@ -131,12 +133,11 @@ module _ (c d : Circuit) (means : MeansTheSame c d) (bad : length d.bad ≡ leng
     is_verdict = is.is_verdict;
   }
 
-  pub confirm_says_too : (result : Result Verdict SimFault) (bytes : List ℕ) (ending : Ending)
+  pub confirm_says_too : (result : Result Verdict Stopped) (bytes : List ℕ) (ending : Ending)
       → ConfirmSays d result bytes ending → ConfirmSays c result bytes ending
   confirm_says_too (Ok v) bytes ending says = search (rules, same_wrong, same_shape, same_meaning_same_traces)
-  confirm_says_too (Err faults.OutOfMemory) bytes ending says = says
-  confirm_says_too (Err (faults.BadStimulus n)) bytes ending never = never
-  confirm_says_too (Err (faults.BadWitness n)) bytes ending says =
-      (says.0, same_wrong bytes (is_at_end ending) ∙ says.1)
-  confirm_says_too (Err faults.ReadFailed) bytes ending says = (says.0, same_wrong bytes false ∙ says.1)
-  confirm_says_too (Err faults.WriteFailed) bytes ending never = never
+  confirm_says_too (Err stops.OutOfMemory) bytes ending says = says
+  confirm_says_too (Err (stops.Refused fault)) bytes ending (number, told, unbroken, first) =
+      (number, told, unbroken, same_wrong bytes (is_at_end ending) ∙ first)
+  confirm_says_too (Err stops.ReadFailed) bytes ending says = (says.0, same_wrong bytes false ∙ says.1)
+  confirm_says_too (Err stops.WriteFailed) bytes ending never = never

@@ -107,7 +107,7 @@ said_with shape (Property property) text = option_map (begun_at property) (first
 said_with shape (Steps claim) text = option_map (with_entry claim) (entry_in shape.inputs text)
 said_with shape (Whole claim) text = None
 
--- what is said with a line of this number and those behind it
+-- what is said with a line of this number and those after it
 abbrev pub said_behind : ℕ → Option Said → (Said → Result Said ℕ) → Result Said ℕ
 said_behind number None rest = Err number
 said_behind number (Some said) rest = rest said
@@ -126,7 +126,7 @@ abbrev pub is_whole : Said → Bool
 is_whole (Whole claim) = true
 is_whole said = false
 
--- the first wrong line, where all that came are right: the one behind them, if one is due and no more comes
+-- the first wrong line, where all that came are right: the one after them, if one is due and no more comes
 abbrev pub missing_line : ℕ → Bool → Said → Option ℕ
 missing_line lines ended said = if ended && not (is_whole said) then Some (suc lines) else None
 

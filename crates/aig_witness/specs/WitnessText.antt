@@ -1,4 +1,4 @@
--- A witness file as a whole (this project's profile): the texts of its lines, one behind the other, and what it says.
+-- A witness file as a whole (this project's profile): the texts of its lines, one after the other, and what it says.
 use Rattle.std.specs.Prelude.{◌≡◌, ◌<◌, ◌++◌, ℕ, List, [], ◌∷◌, true, codes, length, map}
 use Rattle.std.specs.List.{AllByRecursion}
 use Rattle.aig_circuit.specs.declared.circuit.Circuit.{Circuit}

@@ -23,24 +23,24 @@ pub record NamesBadState (bad : ℕ) (text : List ℕ) (property : ℕ) : Type 0
 abbrev pub SaysFirstState : Circuit → List ℕ → Type 0
 SaysFirstState c text = (first : List Val) × IsFirstState c first × (text ≡ values_text first)
 
--- one of the lines of these texts, behind the first three, is `.`
+-- one of the lines of these texts, after the first three, is `.`
 abbrev pub HaveEnd : List (List ℕ) → Type 0
 HaveEnd [] = ⊥
 HaveEnd (one ∷ []) = ⊥
 HaveEnd (one ∷ two ∷ []) = ⊥
 HaveEnd (one ∷ two ∷ three ∷ more) = Contains more (codes ".")
 
--- A line of this text is right behind lines of those: the first is `1`, the second names a bad state, the third says
--- the first state, and each one behind them says a step or is `.`, until there is a line `.`.
+-- A line of this text is right after lines of those: the first is `1`, the second names a bad state, the third says the
+-- first state, and each one after them says a step or is `.`, until there is a line `.`.
 abbrev pub IsRightBehind : Circuit → (before : List (List ℕ)) → (text : List ℕ) → Type 0
 IsRightBehind c [] text = text ≡ codes "1"
 IsRightBehind c (one ∷ []) text = (property : ℕ) × NamesBadState (length c.bad) text property
 IsRightBehind c (one ∷ two ∷ []) text = SaysFirstState c text
 IsRightBehind c (one ∷ two ∷ three ∷ more) text = ¬ Contains more (codes ".") × IsGoodText c text
 
--- The line of this number is the first that is wrong or missing, of lines of these texts behind lines of those: the
--- next one is wrong; or it is right, and the first is behind it; or none is left, though the bytes have ended and no
--- line was `.`.
+-- The line of this number is the first that is wrong or missing, of lines of these texts after lines of those: the next
+-- one is wrong; or it is right, and the first is after it; or none is left, though the bytes have ended and no line was
+-- `.`.
 abbrev pub IsFirstWrong : Circuit → Bool → (before texts : List (List ℕ)) → ℕ → Type 0
 IsFirstWrong c ended before [] number = (number ≡ suc (length before)) × (ended ≡ true) × ¬ HaveEnd before
 IsFirstWrong c ended before (text ∷ texts) number =

@@ -240,17 +240,18 @@ impl Checker {
 }
 
 impl LineTaker for Checker {
-    ghost use Rattle.aig_witness.specs.Parts.Witnessing.{HasHeard, Hearing, hear_line};
+    ghost use Rattle.aig_witness.specs.Parts.Witnessing.{HasWitnessState, WitnessState};
+    ghost use Rattle.aig_witness.specs.Parts.Witnessing.{witness_step};
 
-    ghost State = { Hearing };
+    ghost State = { WitnessState };
 
-    ghost step = { hear_line };
+    ghost step = { witness_step };
 
-    ghost IsAt = { HasHeard };
+    ghost IsAt = { HasWitnessState };
 
     ghost counted = { λ c. c.search.steps };
 
-    #[tactic(auto, using(crate::proofs::Hearing::heard_line))]
+    #[tactic(auto, using(crate::proofs::WitnessState::step_taken))]
     fn take(&mut self, text: &[u8]) -> bool {
         self.take_line(text)
     }

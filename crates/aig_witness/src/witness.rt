@@ -1,9 +1,8 @@
 //! A witness file, judged for a circuit.
 ghost use Rattle.std.specs.Prelude.{◌≡◌, ◌≤◌, length};
 ghost use Rattle.aig_circuit.specs.declared.circuit.TheConstants.{LARGEST};
-ghost use Rattle.aig_io.specs.Devices.{CanFail};
 ghost use Rattle.aig_io.specs.Runs.{Read};
-ghost use Rattle.aig_lines.specs.Fed.{IsUnfed};
+ghost use Rattle.aig_lines.specs.Feeders.{IsInitial};
 ghost use Rattle.aig_witness.specs.Confirming.{ConfirmSays};
 ghost use Rattle.aig_witness.specs.Witness.{Nothing, shape_of};
 ghost use Rattle.aig_witness.specs.Parts.Witnessing.{StandsWhen, longest_line};
@@ -11,9 +10,9 @@ ghost use Rattle.aig_witness.specs.Parts.Witnessing.{StandsWhen, longest_line};
 use crate::checker::Checker;
 use crate::verdict::Verdict;
 use aig_checked::Checked;
+use aig_fault::{Kind, Stopped, refused_at};
 use aig_io::Source;
 use aig_lines::{LineFeeder, feed_source};
-use aig_step::SimFault;
 use std::alloc::Global;
 
 /// Takes all bytes of the source, and tells what they come to.
@@ -21,21 +20,20 @@ fn judge_all<R: Source>(
     feeder: &mut LineFeeder,
     checker: &mut Checker,
     source: &mut R,
-) -> Result<Verdict, SimFault>
-    requires unfed { IsUnfed feeder.old }
+) -> Result<Verdict, Stopped>
+    requires initial { IsInitial feeder.old }
     requires limit { feeder.old.limit ≡ longest_line (shape_of checker.old.circuit) }
     requires begun { StandsWhen checker.old Nothing }
     requires few { length checker.old.circuit.bad ≤ LARGEST }
-    requires source { CanFail (R.past source.old) }
     ensures { Read (ConfirmSays checker.old.circuit result)
-        (R.past source.old) (R.past source.new) }
+        (R.history source.old) (R.history source.new) }
 {
     let Ok(good) = feed_source(feeder, checker, source) else {
-        return Err(SimFault::ReadFailed);
+        return Err(Stopped::ReadFailed);
     };
-    // Where a line is due behind the last, it is that which is missing.
+    // Where a line is due after the last, it is that which is missing.
     if !good || !checker.is_whole() {
-        return Err(SimFault::BadWitness(feeder.number()));
+        return Err(refused_at(Kind::BadWitness, feeder.number()));
     }
     Ok(checker.verdict())
 }
@@ -47,14 +45,14 @@ pub fn confirm<R: Source>(
     alloc: Global,
     checked: &Checked,
     source: &mut R,
-) -> Result<Verdict, SimFault>
-    requires { CanFail (R.past source.old) }
-    ensures read { Read (ConfirmSays checked.now result) (R.past source.old) (R.past source.new) }
+) -> Result<Verdict, Stopped>
+    ensures read { Read (ConfirmSays checked.now result) (R.history source.old)
+        (R.history source.new) }
 {
     let mut checker = Checker::new(alloc, checked)?;
     let Ok(mut feeder) = LineFeeder::new(alloc, checker.longest_line()) else {
         drop(checker); // for the proof
-        return Err(SimFault::OutOfMemory);
+        return Err(Stopped::OutOfMemory);
     };
     let judged = judge_all(&mut feeder, &mut checker, source);
     drop(feeder); // for the proof

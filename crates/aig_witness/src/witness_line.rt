@@ -18,7 +18,7 @@ pub(crate) fn is_version(text: &[u8]) -> bool
     text.len() == 1 && text[0] == b'1'
 }
 
-/// Whether a zero stands at the front, with another digit behind it.
+/// Whether a zero stands at the front, with another digit after it.
 fn is_padded(text: &[u8]) -> bool
     ensures { result ≡ is_padded text.now }
 {
@@ -29,7 +29,7 @@ fn is_padded(text: &[u8]) -> bool
 }
 
 /// The number that digits spell, if there are but digits and it is below the bound.
-#[tactic(auto, using(crate::proofs::Hearing::digits_high, crate::proofs::Hearing::spelled_front))]
+#[tactic(auto, using(crate::proofs::WitnessState::digits_high, crate::proofs::WitnessState::spelled_front))]
 fn digits_below(text: &[u8], bound: usize) -> Option<usize>
     requires { bound ≤ LARGEST }
     ensures { result ≡ digits_below bound text.now }

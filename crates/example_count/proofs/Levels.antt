@@ -1,4 +1,4 @@
--- The levels of variables, while gates are taken behind those that they use.
+-- The levels of variables, while gates are taken after those that they use.
 use Rattle.std.proofs.Common.{◌≡◌, ◌≢◌, ◌<◌, ◌≤◌, ◌+◌, ◌⊎◌, ◌∷◌, ◌++◌, ◌∙◌, ℕ, suc, List, [], Option, None, Some, Bool}
 use Rattle.std.proofs.Common.{length, map, max, unwrap_or, get_or, drop, drop-cons, eqb, true, false, true≢false, cond}
 use Rattle.std.proofs.Common.{refl, sym, ap, ap₂, subst, add-one, inl, inr, ⊎_elim, arith, Contains, nat_cmp}

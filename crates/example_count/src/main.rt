@@ -9,7 +9,7 @@ ghost use Rattle.aig_circuit.specs.Wellformed.{IsWellFormed};
 ghost use Rattle.example_count.specs.Depth.{IsDepth};
 
 use aig_binary::{Limits, read_file};
-use aig_core::{Circuit, Lit, OutOfMemory, ReadSource, Steps, VarMap, gate_order, read_all};
+use aig_core::{Circuit, Keep, Lit, OutOfMemory, ReadSource, Steps, VarMap, gate_order, read_all};
 use std::alloc::Global;
 use std::io;
 
@@ -30,7 +30,7 @@ fn depth(alloc: Global, circuit: &Circuit) -> Result<u32, OutOfMemory>
     let mut levels = VarMap::for_circuit(alloc, circuit)?;
     let mut depth: u32 = 0;
     for place in order.list() {
-        // A gate is listed behind those that it uses, so their levels are known.
+        // A gate is listed after those that it uses, so their levels are known.
         let gate = circuit.gates[*place as usize];
         let left = level_of(&levels, gate.left);
         let right = level_of(&levels, gate.right);
@@ -71,7 +71,7 @@ fn print_circuit(rt: &impl Print, alloc: Global, circuit: &Circuit) -> anyhow::R
 fn main(rt: HostRuntime) -> anyhow::Result<()> {
     let alloc = rt.alloc();
     let bytes = read_all(alloc, &mut ReadSource::new(rt.stdin()))?;
-    let checked = read_file(alloc, bytes.as_slice(), Limits::default())?;
+    let checked = read_file(alloc, bytes.as_slice(), Limits::default(), Keep::Circuit)?;
     let printed = print_circuit(&rt, alloc, checked.circuit());
     drop(checked); // for the proof
     printed

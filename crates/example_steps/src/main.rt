@@ -8,7 +8,7 @@ ghost use Rattle.aig_step.specs.TraceText.{character_of, row_text, values_text};
 ghost use Rattle.aig_step.specs.declared.trace.Columns.TheVariants.{Plain};
 
 use aig_binary::{Limits, read_file};
-use aig_core::{Checked, Circuit, Kind, Val};
+use aig_core::{Checked, Circuit, Keep, Kind, Val};
 use aig_step::Simulator;
 use std::alloc::{AllocError, Global};
 
@@ -94,7 +94,7 @@ fn run(rt: &impl Print, alloc: Global, checked: &Checked) -> anyhow::Result<()> 
 
 fn main(rt: HostRuntime) -> anyhow::Result<()> {
     let alloc = rt.alloc();
-    let checked = read_file(alloc, LAMP, Limits::default())?;
+    let checked = read_file(alloc, LAMP, Limits::default(), Keep::Circuit)?;
     let ran = run(&rt, alloc, &checked);
     drop(checked); // for the proof
     ran

@@ -89,7 +89,7 @@ fn binary_texts_come_back(rt: HostRuntime) -> Result<(), Fail> {
     Ok(())
 }
 
-/// Whether writing fails at the call of the sink behind so many of three bytes, which took a
+/// Whether writing fails at the call of the sink after so many of three bytes, which took a
 /// beginning of the text.
 fn fails_behind(alloc: Global, ordered: &Ordered, text: &str, calls: u8) -> Result<bool, Fail> {
     let mut sink = MemorySink::new(alloc, 200, 3, u64::from(calls) + 1)?;

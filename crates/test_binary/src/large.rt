@@ -1,7 +1,7 @@
 //! Large circuits that are converted, undone and unrolled. What comes is in the contracts; that
 //! memory suffices is not.
-use aig_core::{Checked, Steps};
-use aig_order::{to_binary, to_binary_with_map, undo};
+use aig_convert::{to_binary, to_binary_with_map, undo};
+use aig_core::{Checked, Keep, Steps};
 use aig_text::{Limits, read_ascii};
 use aig_unroll::unroll;
 use std::alloc::{AllocError, Global};
@@ -25,7 +25,8 @@ fn chain_text(alloc: Global) -> Result<String, AllocError> {
 
 fn gate_chain(alloc: Global) -> Result<Checked, Fail> {
     let text = chain_text(alloc)?;
-    let read = read_ascii(alloc, text.as_str().as_bytes(), Limits::default());
+    let limits = Limits::default();
+    let read = read_ascii(alloc, text.as_str().as_bytes(), limits, Keep::Circuit);
     drop(text); // for the proof
     Ok(read?)
 }
@@ -48,7 +49,7 @@ fn many_gates_are_put_in_order(rt: HostRuntime) -> Result<(), Fail> {
 #[test]
 fn many_frames_are_unrolled(rt: HostRuntime) -> Result<(), Fail> {
     let text = b"aag 3 1 1 1 1 1\n2\n4 6 1\n6\n7\n6 4 2\n";
-    let checked = read_ascii(rt.alloc(), text, Limits::default())?;
+    let checked = read_ascii(rt.alloc(), text, Limits::default(), Keep::Circuit)?;
     let is_unrolled = unroll(rt.alloc(), &checked, FRAMES).is_ok();
     drop(checked); // for the proof
     assert!(rt; is_unrolled);

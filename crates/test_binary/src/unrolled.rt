@@ -1,4 +1,5 @@
 //! Circuits that are unrolled. What comes is in the contract; that memory suffices is not.
+use aig_core::Keep;
 use aig_text::{Limits, read_ascii};
 use aig_unroll::unroll;
 use std::test::Fail;
@@ -24,7 +25,8 @@ aag 1 0 1 2 0
 #[test]
 fn circuits_are_unrolled(rt: HostRuntime) -> Result<(), Fail> {
     for text in TEXTS.split('#') {
-        let checked = read_ascii(rt.alloc(), text.as_bytes(), Limits::default())?;
+        let limits = Limits::default();
+        let checked = read_ascii(rt.alloc(), text.as_bytes(), limits, Keep::Circuit)?;
         let is_unrolled = unroll(rt.alloc(), &checked, 2).is_ok();
         drop(checked); // for the proof
         assert!(rt; is_unrolled, "{text}");

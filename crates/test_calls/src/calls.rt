@@ -1,8 +1,8 @@
 //! Calls that are given what they need.
 use crate::forms::{numbers_of, symbols_of};
 use aig_core::{
-    Circuit, Listing, Lit, MemorySink, MemorySource, NamedCounts, Names, Output, Symbols, Var,
-    read_all,
+    Circuit, Keep, Listing, Lit, MemorySink, MemorySource, NamedCounts, Names, Output, Symbols,
+    Var, read_all,
 };
 use aig_text::{Limits, read_ascii};
 use std::alloc::Global;
@@ -45,7 +45,7 @@ const ONE_OF_EACH: NamedCounts = NamedCounts {
 };
 
 pub(crate) fn circuit_of(alloc: Global, text: &str) -> Result<Circuit, Fail> {
-    Ok(read_ascii(alloc, text.as_bytes(), Limits::default())?.into_circuit())
+    Ok(read_ascii(alloc, text.as_bytes(), Limits::default(), Keep::Circuit)?.into_circuit())
 }
 
 /// Whether a literal has the variable and the negation of a row, and is negated or not.
@@ -72,7 +72,7 @@ fn literals(rt: HostRuntime) -> Result<(), Fail> {
 
 /// Whether a text is read within the limit 4.
 fn is_read(alloc: Global, text: &str) -> bool {
-    read_ascii(alloc, text.as_bytes(), Limits { max_var: 4 }).is_ok()
+    read_ascii(alloc, text.as_bytes(), Limits { max_var: 4 }, Keep::Circuit).is_ok()
 }
 
 #[test]

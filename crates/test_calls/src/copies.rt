@@ -1,7 +1,7 @@
 //! Circuits that are copied, compared, and made by hand.
 use crate::calls::circuit_of;
 use crate::forms::symbols_of;
-use aig_core::{Checked, Circuit, Listing, MemorySink, Steps, check, same};
+use aig_core::{Checked, Circuit, Keep, Listing, MemorySink, Steps, check, same};
 use aig_text::{Limits, read_ascii, write_ascii};
 use std::alloc::Global;
 use std::test::Fail;
@@ -38,7 +38,7 @@ pub(crate) fn same_as_copy(alloc: Global, first: &Checked, second: &Checked) -> 
 }
 
 fn same_as_copy_of(alloc: Global, first: &Checked, text: &str) -> Result<bool, Fail> {
-    let second = read_ascii(alloc, text.as_bytes(), Limits::default())?;
+    let second = read_ascii(alloc, text.as_bytes(), Limits::default(), Keep::Circuit)?;
     same_as_copy(alloc, first, &second)
 }
 
@@ -74,7 +74,7 @@ pub(crate) fn checked_of(alloc: Global, circuit: Circuit) -> Result<Checked, Fai
         return Err("it is in form")?;
     }
     Ok(
-        check(alloc, circuit, &mut Steps::new())
+        check(alloc, circuit, Keep::Circuit, &mut Steps::new())
             .ok()
             .ok_or("it is well formed")?,
     )
@@ -108,7 +108,8 @@ fn circuits_are_copied(rt: HostRuntime) -> Result<(), Fail> {
 #[test]
 fn copies_and_others(rt: HostRuntime) -> Result<(), Fail> {
     for text in CIRCUITS.split('#') {
-        let first = read_ascii(rt.alloc(), text.as_bytes(), Limits::default())?;
+        let limits = Limits::default();
+        let first = read_ascii(rt.alloc(), text.as_bytes(), limits, Keep::Circuit)?;
         let wrong = told_wrongly(rt.alloc(), &first, text);
         drop(first); // for the proof
         let wrong = wrong?;

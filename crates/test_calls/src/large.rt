@@ -1,7 +1,7 @@
 //! Calls over large circuits. What comes is in the contracts; that memory suffices is not.
 use crate::calls::circuit_of;
 use crate::copies::{checked_of, same_as_copy};
-use aig_core::{Circuit, Gate, LARGEST, Lit, Order, Steps, Var, gate_order};
+use aig_core::{Circuit, Gate, Keep, LARGEST, Lit, Order, Steps, Var, gate_order};
 use aig_text::{Limits, read_ascii};
 use std::alloc::{AllocError, AllocFailed, Global};
 use std::test::Fail;
@@ -70,6 +70,6 @@ fn commented_text(alloc: Global) -> Result<Vec<u8>, AllocError> {
 #[test]
 fn a_large_file_is_read(rt: HostRuntime) -> Result<(), Fail> {
     let text = commented_text(rt.alloc())?;
-    assert!(rt; read_ascii(rt.alloc(), &text, Limits::default()).is_ok());
+    assert!(rt; read_ascii(rt.alloc(), &text, Limits::default(), Keep::Circuit).is_ok());
     Ok(())
 }

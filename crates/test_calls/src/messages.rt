@@ -1,6 +1,6 @@
 //! Messages that the program does not print.
-use aig_core::{CheckFault, DeviceFault, Lit, OutOfMemory, Var};
-use aig_text::{Place, ReadFault, ReadKind, WriteFault};
+use aig_core::{DeviceFault, OutOfMemory};
+use aig_fault::{Kind, Place, Stopped, refused};
 use std::test::Fail;
 
 /// The messages below, in their order.
@@ -10,14 +10,11 @@ gate 7: bad line; out of memory";
 
 #[test]
 fn faults_as_text(rt: HostRuntime) -> Result<(), Fail> {
-    let redefined = CheckFault::Redefined(Var(3));
-    let undefined = CheckFault::Undefined(Lit(9));
-    let memory = CheckFault::OutOfMemory;
-    let gate = ReadFault {
-        place: Place::Gate(7),
-        kind: ReadKind::BadLine,
-    };
-    let written = WriteFault::Device;
+    let redefined = refused(Kind::Redefined, Place::Whole, 3);
+    let undefined = refused(Kind::Undefined, Place::Whole, 9);
+    let memory = Stopped::OutOfMemory;
+    let gate = refused(Kind::BadLine, Place::Gate(7), 0);
+    let written = Stopped::WriteFailed;
     let told = format!(in rt.alloc();
         "{redefined}; {undefined}; {memory}; {DeviceFault}; {written}; {gate}; {OutOfMemory}"
     )?;

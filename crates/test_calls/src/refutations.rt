@@ -1,7 +1,8 @@
 //! Refutations that are accepted and refused: that they are accepted no contract says.
 use crate::calls::circuit_of;
 use aig_core::{Circuit, MemorySource};
-use aig_refute::{RefutationFault, check_refutation};
+use aig_fault::Stopped;
+use aig_refute::check_refutation;
 use std::alloc::Global;
 use std::test::Fail;
 
@@ -37,7 +38,7 @@ fn check_in_pieces(
     circuit: &Circuit,
     refutation: &str,
     fails_at: u64,
-) -> Option<Result<(), RefutationFault>> {
+) -> Option<Result<(), Stopped>> {
     let bytes = Vec::from_slice(alloc, refutation.as_bytes()).ok()?;
     if bytes.len() > 1000 {
         return None;
@@ -50,7 +51,7 @@ fn check_in_pieces(
 fn comes_to(alloc: Global, circuit: &Circuit, refutation: &str, fails_at: u64, said: &str) -> bool {
     match check_in_pieces(alloc, circuit, refutation, fails_at) {
         Some(Ok(())) => said == "refuted",
-        Some(Err(fault)) => match format!(in alloc; "{fault}") {
+        Some(Err(stopped)) => match format!(in alloc; "{stopped}") {
             Ok(told) => told.as_str() == said,
             Err(_) => false,
         },

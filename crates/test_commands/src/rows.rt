@@ -276,6 +276,12 @@ aigunroll --frames 2 --answer a m x.gz => compressed output is not supported;\
 aigunroll --frames 2 --bad 1 --cnf - x.gz => compressed output is not supported;\
 aigtoaig --help => help;\
 aigtoaig -h => help;\
+help => help;\
+help aigtoaig => help;\
+help aigsim => help;\
+help aigunroll => help;\
+help help => help;\
+-h help => help;\
 --help => help;\
 -h => help;\
 aigtoaig --keep-map --ascii --help => help;\
@@ -307,6 +313,7 @@ aigtoaig --Help => words;\
 aigtoaig -x => words;\
 --version => version;\
 -V => version;\
+-V help => version;\
 aigtoaig --version => version;\
 aigtoaig -V => version;\
 aigtoaig -Vx a => version;\
@@ -434,10 +441,14 @@ aigsim --refutation p m => words;\
 aigsim --invariant i m => words;\
 aigunroll --frames 2 a b c => words;\
 aigunroll --frames 2 - - - => words;\
-help => words;\
-help aigtoaig => words;\
-help aigsim => words;\
-help aigunroll => words;\
+help aigsom => words;\
+help aigtoaig aigsim => words;\
+help --version => words;\
+help -h => words;\
+Help => words;\
+-x help => words;\
+aigtoaig -a => words;\
+aigsim m -r => words;\
 aigtoai => words;\
 aigsi => words;\
 aigsimm m => words;\
@@ -686,12 +697,7 @@ fn longest_shown(alloc: Global, line: &str) -> Result<usize, Fail> {
 
 #[test]
 fn help_fits_a_terminal(rt: HostRuntime) -> Result<(), Fail> {
-    let lines = [
-        "--help",
-        "aigtoaig --help",
-        "aigsim --help",
-        "aigunroll --help",
-    ];
+    let lines = ["help", "help aigtoaig", "help aigsim", "help aigunroll"];
     for line in lines.iter() {
         let longest = longest_shown(rt.alloc(), line)?;
         assert!(rt; longest <= 80, "{line}");

@@ -97,7 +97,7 @@ fn put_witness(alloc: Global, text: &mut Vec<u8>) -> Result<(), AllocError> {
 }
 
 fn source_of(text: Vec<u8>) -> Option<MemorySource>
-    ensures { IfSome result (λ source. source.past.failures ≡ 0) }
+    ensures { IfSome result (λ source. source.history.failures ≡ 0) }
 {
     if text.len() > 100_000_000 {
         return None;
@@ -106,7 +106,7 @@ fn source_of(text: Vec<u8>) -> Option<MemorySource>
 }
 
 fn circuit(alloc: Global) -> Option<MemorySource>
-    ensures { IfSome result (λ source. source.past.failures ≡ 0) }
+    ensures { IfSome result (λ source. source.history.failures ≡ 0) }
 {
     let mut text = Vec::new(alloc);
     put_circuit(alloc, &mut text).ok()?;

@@ -4,7 +4,7 @@ use std::alloc::{AllocError, Global};
 use std::rt::Files;
 use std::test::Fail;
 
-/// Texts, with a `#` between them. What is written is the text itself, or stands behind `=`. The
+/// Texts, with a `#` between them. What is written is the text itself, or stands after `=`. The
 /// words are those of the conversion to ASCII, or stand before `$`.
 const TEXTS: &str = "\
 aiger aigtoaig --keep-map$aag 5 2 0 1 3

@@ -260,7 +260,7 @@ fn traces_in_pieces(rt: HostRuntime) {
     }
 }
 
-/// At a bad line, what was written before it stands, and nothing is read behind the bytes that it
+/// At a bad line, what was written before it stands, and nothing is read after the bytes that it
 /// came with. Of a batch nothing was written.
 #[test]
 fn bad_lines(rt: HostRuntime) {

@@ -86,7 +86,7 @@ fn unconfirmed(rt: HostRuntime) {
     }
 }
 
-/// At a wrong line nothing is written, and nothing is read behind the bytes that its end came with.
+/// At a wrong line nothing is written, and nothing is read after the bytes that its end came with.
 #[test]
 fn wrong_lines(rt: HostRuntime) {
     let mut devices = JUDGED;

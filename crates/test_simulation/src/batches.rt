@@ -3,7 +3,7 @@ ghost use Rattle.std.specs.Prelude.{◌≡◌, true};
 ghost use Rattle.std.specs.List.{All};
 ghost use Rattle.aig_sim.specs.Runs.{IsRunOf};
 
-use aig_core::{Checked, Listing, Val};
+use aig_core::{Checked, Keep, Listing, Val};
 use aig_sim::{Run, simulate_batch};
 use aig_text::{Limits, read_ascii};
 use std::alloc::Global;
@@ -57,7 +57,8 @@ fn first_refused(alloc: Global, circuit: &Checked, counts: &[usize]) -> Option<u
 
 #[test]
 fn batches(rt: HostRuntime) -> Result<(), Fail> {
-    let circuit = read_ascii(rt.alloc(), REGISTER.as_bytes(), Limits::default())?;
+    let limits = Limits::default();
+    let circuit = read_ascii(rt.alloc(), REGISTER.as_bytes(), limits, Keep::Circuit)?;
     let refused = first_refused(rt.alloc(), &circuit, &[0, 1, 255, 256, 257, 600, 1_000]);
     drop(circuit); // for the proof
     assert!(rt; refused.is_none(), "{} runs", refused.unwrap_or(0));

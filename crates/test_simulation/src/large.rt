@@ -2,7 +2,7 @@
 ghost use Rattle.std.specs.Prelude.{◌≡◌, true};
 ghost use Rattle.aig_sim.specs.Runs.{IsRunOf};
 
-use aig_core::{Checked, Listing, Val};
+use aig_core::{Checked, Keep, Listing, Val};
 use aig_sim::{Run, Simulator, simulate_batch};
 use aig_text::{Limits, read_ascii};
 use std::alloc::{AllocError, Global};
@@ -32,7 +32,8 @@ fn wide_text(alloc: Global) -> Result<String, AllocError> {
 
 fn wide(alloc: Global) -> Result<Checked, Fail> {
     let text = wide_text(alloc)?;
-    let read = read_ascii(alloc, text.as_str().as_bytes(), Limits::default());
+    let limits = Limits::default();
+    let read = read_ascii(alloc, text.as_str().as_bytes(), limits, Keep::Circuit);
     drop(text); // for the proof
     Ok(read?)
 }

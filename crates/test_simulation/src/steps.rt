@@ -1,6 +1,6 @@
 //! Steps of a simulator.
 use crate::values::value_of;
-use aig_core::Val;
+use aig_core::{Keep, Val};
 use aig_sim::Simulator;
 use aig_text::{Limits, read_ascii};
 use std::alloc::{AllocError, Global};
@@ -79,7 +79,7 @@ fn shows(simulator: &Simulator, row: &str) -> bool {
 }
 
 fn simulator_of(alloc: Global, text: &str) -> Option<Simulator> {
-    let circuit = read_ascii(alloc, text.as_bytes(), Limits::default()).ok()?;
+    let circuit = read_ascii(alloc, text.as_bytes(), Limits::default(), Keep::Circuit).ok()?;
     let made = Simulator::new(alloc, &circuit);
     drop(circuit); // for the proof
     made.ok()

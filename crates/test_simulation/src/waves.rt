@@ -1,6 +1,6 @@
 //! The dump of a trace. What comes is in the contracts; that memory suffices is not. What dumps
 //! show of circuits stands in `tests/rows/waves.sh`.
-use aig_core::{Checked, MemorySink, MemorySource};
+use aig_core::{Checked, Keep, MemorySink, MemorySource};
 use aig_sim::{Columns, simulate};
 use aig_text::{Limits, read_ascii};
 use aig_wave::{WaveMemory, WaveSink};
@@ -42,7 +42,8 @@ fn is_dumped(alloc: Global, circuit: &Checked, dump: &[u8]) -> Option<bool> {
 
 #[test]
 fn a_trace_is_dumped(rt: HostRuntime) -> Result<(), Fail> {
-    let circuit = read_ascii(rt.alloc(), TOGGLE.as_bytes(), Limits::default())?;
+    let limits = Limits::default();
+    let circuit = read_ascii(rt.alloc(), TOGGLE.as_bytes(), limits, Keep::Circuit)?;
     let dumped = is_dumped(rt.alloc(), &circuit, DUMP);
     drop(circuit); // for the proof
     assert!(rt; dumped == Some(true));

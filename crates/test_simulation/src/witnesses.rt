@@ -1,8 +1,8 @@
 //! Witness files, and what they come to.
 ghost use Rattle.std.specs.Prelude.{◌≡◌, IfSome};
 
-use aig_core::{Checked, MemorySource};
-use aig_sim::{SimFault, Verdict, confirm};
+use aig_core::{Checked, Keep, MemorySource};
+use aig_sim::{Stopped, Verdict, confirm};
 use aig_text::{Limits, read_ascii};
 use std::alloc::{AllocError, Global};
 use std::test::Fail;
@@ -67,7 +67,7 @@ fn witness_bytes(alloc: Global, text: &str) -> Result<Vec<u8>, AllocError> {
     Ok(bytes)
 }
 
-fn outcome_words(alloc: Global, outcome: &Result<Verdict, SimFault>) -> Result<String, AllocError> {
+fn outcome_words(alloc: Global, outcome: &Result<Verdict, Stopped>) -> Result<String, AllocError> {
     match outcome {
         Ok(Verdict::Confirmed(at)) => format!(in alloc; "confirmed {at}"),
         Ok(Verdict::NotConfirmed) => format!(in alloc; "not confirmed"),
@@ -77,7 +77,7 @@ fn outcome_words(alloc: Global, outcome: &Result<Verdict, SimFault>) -> Result<S
 
 /// A source that gives a witness file in pieces of three bytes, and fails at this call.
 fn source_of(alloc: Global, witness: &str, fails_at: u64) -> Option<MemorySource>
-    ensures { IfSome result (λ source. source.past.failures ≡ 0) }
+    ensures { IfSome result (λ source. source.history.failures ≡ 0) }
 {
     let bytes = witness_bytes(alloc, witness).ok()?;
     if bytes.len() > 1000 {
@@ -98,7 +98,7 @@ fn comes_to(alloc: Global, circuit: &Checked, witness: &str, wanted: &str) -> bo
     }
 }
 
-fn fault_of(alloc: Global, circuit: &Checked, witness: &str, fails_at: u64) -> Option<SimFault> {
+fn fault_of(alloc: Global, circuit: &Checked, witness: &str, fails_at: u64) -> Option<Stopped> {
     let mut source = source_of(alloc, witness, fails_at)?;
     confirm(alloc, circuit, &mut source).err()
 }
@@ -117,7 +117,8 @@ fn first_wrong_row<'t>(alloc: Global, circuit: &Checked, rows: &'t str) -> Optio
 fn witnesses(rt: HostRuntime) -> Result<(), Fail> {
     for table in WITNESSES.split('#') {
         let (text, rows) = table.split_once('=').unwrap_or((table, "no rows"));
-        let circuit = read_ascii(rt.alloc(), text.as_bytes(), Limits::default())?;
+        let limits = Limits::default();
+        let circuit = read_ascii(rt.alloc(), text.as_bytes(), limits, Keep::Circuit)?;
         let wrong = first_wrong_row(rt.alloc(), &circuit, rows);
         drop(circuit); // for the proof
         assert!(rt; wrong.is_none(), "{text}: {}", wrong.unwrap_or(""));
@@ -128,9 +129,9 @@ fn witnesses(rt: HostRuntime) -> Result<(), Fail> {
 #[test]
 fn a_source_that_fails(rt: HostRuntime) -> Result<(), Fail> {
     let text = b"aag 1 0 1 0 0 1\n2 3\n2\n";
-    let circuit = read_ascii(rt.alloc(), text, Limits::default())?;
+    let circuit = read_ascii(rt.alloc(), text, Limits::default(), Keep::Circuit)?;
     let fault = fault_of(rt.alloc(), &circuit, "1/b0/0///./", 3);
     drop(circuit); // for the proof
-    assert!(rt; fault == Some(SimFault::ReadFailed));
+    assert!(rt; fault == Some(Stopped::ReadFailed));
     Ok(())
 }

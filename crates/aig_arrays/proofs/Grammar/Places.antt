@@ -11,7 +11,7 @@ use Rattle.aig_text.specs.declared.section.Section.{Section}
 use Rattle.aig_text.specs.declared.section.Section.TheVariants.{Inputs, Latches, Outputs, Bad, Constraints}
 use Rattle.aig_text.specs.declared.section.Section.TheVariants.{JusticeSizes, JusticeLiterals, Fairness, Gates}
 use Rattle.aig_text.proofs.Grammar.Headers.{HasCounts}
-use Rattle.aig_arrays.specs.Told.{header_of, sizes_in}
+use Rattle.aig_arrays.specs.Decoded.{header_of, sizes_in}
 use Rattle.aig_arrays.specs.Words.{Counts, section_words, words_in}
 
 module _ {X : Type 0} (row : X → List ℕ) where

@@ -8,10 +8,10 @@ use Rattle.aig_text.specs.Sections.{sections, in_ascii}
 use Rattle.aig_text.specs.declared.header_line.Header.{Header}
 use Rattle.aig_text.specs.declared.section.Section.{Section}
 use Rattle.aig_text.proofs.Grammar.Sections.{AllApart, AllEmpty, AllFit, AreApart, rows_by, tells_rows, with_all}
-use Rattle.aig_arrays.specs.Told.{Ahead, rows_told, section_told, sections_told}
+use Rattle.aig_arrays.specs.Decoded.{Ahead, rows_decoded, section_decoded, sections_decoded}
 use Rattle.aig_arrays.specs.Words.{words_in}
-use Rattle.aig_arrays.specs.declared.fault.ArrayFault.{ArrayFault}
-use Rattle.aig_arrays.proofs.Grammar.Rows.{AreRowsFirst, ahead, rows_are_told, rows_found}
+use Rattle.aig_fault.specs.declared.stopped.Stopped.{Stopped}
+use Rattle.aig_arrays.proofs.Grammar.Rows.{AreRowsFirst, ahead, rows_are_decoded, rows_found}
 
 -- words that hold the rows of a circuit in these sections, and what they make of another one
 pub record AreSectionsFirst (h : Header) (ss : List Section) (c d : Circuit) (words rest : List ℕ) : Type 0 where
@@ -40,31 +40,31 @@ module _ (h : Header) where
   abbrev count_in : Section → Circuit → ℕ
   count_in s c = (in_ascii s).count h c
 
-  abbrev rows_of_section : Section → Circuit → Ahead → Result (List (List ℕ) × Ahead) ArrayFault
+  abbrev rows_of_section : Section → Circuit → Ahead → Result (List (List ℕ) × Ahead) Stopped
   rows_of_section s c a =
-      rows_told (in_ascii s).form ((in_ascii s).bound h) (start_of s c) (count_in s c) a
+      rows_decoded (in_ascii s).form ((in_ascii s).bound h) (start_of s c) (count_in s c) a
 
-  abbrev after_rows : Section → Circuit → List (List ℕ) × Ahead → Result (Circuit × Ahead) ArrayFault
+  abbrev after_rows : Section → Circuit → List (List ℕ) × Ahead → Result (Circuit × Ahead) Stopped
   after_rows s c found = Ok ((in_ascii s).with_rows h found.0 c, found.1)
 
-  abbrev then_sections : List Section → Circuit × Ahead → Result (Circuit × Ahead) ArrayFault
-  then_sections ss found = sections_told h ss found.0 found.1
+  abbrev then_sections : List Section → Circuit × Ahead → Result (Circuit × Ahead) Stopped
+  then_sections ss found = sections_decoded h ss found.0 found.1
 
   abbrev AreRowsOf : Section → Circuit → List (List ℕ) → List ℕ → List ℕ → Type 0
   AreRowsOf s c rows words rest =
       AreRowsFirst (in_ascii s).form ((in_ascii s).bound h) (start_of s c) (count_in s c) words rows rest
 
   sections_found : (ss : List Section) (c : Circuit) (a : Ahead) (p : Circuit × Ahead) → AllApart in_ascii h ss
-      → AllEmpty in_ascii h c ss → sections_told h ss c a ≡ Ok p
+      → AllEmpty in_ascii h c ss → sections_decoded h ss c a ≡ Ok p
       → AreSectionsFirst h ss c p.0 a.words p.1.words
-  unfolding sections_told
+  unfolding sections_decoded
   sections_found [] c a p apart empty is =
       subst (λ (q : Circuit × Ahead). AreSectionsFirst h [] c q.0 a.words q.1.words)
-      (ok_same {E = ArrayFault} (c, a) p is) (record { are = refl; fit = tt; circuit = refl })
+      (ok_same {E = Stopped} (c, a) p is) (record { are = refl; fit = tt; circuit = refl })
   sections_found (s ∷ ss) c a p apart empty is =
-      let f = both_ok (section_told (in_ascii s) h c a) (then_sections ss) p is in
+      let f = both_ok (section_decoded (in_ascii s) h c a) (then_sections ss) p is in
       let r = both_ok (rows_of_section s c a) (after_rows s c) f.0 f.1 in
-      let e : ((in_ascii s).with_rows h r.0.0 c, r.0.1) ≡ f.0 = ok_same {E = ArrayFault} _ _ r.2 in
+      let e : ((in_ascii s).with_rows h r.0.0 c, r.0.1) ≡ f.0 = ok_same {E = Stopped} _ _ r.2 in
       let rows =
       rows_found (in_ascii s).form ((in_ascii s).bound h) (start_of s c) (count_in s c) a r.0 r.1 in
       let next : Circuit = (in_ascii s).with_rows h r.0.0 c in
@@ -84,25 +84,25 @@ module _ (h : Header) where
         circuit = both.1.circuit;
       }
 
-  -- and such words are told
-  pub sections_are_told : (d : Circuit) (ss : List Section) (c : Circuit) (at : ℕ) (rest : List ℕ)
+  -- and such words are decoded
+  pub sections_are_decoded : (d : Circuit) (ss : List Section) (c : Circuit) (at : ℕ) (rest : List ℕ)
       → AllFit in_ascii h (rows_by in_ascii d) ss c
       → (k : ℕ)
-      × (sections_told h ss c (ahead at (words_in ss d ++ rest))
+      × (sections_decoded h ss c (ahead at (words_in ss d ++ rest))
       ≡ Ok (with_all in_ascii h (rows_by in_ascii d) ss c, ahead k rest))
-  unfolding sections_told
-  sections_are_told d [] c at rest fit = (at, refl)
-  sections_are_told d (s ∷ ss) c at rest fit =
+  unfolding sections_decoded
+  sections_are_decoded d [] c at rest fit = (at, refl)
+  sections_are_decoded d (s ∷ ss) c at rest fit =
       let rows = rows_by in_ascii d s in
       let r =
-      rows_are_told (in_ascii s).form ((in_ascii s).bound h) (start_of s c) at (words_in ss d ++ rest) rows
+      rows_are_decoded (in_ascii s).form ((in_ascii s).bound h) (start_of s c) at (words_in ss d ++ rest) rows
       fit.0.good in
-      let o = sections_are_told d ss ((in_ascii s).with_rows h rows c) r.0 rest fit.1 in
+      let o = sections_are_decoded d ss ((in_ascii s).with_rows h rows c) r.0 rest fit.1 in
       (o.0, rw (append_assoc (concat rows) (words_in ss d) rest, ← fit.0.counted, r.1, o.1) refl)
 
   apart : AllApart in_ascii h sections
   apart = search rules
 
-  pub all_found : (a : Ahead) (p : Circuit × Ahead) → sections_told h sections (empty_circuit h.max_var) a ≡ Ok p
+  pub all_found : (a : Ahead) (p : Circuit × Ahead) → sections_decoded h sections (empty_circuit h.max_var) a ≡ Ok p
       → AreSectionsFirst h sections (empty_circuit h.max_var) p.0 a.words p.1.words
   all_found a p is = sections_found sections (empty_circuit h.max_var) a p apart (search rules) is

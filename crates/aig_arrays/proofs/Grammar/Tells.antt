@@ -21,15 +21,15 @@ use Rattle.aig_text.proofs.Canonical.{sizes_are_small}
 use Rattle.aig_text.proofs.Grammar.Sections.{bare, gates_up_to, inputs_up_to, latches_up_to, literals_again, own_rows}
 use Rattle.aig_text.proofs.Grammar.Sections.{rows_by, with_all}
 use Rattle.aig_text.proofs.Grammar.Symbols.{IsPlaced, apart_new}
-use Rattle.aig_arrays.specs.Told.{comment_in, counts_fit, entries_told, header_of, sections_told, sizes_in}
-use Rattle.aig_arrays.specs.Told.{symbols_told, told, unless_broken}
+use Rattle.aig_arrays.specs.Decoded.{comment_in, counts_fit, entries_decoded, header_of, sections_decoded, sizes_in}
+use Rattle.aig_arrays.specs.Decoded.{decoded, symbols_decoded, unless_broken}
 use Rattle.aig_arrays.specs.Words.{circuit_bytes, circuit_words, comment_of, counts_of, names_of}
 use Rattle.aig_arrays.specs.Words.{symbol_words}
 use Rattle.aig_arrays.proofs.Grammar.Rows.{ahead}
 use Rattle.aig_arrays.proofs.Grammar.Places.{sizes_found}
 use Rattle.aig_arrays.proofs.Written.{bytes_counted, words_counted}
-use Rattle.aig_arrays.proofs.Grammar.Sections.{sections_are_told}
-use Rattle.aig_arrays.proofs.Grammar.Symbols.{symbols_are_told, with_symbols}
+use Rattle.aig_arrays.proofs.Grammar.Sections.{sections_are_decoded}
+use Rattle.aig_arrays.proofs.Grammar.Symbols.{symbols_are_decoded, with_symbols}
 
 small_all : (ks : List ℕ) → AllByRecursion (λ k. k ≤ largest_index) ks
     → list_all (λ k. nat_le k largest_index) ks ≡ true
@@ -102,25 +102,25 @@ module _ (c : Circuit) (good : IsWellFormed c) where
   pub fits : counts_fit (counts_of c) (circuit_words c) (circuit_bytes c) ≡ true
   fits = search (rules, all_in_range, comment_counted, words_counted c, bytes_counted c, sizes_summed, eq-eqb)
 
-  told_sections : (k : ℕ)
-      × (sections_told (header_of (counts_of c)) sections (empty_circuit c.max_var) (ahead 0 (circuit_words c)) ≡ Ok
+  decoded_sections : (k : ℕ)
+      × (sections_decoded (header_of (counts_of c)) sections (empty_circuit c.max_var) (ahead 0 (circuit_words c)) ≡ Ok
       (bare c, ahead k (symbol_words 0 c.symbols)))
-  told_sections =
+  decoded_sections =
       let s =
-      sections_are_told (header_of (counts_of c)) c sections (empty_circuit c.max_var) 0 (symbol_words 0 c.symbols)
+      sections_are_decoded (header_of (counts_of c)) c sections (empty_circuit c.max_var) 0 (symbol_words 0 c.symbols)
       (own_rows largest_index c form small) in
       (s.0, s.1 ∙ ap (λ (d : Circuit). Ok (d, ahead s.0 (symbol_words 0 c.symbols))) (rows_tell c form))
 
-  told_symbols : (k : ℕ)
-      → symbols_told (header_of (counts_of c)) (names_of c) nothing_named 0 (length c.symbols)
+  decoded_symbols : (k : ℕ)
+      → symbols_decoded (header_of (counts_of c)) (names_of c) nothing_named 0 (length c.symbols)
       (ahead k (symbol_words 0 c.symbols)) (bare c)
       ≡ Ok (with_symbols (bare c) c.symbols, 0 + length (names_of c))
-  told_symbols k =
+  decoded_symbols k =
       let h = header_of (counts_of c) in
       let new = apart_new h c.symbols (own_placed c c.symbols good.symbols.positions) good.symbols.apart in
-      ap (λ (ws : List ℕ). symbols_told h (names_of c) nothing_named 0 (length c.symbols) (ahead k ws) (bare c))
+      ap (λ (ws : List ℕ). symbols_decoded h (names_of c) nothing_named 0 (length c.symbols) (ahead k ws) (bare c))
       (sym (append-nil (symbol_words 0 c.symbols)))
-      ∙ symbols_are_told h (names_of c) [] nothing_named 0 k [] c.symbols (bare c) (omega arith)
+      ∙ symbols_are_decoded h (names_of c) [] nothing_named 0 k [] c.symbols (bare c) (omega arith)
       (sym (append-nil (names_of c))) new good.symbols.lines
 
   names_first : take (length (names_of c)) (circuit_bytes c) ≡ names_of c
@@ -133,12 +133,12 @@ module _ (c : Circuit) (good : IsWellFormed c) where
   all_named : ((0 + length (names_of c)) == length (names_of c)) ≡ true
   all_named = eq-eqb (0 + length (names_of c)) (length (names_of c)) (omega arith)
 
-  entries : entries_told (counts_of c) (circuit_words c) (circuit_bytes c) ≡ Ok c
-  unfolding entries_told
+  entries : entries_decoded (counts_of c) (circuit_words c) (circuit_bytes c) ≡ Ok c
+  unfolding entries_decoded
   entries =
-      rw (fits, told_sections.1, names_first, told_symbols told_sections.0, all_named)
+      rw (fits, decoded_sections.1, names_first, decoded_symbols decoded_sections.0, all_named)
       (ap (λ (o : Option (List ℕ)). Ok (record c { comment = o })) comment_last)
 
-  pub is_told : told (counts_of c) (circuit_words c) (circuit_bytes c) ≡ Ok c
-  unfolding told
-  is_told = rw entries (ap (unless_broken c) (faultless c good))
+  pub is_decoded : decoded (counts_of c) (circuit_words c) (circuit_bytes c) ≡ Ok c
+  unfolding decoded
+  is_decoded = rw entries (ap (unless_broken c) (faultless c good))

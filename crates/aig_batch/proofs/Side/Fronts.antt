@@ -4,7 +4,7 @@ use Rattle.std.proofs.Common.{subst, false, true, zero, suc, length, get_or, tak
 use Rattle.std.specs.List.{AllZip, flat_map}
 use Rattle.std.proofs.lemmas.List.Concat.{flat_map-append}
 use Rattle.std.proofs.lemmas.List.{take_all, take_more}
-use Rattle.aig_io.specs.Output.{Out, Put}
+use Rattle.aig_io.specs.Output.{Appended, Out}
 use Rattle.aig_io.proofs.Puts.{put_twice}
 use Rattle.aig_circuit.specs.declared.circuit.Circuit.{Circuit}
 use Rattle.aig_circuit.specs.declared.value.Val.{Val}
@@ -21,7 +21,8 @@ use Rattle.aig_lanes.specs.Parts.Sheets.{BytesText, text_in}
 use Rattle.aig_lanes.proofs.Benches.ShownTexts.{text_of_kept}
 use Rattle.aig_trace.specs.Parts.Progress.{Does, Goes, Point, begin_of}
 use Rattle.aig_trace.proofs.RunTexts.{goes_on, goes_over}
-use Rattle.aig_batch.specs.Parts.RunsRead.{PutRuns, entries_of_group, entries_of_groups, entries_of_run, text_of_group}
+use Rattle.aig_batch.specs.Parts.RunsRead.{AppendedRuns, entries_of_group, entries_of_groups, entries_of_run}
+use Rattle.aig_batch.specs.Parts.RunsRead.{text_of_group}
 use Rattle.aig_batch.specs.Parts.RunsRead.{kept_texts, no_run}
 
 -- a trace is a way
@@ -75,9 +76,9 @@ goes_runs c columns (run ∷ runs) (text ∷ texts) each =
 
 -- the text for one more group
 pub put_more : {W : Type 0} (c : Circuit) (columns : Columns) (groups : List (List Run)) (runs : List Run)
-    (texts : List (List ℕ)) (before between after : Out W) → PutRuns c columns groups before between
-    → AllZip (IsTextOf columns c) runs texts → Put between after (text_of_group texts)
-    → PutRuns c columns (groups ++ runs ∷ []) before after
+    (texts : List (List ℕ)) (before between after : Out W) → AppendedRuns c columns groups before between
+    → AllZip (IsTextOf columns c) runs texts → Appended between after (text_of_group texts)
+    → AppendedRuns c columns (groups ++ runs ∷ []) before after
 put_more c columns groups runs texts before between after so_far each put = record {
   text = so_far.text ++ text_of_group texts;
   put = put_twice before between after so_far.text (text_of_group texts) so_far.put put;

@@ -23,7 +23,7 @@ use Rattle.aig_lanes.specs.Parts.Vectors.{AreVectors, said, vectors_in}
 use Rattle.aig_lanes.proofs.Side.Sheets.{more_vectors, vectors_push}
 use Rattle.aig_batch.specs.Parts.RunsRead.{SaysEntries, entries_of_run, HasNoBadLine}
 
--- lines behind lines
+-- lines after lines
 pub says_then : (inputs : ℕ) (bytes mid rest : List ℕ) (es fs : List Entry) → SaysEntries inputs bytes es mid
     → SaysEntries inputs mid fs rest → SaysEntries inputs bytes (es ++ fs) rest
 says_then inputs bytes mid rest es fs p q = record {
@@ -170,7 +170,7 @@ before_good : (number : ℕ) (o : Option Entry) (rest : Stimulus) → (before_re
 before_good number None rest is = cc
 before_good number (Some e) rest is = ((e, refl), is)
 
--- the first line says something, and none behind it is bad
+-- the first line says something, and none after it is bad
 pub good_line : (inputs : ℕ) (bytes : List ℕ) (next : ℕ) → IsFirstByte (is_byte 10) bytes (Some next)
     → HasNoBadLine inputs bytes
     → ((e : Entry) × (entry_in inputs (without_return (take next bytes)) ≡ Some e))
@@ -225,7 +225,7 @@ begins_so (b ∷ bs) (suc k) is =
     let text = without_return (b ∷ take k bs) in
     begins b (take k bs) (length text) (ap length is) (sym (text_in_front (b ∷ take k bs)) ∙ is)
 
--- where the first line ends no run, its line feed is behind the inputs
+-- where the first line ends no run, its line feed is after the inputs
 pub step_ends : (inputs : ℕ) (bytes : List ℕ) → HasNoBadLine inputs bytes → inputs < length bytes
     → slice_index bytes inputs ≡ 10 → slice_index bytes 0 ≢ 46 → IsFirstByte (is_byte 10) bytes (Some inputs)
 step_ends inputs bytes good there at other =

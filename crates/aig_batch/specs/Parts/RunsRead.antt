@@ -3,7 +3,7 @@ use Rattle.std.specs.Prelude.{◌≡◌, ◌++◌, ℕ, zero, suc, List, [], ◌
 use Rattle.std.specs.Prelude.{slice_index_or, true}
 use Rattle.std.specs.List.{flat_map}
 use Rattle.aig_circuit.specs.declared.circuit.Circuit.{Circuit}
-use Rattle.aig_io.specs.Output.{Out, Put}
+use Rattle.aig_io.specs.Output.{Appended, Out}
 use Rattle.aig_lanes.specs.declared.run.Run.{Run}
 use Rattle.aig_lanes.specs.declared.lane_columns.LaneColumns.{LaneColumns}
 use Rattle.aig_step.specs.declared.trace.Columns.{Columns}
@@ -48,8 +48,8 @@ kept_texts shown runs (suc lane) sheet =
     ∷ []
 
 -- the text for groups of runs was put
-pub record PutRuns {W : Type 0} (c : Circuit) (columns : Columns) (groups : List (List Run)) (before after : Out W)
+pub record AppendedRuns {W : Type 0} (c : Circuit) (columns : Columns) (groups : List (List Run)) (before after : Out W)
     : Type 0 where
   pub text : List ℕ
-  pub put : Put before after text
+  pub put : Appended before after text
   pub goes : Goes c columns (begin_of c) (entries_of_groups groups) (begin_of c) text

@@ -26,7 +26,7 @@ put_first b (c ∷ d) high byte h = (high, byte, h)
 pub one_value : (b : ℕ) → b < 128 → value_of_groups (b ∷ []) ≡ b
 one_value b h = omega arith
 
--- what is behind a group with its top bit set
+-- what is after a group with its top bit set
 abbrev pub put_low : ℕ → Option (ℕ × List ℕ) → Option (ℕ × List ℕ)
 put_low b r = r >>= λ others. Some (b % 128 + 128 * others.0, others.1)
 

@@ -15,8 +15,8 @@ use Rattle.aig_lines.specs.Lines.{Line, Ahead, ahead, lines_of, bytes_of}
 use Rattle.aig_lines.specs.Laws.{IsOneLine, EndInLineFeeds}
 use Rattle.aig_lines.proofs.Cutting.{pieces}
 use Rattle.aig_lines.proofs.Pieces.{lines_again, first_ended, ended_before, bytes_joined}
-use Rattle.aig_rows.specs.declared.fault.ReadKind.TheVariants as kinds
-use Rattle.aig_rows.specs.declared.fault.ReadFault.{ReadFault}
+use Rattle.aig_fault.specs.declared.kind.Kind.TheVariants as kinds
+use Rattle.aig_fault.specs.declared.stopped.Stopped.{Stopped}
 use Rattle.aig_rows.specs.Rows.{IsRowLine, Row}
 use Rattle.aig_rows.specs.Reading.{◌>>=◌, at_line}
 use Rattle.aig_rows.proofs.Steps.{both_ok, ok_at_line}
@@ -35,7 +35,7 @@ use Rattle.aig_binary.specs.BinaryReading.{filled, gates_at, with_definitions, b
 use Rattle.aig_binary.proofs.Grammar.Lines.{numbered_circuit, AreGates, gates_are, literals_are, sizes_within}
 use Rattle.aig_binary.proofs.Grammar.Lines.{counts_are, order_is, tells, apart}
 
--- lines that tell rows, with gates and the lines of a tail behind them
+-- lines that tell rows, with gates and the lines of a tail after them
 pub record TellsNumbers (h : Header) (ls : List Line) (c : Circuit) : Type 0 where
   pub numbered : Circuit
   pub gates : List Gate
@@ -54,21 +54,21 @@ pub record TellsBinary (limit : ℕ) (ls : List Line) (c : Circuit) : Type 0 whe
   pub full : header.max_var ≡ header.inputs + header.latches + header.gates
   pub numbers : TellsNumbers header others c
 
-abbrev then_tail : Header → Circuit × Ahead → List Gate × List ℕ → Result Circuit ReadFault
+abbrev then_tail : Header → Circuit × Ahead → List Gate × List ℕ → Result Circuit Stopped
 then_tail h numbered gates =
     tail_at h nothing_named (with_definitions h gates.0 numbered.0) numbered.1.number (lines_of gates.1)
 
-abbrev then_gates : Header → Circuit × Ahead → Result Circuit ReadFault
+abbrev then_gates : Header → Circuit × Ahead → Result Circuit Stopped
 then_gates h numbered =
     gates_at (1 + h.inputs + h.latches) 1 h.gates (bytes_of numbered.1.lines) >>= then_tail h numbered
 
-abbrev numbers_at : Header → Ahead → Result Circuit ReadFault
+abbrev numbers_at : Header → Ahead → Result Circuit Stopped
 numbers_at h at = sections_at in_binary h sections (empty_circuit h.max_var) at >>= then_gates h
 
-abbrev then_numbers : Header × Ahead → Header → Result Circuit ReadFault
+abbrev then_numbers : Header × Ahead → Header → Result Circuit Stopped
 then_numbers header h = numbers_at h header.1
 
-abbrev then_filled : Header × Ahead → Result Circuit ReadFault
+abbrev then_filled : Header × Ahead → Result Circuit Stopped
 then_filled header = at_line 1 (filled header.0) >>= then_numbers header
 
 forms_are_sound : (s : Section) → IsSound (in_binary s).form

@@ -13,9 +13,9 @@ use Rattle.aig_circuit.specs.declared.circuit.Circuit.{Circuit}
 use Rattle.aig_circuit.specs.Form.{IsLiteralUpTo}
 use Rattle.aig_checked.specs.BinaryOrder.{AreOrderedGates, IsInBinaryOrder}
 use Rattle.aig_checked.proofs.Numbered.{HasLiteralsUpTo}
-use Rattle.aig_rows.specs.declared.fault.ReadKind.{ReadKind}
-use Rattle.aig_rows.specs.declared.fault.ReadKind.TheVariants as kinds
-use Rattle.aig_rows.specs.declared.fault.ReadFault.{ReadFault}
+use Rattle.aig_fault.specs.declared.kind.Kind.{Kind}
+use Rattle.aig_fault.specs.declared.kind.Kind.TheVariants as kinds
+use Rattle.aig_fault.specs.declared.stopped.Stopped.{Stopped}
 use Rattle.aig_rows.specs.Reading.{◌>>=◌}
 use Rattle.aig_rows.specs.Rows.{Form, next_form, next_row}
 use Rattle.aig_rows.proofs.Steps.{both_ok, ok_same, passed}
@@ -51,7 +51,7 @@ lowered_by from least bytes (Some found) p read h =
     let d = delta_is bytes found.1 found.0 read in
     let back : found.0 ≡ from - (from - found.0) = omega arith in
     subst (λ (r : ℕ × List ℕ). IsLowered from least r.0 bytes r.1)
-    (ok_same {E = ReadKind} (from - found.0, found.1) p q.1) (record {
+    (ok_same {E = Kind} (from - found.0, found.1) p q.1) (record {
       spelling = d.0;
       are = d.1;
       delta = subst (λ n. IsDelta d.0 n) back d.2;
@@ -80,10 +80,10 @@ pub record IsGateAt (variable : ℕ) (bytes : List ℕ) (g : Gate) (rest : List 
 abbrev pub gate : ℕ → ℕ → ℕ → Gate
 gate variable left right = record { var = variable; left = left; right = right }
 
-abbrev pub with_right : ℕ → ℕ → ℕ × List ℕ → Result (Gate × List ℕ) ReadKind
+abbrev pub with_right : ℕ → ℕ → ℕ × List ℕ → Result (Gate × List ℕ) Kind
 with_right variable left right = Ok (gate variable left right.0, right.1)
 
-abbrev pub then_right : ℕ → ℕ × List ℕ → Result (Gate × List ℕ) ReadKind
+abbrev pub then_right : ℕ → ℕ × List ℕ → Result (Gate × List ℕ) Kind
 then_right variable left = lowered_at left.0 0 left.1 >>= with_right variable left.0
 
 two_lowered : (variable left right : ℕ) (bytes between rest : List ℕ)
@@ -108,7 +108,7 @@ gate_is variable bytes p h =
     let a = both_ok (lowered_at (literal_of variable) 1 bytes) (then_right variable) p h in
     let b = both_ok (lowered_at a.0.0 0 a.0.1) (with_right variable a.0.0) p a.2 in
     subst (λ (q : Gate × List ℕ). IsGateAt variable bytes q.0 q.1)
-    (ok_same {E = ReadKind} (gate variable a.0.0 b.0.0, b.0.1) p b.2)
+    (ok_same {E = Kind} (gate variable a.0.0 b.0.0, b.0.1) p b.2)
     (two_lowered variable a.0.0 b.0.0 bytes a.0.1 b.0.1 (lowered_is (literal_of variable) 1 bytes a.0 a.1)
     (lowered_is a.0.0 0 a.0.1 b.0 b.1))
 
@@ -136,14 +136,14 @@ one_gate variable count bytes between rest g gs a o = record {
   counted = ap suc o.counted;
 }
 
-ok_at_gate : {A : Type 0} (n : ℕ) (r : Result A ReadKind) (x : A) → at_gate n r ≡ Ok x → r ≡ Ok x
+ok_at_gate : {A : Type 0} (n : ℕ) (r : Result A Kind) (x : A) → at_gate n r ≡ Ok x → r ≡ Ok x
 ok_at_gate n (Ok y) x h = cc
 ok_at_gate n (Err e) x h = cc
 
-abbrev with_gate : Gate → List Gate × List ℕ → Result (List Gate × List ℕ) ReadFault
+abbrev with_gate : Gate → List Gate × List ℕ → Result (List Gate × List ℕ) Stopped
 with_gate first others = Ok (first ∷ others.0, others.1)
 
-abbrev then_gates : ℕ → ℕ → ℕ → Gate × List ℕ → Result (List Gate × List ℕ) ReadFault
+abbrev then_gates : ℕ → ℕ → ℕ → Gate × List ℕ → Result (List Gate × List ℕ) Stopped
 then_gates variable n count first = gates_at (suc variable) (suc n) count first.1 >>= with_gate first.0
 
 pub gates_are : (variable n count : ℕ) (bytes : List ℕ) (p : List Gate × List ℕ)
@@ -154,7 +154,7 @@ gates_are variable n (suc count) bytes p h =
     let a = both_ok (at_gate n (gate_at variable bytes)) (then_gates variable n count) p h in
     let b = both_ok (gates_at (suc variable) (suc n) count a.0.1) (with_gate a.0.0) p a.2 in
     subst (λ (q : List Gate × List ℕ). AreGates variable (suc count) bytes q.0 q.1)
-    (ok_same {E = ReadFault} (a.0.0 ∷ b.0.0, b.0.1) p b.2)
+    (ok_same {E = Stopped} (a.0.0 ∷ b.0.0, b.0.1) p b.2)
     (one_gate variable count bytes a.0.1 b.0.1 a.0.0 b.0.0
     (gate_is variable bytes a.0 (ok_at_gate n (gate_at variable bytes) a.0 a.1))
     (gates_are (suc variable) (suc n) count a.0.1 b.0 b.1))

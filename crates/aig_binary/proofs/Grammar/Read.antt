@@ -18,8 +18,8 @@ use Rattle.aig_lines.specs.Lines.{Line, ahead, lines_of, bytes_of}
 use Rattle.aig_lines.proofs.Cutting.{pieces}
 use Rattle.aig_lines.proofs.Pieces.{lines_joined}
 use Rattle.aig_rows.specs.Rows.{next_form, next_row}
-use Rattle.aig_rows.specs.declared.fault.ReadFault.{ReadFault}
-use Rattle.aig_rows.specs.Reading.{want_of_memory}
+use Rattle.aig_fault.specs.declared.stopped.Stopped.{Stopped}
+use Rattle.aig_fault.specs.declared.stopped.Stopped.TheVariants.{OutOfMemory}
 use Rattle.aig_rows.proofs.Grammar.Entries.{IsGoodRow, AreGoodRows, IsLatchUpTo, good_reset, reset_told, all_mapped}
 use Rattle.aig_text.specs.declared.header_line.Header.{Header}
 use Rattle.aig_text.specs.Sections.{latches_from, sections, in_binary}
@@ -118,7 +118,7 @@ module _ (text : List ℕ) (limit : ℕ) (c : Circuit) (a : IsBinaryText text li
   abbrev header : Header
   header = own_header (min limit LARGEST) c
 
-  -- the lines behind the numbered ones
+  -- the lines after the numbered ones
   abbrev behind : List Line
   behind = lines_of (a.gates ++ a.rest)
 
@@ -150,7 +150,7 @@ module _ (text : List ℕ) (limit : ℕ) (c : Circuit) (a : IsBinaryText text li
 -- The first fault of a binary file.
 
 -- what has no fault is read
-no_fault_is_ok : {A : Type 0} (r : Result A ReadFault) → fault_of r ≡ None → (x : A) × (r ≡ Ok x)
+no_fault_is_ok : {A : Type 0} (r : Result A Stopped) → fault_of r ≡ None → (x : A) × (r ≡ Ok x)
 no_fault_is_ok (Ok x) h = (x, refl)
 no_fault_is_ok (Err e) h = cc
 
@@ -159,8 +159,8 @@ pub read_without_fault : (limit : ℕ) (text : List ℕ) → first_binary_fault 
 read_without_fault limit text h = no_fault_is_ok (binary_reading limit text) h
 
 -- the fault of a line or a gate is the first fault
-pub line_fault : (limit : ℕ) (text : List ℕ) (e : ReadFault)
-    → (e ≡ want_of_memory) ⊎ (binary_at limit (lines_of text) ≡ Err e) → IsFirstFault e (first_binary_fault limit text)
+pub line_fault : (limit : ℕ) (text : List ℕ) (e : Stopped)
+    → (e ≡ OutOfMemory) ⊎ (binary_at limit (lines_of text) ≡ Err e) → IsFirstFault e (first_binary_fault limit text)
 line_fault limit text e (inl m) = inl m
 line_fault limit text e (inr h) = inr (ap fault_of h)
 
@@ -170,8 +170,8 @@ pub no_fault : (limit : ℕ) (text : List ℕ) (c : Circuit) → IsBinaryText te
 no_fault limit text c a = ap fault_of (accepted_is_read text limit c a)
 
 -- a text that is the file of a circuit is refused only for want of memory
-pub memory_only : (limit : ℕ) (text : List ℕ) (c : Circuit) (e : ReadFault)
-    → IsFirstFault e (first_binary_fault limit text) → IsBinaryText text limit c → e ≡ want_of_memory
+pub memory_only : (limit : ℕ) (text : List ℕ) (c : Circuit) (e : Stopped)
+    → IsFirstFault e (first_binary_fault limit text) → IsBinaryText text limit c → e ≡ OutOfMemory
 memory_only limit text c e (inl m) a = m
 memory_only limit text c e (inr h) a = let none : first_binary_fault limit text ≡ None = no_fault limit text c a in cc
 

@@ -24,8 +24,10 @@ use Rattle.aig_topo.specs.Order.{first_cyclic}
 use Rattle.aig_topo.proofs.Ordering.LeastReady.{a_least_ready_order}
 use Rattle.aig_topo.proofs.Ordering.Ranked.{rank_exactly_where_all_are_ordered}
 use Rattle.aig_topo.proofs.Ordering.Cyclic.{none_cyclic, all_listed_where_none}
-use Rattle.aig_core.specs.declared.fault.CheckFault.{CheckFault}
-use Rattle.aig_core.specs.declared.fault.CheckFault.TheVariants.{OutOfMemory, Redefined, Undefined, Cyclic}
+use Rattle.aig_fault.specs.declared.fault.Fault.{Fault}
+use Rattle.aig_fault.specs.declared.stopped.Stopped.{Stopped}
+use Rattle.aig_fault.specs.declared.stopped.Stopped.TheVariants.{OutOfMemory, Refused}
+use Rattle.aig_core.specs.Fault.{redefined, undefined, cyclic}
 use Rattle.aig_core.specs.Fault.{IsFault, first_repeat, first_redefinition, first_unknown, with_all, is_known}
 use Rattle.aig_core.specs.Fault.{first_structural_fault}
 use Rattle.aig_core.specs.Parts.Parted.{AreParts, is_in_part}
@@ -93,16 +95,16 @@ pub none_in_empty : (y : ℕ) → ¬ (set.contains (set.empty {R = nat_cmp}) y �
 none_in_empty y h = let m : set.contains (set.empty {R = nat_cmp}) y ≡ false = contains-empty nat_cmp y in cc
 
 -- of what has no fault nothing is told but want of memory
-told_of_none : (e : CheckFault) → e ≢ OutOfMemory → IsFault e None → ⊥
+told_of_none : (e : Stopped) → e ≢ OutOfMemory → IsFault e None → ⊥
 told_of_none e ne h = ⊎_elim ne (λ none. cc) h
 
 -- where no repeat is told, numbers are distinct, and where one is told, they are not
 pub told_once : (xs : List ℕ) → first_repeat set.empty xs ≡ None → IsTrue true ↔ AreDistinct xs
 told_once xs none = (λ _. distinct set.empty xs none, λ _. refl)
 
-pub told_twice : (v : ℕ) (xs : List ℕ) → IsFault (Redefined v) (first_redefinition set.empty xs)
+pub told_twice : (fault : Fault) (xs : List ℕ) → IsFault (Refused fault) (first_redefinition set.empty xs)
     → IsTrue false ↔ AreDistinct xs
-told_twice v xs told = search (rules, nothing_repeats, none_in_empty, told_of_none)
+told_twice fault xs told = search (rules, nothing_repeats, none_in_empty, told_of_none)
 
 -- what the set of all has was there before or stands in the list
 pub found : (s : FinSet nat_cmp) (xs : List ℕ) (y : ℕ) → set.contains (with_all s xs) y ≡ true
@@ -149,14 +151,14 @@ none_unknown vars (x ∷ xs) h =
     ap (λ b. cond b (first_unknown (with_all set.empty vars) xs) (Some x)) (known_told vars x h.0)
     ∙ none_unknown vars xs h.1
 
-nothing_told : (repeat unknown cyclic : Option ℕ)
-    → option_or (option_map Redefined repeat) (option_or (option_map Undefined unknown) (option_map Cyclic cyclic))
+nothing_told : (repeat unknown cycle : Option ℕ)
+    → option_or (option_map redefined repeat) (option_or (option_map undefined unknown) (option_map cyclic cycle))
     ≡ None
-    → (repeat ≡ None) × (unknown ≡ None) × (cyclic ≡ None)
+    → (repeat ≡ None) × (unknown ≡ None) × (cycle ≡ None)
 nothing_told None None None h = (refl, refl, refl)
 nothing_told None None (Some x) h = cc
-nothing_told None (Some x) cyclic h = cc
-nothing_told (Some x) unknown cyclic h = cc
+nothing_told None (Some x) cycle h = cc
+nothing_told (Some x) unknown cycle h = cc
 
 -- where each variable is defined once and no gate depends on a cycle, the gates have a rank
 pub ranked_where_none_cyclic : (c : Circuit) → AreDistinct (defined_variables c) → first_cyclic c.gates ≡ None
@@ -187,7 +189,7 @@ pub faultless_is_well_formed : (c : Circuit) → IsInForm c → (first_structura
 faultless_is_well_formed c form = (well_formed c form, faultless c)
 
 -- a well-formed circuit is told nothing but want of memory
-pub refuted : (e : CheckFault) (c : Circuit) → IsWellFormed c → e ≢ OutOfMemory → IsFault e (first_structural_fault c)
+pub refuted : (e : Stopped) (c : Circuit) → IsWellFormed c → e ≢ OutOfMemory → IsFault e (first_structural_fault c)
     → ⊥
 refuted e c good ne h = told_of_none e ne (subst (IsFault e) (faultless c good) h)
 
@@ -252,11 +254,12 @@ pub part_once : (seen : FinSet nat_cmp) (xs : List ℕ) → seen ≡ set.empty
 part_once seen xs none told =
     told_once xs ((λ i. first_repeat (sym none i) (sym (each_itself xs) i)) ∙ told)
 
-pub part_twice : (seen : FinSet nat_cmp) (v : ℕ) (xs : List ℕ) → seen ≡ set.empty
-    → IsFault (Redefined v) (first_redefinition seen (flat_map (λ (v : ℕ). v ∷ []) xs)) → IsTrue false ↔ AreDistinct xs
-part_twice seen v xs none told =
-    told_twice v xs
-    (subst (λ o. IsFault (Redefined v) (option_map Redefined o))
+pub part_twice : (seen : FinSet nat_cmp) (fault : Fault) (xs : List ℕ) → seen ≡ set.empty
+    → IsFault (Refused fault) (first_redefinition seen (flat_map (λ (v : ℕ). v ∷ []) xs))
+    → IsTrue false ↔ AreDistinct xs
+part_twice seen fault xs none told =
+    told_twice fault xs
+    (subst (λ o. IsFault (Refused fault) (option_map redefined o))
     (λ i. first_repeat (none i) (each_itself xs i)) told)
 
 -- ---- parts

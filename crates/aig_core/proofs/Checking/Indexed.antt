@@ -19,7 +19,7 @@ use Rattle.aig_topo.specs.declared.index.GateIndex.{GateIndex}
 use Rattle.aig_topo.specs.Index.{IsIndexOf}
 use Rattle.aig_topo.specs.Order.{first_cyclic, gate_of}
 use Rattle.aig_topo.proofs.Ordering.Index.{defined_exactly}
-use Rattle.aig_core.specs.declared.fault.CheckFault.TheVariants.{Cyclic}
+use Rattle.aig_core.specs.Fault.{cyclic}
 use Rattle.aig_core.specs.Fault.{first_repeat, first_unknown, first_undefined, with_all, is_known}
 use Rattle.aig_core.specs.Fault.{first_structural_fault}
 use Rattle.aig_core.specs.Parts.Indexed.{is_defined_by, is_no_gate, is_latch_right, is_right_outside}
@@ -120,5 +120,5 @@ module _ (before : FinSet nat_cmp) (index : GateIndex) where
     -- so what is left is what gates use
     pub left_to_gates : first_structural_fault c
         ≡ option_or (first_undefined (with_all set.empty (defined_variables c)) (flat_map operands c.gates))
-        (option_map Cyclic (first_cyclic c.gates))
+        (option_map cyclic (first_cyclic c.gates))
     left_to_gates = fault_of_gates c once_by_index known_by_index

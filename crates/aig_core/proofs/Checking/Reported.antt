@@ -13,8 +13,11 @@ use Rattle.std.proofs.lemmas.List.Sums.{position_or_len_is}
 use Rattle.std.proofs.lemmas.Option.{slice_get-get_or, slice_get_past, slice_get_within}
 use Rattle.aig_circuit.specs.declared.circuit.Circuit.{Circuit}
 use Rattle.aig_circuit.specs.declared.circuit.Gate.{Gate}
-use Rattle.aig_core.specs.declared.fault.CheckFault.{CheckFault}
-use Rattle.aig_core.specs.declared.fault.CheckFault.TheVariants.{Redefined, Undefined, Cyclic}
+use Rattle.aig_fault.specs.declared.kind.Kind.{Kind}
+use Rattle.aig_fault.specs.declared.kind.Kind.TheVariants.{Redefined, Undefined, Cyclic}
+use Rattle.aig_fault.specs.declared.stopped.Stopped.{Stopped}
+use Rattle.aig_fault.specs.declared.stopped.Stopped.TheVariants.{Refused}
+use Rattle.aig_core.specs.Fault.{redefined, undefined, cyclic}
 use Rattle.aig_circuit.specs.Wellformed.{IsAmong, AreDistinct, IsKnown, HasRank, defined_variables, used_literals}
 use Rattle.aig_core.specs.Fault.{first_repeat, first_unknown, with_all, is_known, first_structural_fault}
 use Rattle.aig_topo.specs.Order.{gate_operands, TakesLeast, IsFull, IsLeastReadyOrder, depends_on_cycle, first_cyclic}
@@ -195,29 +198,38 @@ module _ (gates : List Gate) (list : List ℕ) (full : IsFull (length gates) (ga
       ∙ ap Some (sym f.own)
 
 -- which of the three is reported
-abbrev reported : Option ℕ → Option ℕ → Option ℕ → Option CheckFault
-reported repeat unknown cyclic =
-    option_or (option_map Redefined repeat) (option_or (option_map Undefined unknown) (option_map Cyclic cyclic))
+abbrev reported : Option ℕ → Option ℕ → Option ℕ → Option Stopped
+reported repeat unknown cycle =
+    option_or (option_map redefined repeat) (option_or (option_map undefined unknown) (option_map cyclic cycle))
 
-is_redefined : (repeat unknown cyclic : Option ℕ) (v : ℕ) → reported repeat unknown cyclic ≡ Some (Redefined v)
+-- what is told, and of what
+abbrev kind_told : Option Stopped → Option Kind
+kind_told (Some (Refused fault)) = Some fault.kind
+kind_told told = None
+
+abbrev subject_told : Option Stopped → Option ℕ
+subject_told (Some (Refused fault)) = Some fault.subject
+subject_told told = None
+
+is_redefined : (repeat unknown cycle : Option ℕ) (v : ℕ) → reported repeat unknown cycle ≡ Some (redefined v)
     → repeat ≡ Some v
-is_redefined (Some x) unknown cyclic v h = cc
-is_redefined None (Some x) cyclic v h = cc
-is_redefined None None (Some x) v h = cc
+is_redefined (Some x) unknown cycle v h = ap subject_told h
+is_redefined None (Some x) cycle v h = let k : Some Undefined ≡ Some Redefined = ap kind_told h in cc
+is_redefined None None (Some x) v h = let k : Some Cyclic ≡ Some Redefined = ap kind_told h in cc
 is_redefined None None None v h = cc
 
-is_undefined : (repeat unknown cyclic : Option ℕ) (l : ℕ) → reported repeat unknown cyclic ≡ Some (Undefined l)
+is_undefined : (repeat unknown cycle : Option ℕ) (l : ℕ) → reported repeat unknown cycle ≡ Some (undefined l)
     → (repeat ≡ None) × (unknown ≡ Some l)
-is_undefined (Some x) unknown cyclic l h = cc
-is_undefined None (Some x) cyclic l h = (refl, cc)
-is_undefined None None (Some x) l h = cc
+is_undefined (Some x) unknown cycle l h = let k : Some Redefined ≡ Some Undefined = ap kind_told h in cc
+is_undefined None (Some x) cycle l h = (refl, ap subject_told h)
+is_undefined None None (Some x) l h = let k : Some Cyclic ≡ Some Undefined = ap kind_told h in cc
 is_undefined None None None l h = cc
 
-is_cyclic : (repeat unknown cyclic : Option ℕ) (l : ℕ) → reported repeat unknown cyclic ≡ Some (Cyclic l)
-    → (repeat ≡ None) × (unknown ≡ None) × (cyclic ≡ Some l)
-is_cyclic (Some x) unknown cyclic l h = cc
-is_cyclic None (Some x) cyclic l h = cc
-is_cyclic None None (Some x) l h = (refl, refl, cc)
+is_cyclic : (repeat unknown cycle : Option ℕ) (l : ℕ) → reported repeat unknown cycle ≡ Some (cyclic l)
+    → (repeat ≡ None) × (unknown ≡ None) × (cycle ≡ Some l)
+is_cyclic (Some x) unknown cycle l h = let k : Some Redefined ≡ Some Cyclic = ap kind_told h in cc
+is_cyclic None (Some x) cycle l h = let k : Some Undefined ≡ Some Cyclic = ap kind_told h in cc
+is_cyclic None None (Some x) l h = (refl, refl, ap subject_told h)
 is_cyclic None None None l h = cc
 
 module _ (c : Circuit) where
@@ -227,14 +239,14 @@ module _ (c : Circuit) where
   abbrev unknown : Option ℕ
   unknown = first_unknown (with_all set.empty (defined_variables c)) (used_literals c)
 
-  pub redefined_exactly : (v : ℕ) → (first_structural_fault c ≡ Some (Redefined v))
+  pub redefined_exactly : (v : ℕ) → (first_structural_fault c ≡ Some (redefined v))
       ↔ IsFirstRepeat (defined_variables c) v
   redefined_exactly v = (
     λ h. (repeats_are_found (defined_variables c) v).0 (is_redefined repeat unknown (first_cyclic c.gates) v h),
     λ f. ap (λ o. reported o unknown (first_cyclic c.gates)) ((repeats_are_found (defined_variables c) v).1 f),
   )
 
-  pub undefined_exactly : (l : ℕ) → (first_structural_fault c ≡ Some (Undefined l))
+  pub undefined_exactly : (l : ℕ) → (first_structural_fault c ≡ Some (undefined l))
       ↔ (AreDistinct (defined_variables c) × IsFirstUnknown (defined_variables c) (used_literals c) l)
   undefined_exactly l = (
     λ h. let is = is_undefined repeat unknown (first_cyclic c.gates) l h in (
@@ -248,12 +260,12 @@ module _ (c : Circuit) where
   )
 
   -- where there is neither of the other two
-  cyclic_where : (l : ℕ) → (first_structural_fault c ≡ Some (Cyclic l))
+  cyclic_where : (l : ℕ) → (first_structural_fault c ≡ Some (cyclic l))
       ↔ (IsFullyDefined c × (first_cyclic c.gates ≡ Some l))
   cyclic_where l = search (rules, is_cyclic, no_repeat_where_distinct, all_known, none_unknown)
 
   pub cyclic_exactly : (list : List ℕ) (l : ℕ) → IsLeastReadyOrder c list
-      → (first_structural_fault c ≡ Some (Cyclic l)) ↔ (IsFullyDefined c × IsFirstLeftOut c.gates list l)
+      → (first_structural_fault c ≡ Some (cyclic l)) ↔ (IsFullyDefined c × IsFirstLeftOut c.gates list l)
   cyclic_exactly list l order = (
     λ h. let is = (cyclic_where l).0 h in
         (is.0, left_out_where_cyclic c.gates list order.full order.in_turn l is.1),
@@ -268,12 +280,12 @@ module _ (c : Circuit) where
       let both : None ≡ Some l = sym none ∙ some in cc
 
   pub cycle_exactly_where_no_rank :
-      ((l : ℕ) × (first_structural_fault c ≡ Some (Cyclic l))) ↔ (IsFullyDefined c × (¬ HasRank c.gates))
+      ((l : ℕ) × (first_structural_fault c ≡ Some (cyclic l))) ↔ (IsFullyDefined c × (¬ HasRank c.gates))
   cycle_exactly_where_no_rank = (
     λ h. let is = (cyclic_where h.0).0 h.1 in (is.0, no_rank is.0.0 h.0 is.1),
     λ f.
         elim (first_cyclic c.gates) as (λ o. first_cyclic c.gates ≡ o
-        → (l : ℕ) × (first_structural_fault c ≡ Some (Cyclic l))) [
+        → (l : ℕ) × (first_structural_fault c ≡ Some (cyclic l))) [
           | None ↦ λ none. absurd (f.1 (ranked_where_none_cyclic c f.0.0 none))
           | Some l ↦ λ some. (l, (cyclic_where l).1 (f.0, some))
         ] refl,

@@ -1,7 +1,7 @@
 -- Repeats, unknown literals and faults over sections end to end, as the loops over each section tell them.
 use Rattle.std.proofs.Common.{◌≡◌, ◌+◌, ◌∷◌, ◌++◌, ◌∙◌, ◌==◌, ◌||◌, ◌<◌, ℕ, List, [], length, map, take, drop, fold}
 use Rattle.std.proofs.Common.{refl, sym, ap, ap₂, arith, true, false, cond, Option, None, Some, inl, ⊎_elim, nat_lt}
-use Rattle.std.proofs.Common.{get_or}
+use Rattle.std.proofs.Common.{get_or, subst}
 use Rattle.std.specs.List.{concat, sum, flat_map, list_any}
 use Rattle.std.specs.Option.{option_map, option_or}
 use Rattle.std.specs.Ordering.{nat_cmp}
@@ -24,8 +24,8 @@ use Rattle.aig_circuit.proofs.Checking.{defined_inputs, defined_latches, defined
 use Rattle.aig_tables.specs.VarMap.{link_to}
 use Rattle.aig_topo.specs.Order.{first_cyclic, gate_of}
 use Rattle.aig_topo.specs.Needs.{needs_of}
-use Rattle.aig_core.specs.declared.fault.CheckFault.{CheckFault}
-use Rattle.aig_core.specs.declared.fault.CheckFault.TheVariants.{Redefined, Cyclic}
+use Rattle.aig_fault.specs.declared.stopped.Stopped.{Stopped}
+use Rattle.aig_core.specs.Fault.{redefined, cyclic}
 use Rattle.aig_core.specs.Fault.{first_repeat, first_redefinition, first_unknown, first_undefined}
 use Rattle.aig_core.specs.Fault.{first_structural_fault, with_all, is_known, IsFault}
 
@@ -117,12 +117,12 @@ unknown_append s (x ∷ xs) ys =
 -- the facts on joined lists, for loops over a section
 pub ruleset joined_lists = (common_steps, with_all_append, repeat_append, unknown_append)
 
-told_first : (o p : Option ℕ) (e : CheckFault) → IsFault e (option_map Redefined o)
-    → IsFault e (option_map Redefined (option_or o p))
+told_first : (o p : Option ℕ) (e : Stopped) → IsFault e (option_map redefined o)
+    → IsFault e (option_map redefined (option_or o p))
 told_first None p e told = ⊎_elim (λ out. inl out) (λ none. cc) told
 told_first (Some x) p e told = told
 
-told_at_front : (s : FinSet nat_cmp) (xs ys : List ℕ) (e : CheckFault) → IsFault e (first_redefinition s xs)
+told_at_front : (s : FinSet nat_cmp) (xs ys : List ℕ) (e : Stopped) → IsFault e (first_redefinition s xs)
     → IsFault e (first_redefinition s (xs ++ ys))
 told_at_front s xs ys e told = rw repeat_append (told_first (first_repeat s xs) _ e told)
 
@@ -131,7 +131,7 @@ goes_on : (s t : FinSet nat_cmp) (xs ys : List ℕ) → t ≡ with_all s xs → 
 goes_on s t xs ys is none = repeat_append s xs ys ∙ rw (none, is) refl
 
 module _ (c : Circuit) where
-  pub told_of_inputs : (e : CheckFault) → IsFault e (first_redefinition set.empty (defined_inputs c.inputs))
+  pub told_of_inputs : (e : Stopped) → IsFault e (first_redefinition set.empty (defined_inputs c.inputs))
       → IsFault e (first_redefinition set.empty (defined_variables c))
   told_of_inputs e told = rw (← defined_is c)
       (told_at_front _ _ (defined_gates c.gates) e (told_at_front _ _ (defined_latches c.latches) e told))
@@ -142,7 +142,7 @@ module _ (c : Circuit) where
         ≡ first_repeat set.empty (defined_inputs c.inputs ++ defined_latches c.latches)
     latches_repeat = sym (goes_on _ _ _ _ t_is none)
 
-    pub told_of_latches : (e : CheckFault) → IsFault e (first_redefinition t (defined_latches c.latches))
+    pub told_of_latches : (e : Stopped) → IsFault e (first_redefinition t (defined_latches c.latches))
         → IsFault e (first_redefinition set.empty (defined_variables c))
     told_of_latches e told =
         rw (← defined_is c) (told_at_front _ _ (defined_gates c.gates) e (rw latches_repeat at told))
@@ -163,7 +163,7 @@ module _ (c : Circuit) where
     pub gates_repeat : first_repeat set.empty (defined_variables c) ≡ first_repeat u (defined_gates c.gates)
     gates_repeat = rw (flat_map_single (λ (g : Gate). g.var) c.gates) (goes_on _ _ _ _ u_is none)
 
-    pub told_of_gates : (e : CheckFault) → IsFault e (first_redefinition u (defined_gates c.gates))
+    pub told_of_gates : (e : Stopped) → IsFault e (first_redefinition u (defined_gates c.gates))
         → IsFault e (first_redefinition set.empty (defined_variables c))
     told_of_gates e told = rw gates_repeat told
 
@@ -192,7 +192,7 @@ pub fault_of_gates : (c : Circuit) → first_repeat set.empty (defined_variables
     (map (λ (l : Latch). l.next) c.latches ++ concat (literal_lists c)) ≡ None
     → first_structural_fault c
     ≡ option_or (first_undefined (with_all set.empty (defined_variables c)) (flat_map operands c.gates))
-    (option_map Cyclic (first_cyclic c.gates))
+    (option_map cyclic (first_cyclic c.gates))
 fault_of_gates c once ends =
     grind (arith, common_steps, once, ends, unknowns (with_all set.empty (defined_variables c)) c)
 
@@ -224,7 +224,8 @@ known_by_needs c literal =
     grind (arith, common_steps, has_of_gates before c.gates v, link_told c.gates v, with_all_append)
 
 -- the first unknown operand from a gate on is one of its own, or else that from the next one on
-module _ (c : Circuit) (at : ℕ) (g : Gate) (below : at < length c.gates) (is : g ≡ get_or c.gates at g) where
+module _ (c : Circuit) {gates : List Gate} (own : gates ≡ c.gates) (at : ℕ) (g : Gate) (below : at < length gates)
+    (is : g ≡ get_or gates at g) where
   abbrev pub all_of : set.FinSet nat_cmp
   all_of = with_all set.empty (defined_variables c)
 
@@ -236,5 +237,6 @@ module _ (c : Circuit) (at : ℕ) (g : Gate) (below : at < length c.gates) (is :
       (cond (nat_lt 0 (needs_of c.gates g).right || is_known before_of g.right)
       (first_unknown all_of (flat_map operands (drop (at + 1) c.gates))) (Some g.right)) (Some g.left)
   unknown_from =
-      let more = drop_more c.gates at g below in
-      grind (arith, common_steps, more, is, known_by_needs c g.left, known_by_needs c g.right)
+      let more = drop_more c.gates at g (subst (λ (gs : List Gate). at < length gs) own below) in
+      let same = subst (λ (gs : List Gate). g ≡ get_or gs at g) own is in
+      grind (arith, common_steps, more, same, known_by_needs c g.left, known_by_needs c g.right)

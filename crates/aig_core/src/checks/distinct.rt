@@ -8,8 +8,8 @@ ghost use Rattle.aig_circuit.specs.Wellformed.{AreDistinct, defined_variables};
 ghost use Rattle.aig_core.specs.Parts.Parted.{AreParts};
 
 use crate::checks::faults::define_all;
-use crate::fault::CheckFault;
 use aig_circuit::{Circuit, Entry, Listing, OutOfMemory, Var};
+use aig_fault::Stopped;
 use aig_tables::{BITS_PER_DEFINITION, VarSet};
 use std::alloc::Global;
 
@@ -78,7 +78,7 @@ fn is_distinct(alloc: Global, part: &Listing<Var>, largest: u32) -> Result<bool,
     let mut seen = VarSet::new(alloc, part.len(), largest)?;
     match define_all(&mut seen, part) {
         Ok(()) => Ok(true),
-        Err(CheckFault::Redefined(_)) => Ok(false),
+        Err(Stopped::Refused(_)) => Ok(false),
         Err(_) => Err(OutOfMemory),
     }
 }

@@ -9,11 +9,11 @@ ghost use Rattle.aig_circuit.specs.Wellformed.{defined_variables, literal_lists,
 ghost use Rattle.aig_core.specs.Fault.{first_structural_fault, first_repeat};
 ghost use Rattle.aig_core.specs.Fault.{first_redefinition, first_unknown};
 ghost use Rattle.aig_core.specs.Fault.{first_undefined, with_all, is_known, IsFault};
+ghost use Rattle.aig_core.specs.Fault.{redefined, undefined, cyclic};
 ghost use Rattle.aig_circuit.specs.Form.{IsInForm};
 ghost use Rattle.aig_topo.specs.Order.{first_cyclic, IsLeastReadyOrder};
 ghost use Rattle.aig_topo.specs.Lists.{AreNeedsOf};
 ghost use Rattle.aig_topo.specs.Resolved.{IsResolved};
-ghost use Rattle.aig_core.specs.declared.fault.CheckFault.TheVariants.{Cyclic as CyclicFault};
 ghost use Rattle.aig_core.specs.Parts.InOrder.{are_in_order, has_gates_in_order};
 ghost use Rattle.aig_core.specs.Parts.Indexed.{is_defined_by, is_no_gate};
 ghost use Rattle.aig_core.specs.Parts.Indexed.{is_latch_right, is_right_outside};
@@ -22,15 +22,33 @@ ghost use Rattle.aig_circuit.specs.declared.circuit.TheConstants.{LARGEST as lar
 
 use crate::checks::Keep;
 use crate::checks::distinct::is_spread;
-use crate::fault::CheckFault;
 use aig_circuit::{Circuit, Entry, Gate, LARGEST, Latch, Listing, Lit, OutOfMemory, Var};
+use aig_fault::{Kind, Place, Stopped, refused};
 use aig_tables::VarSet;
 use aig_topo::{
     GateIndex, GateNeeds, Needs, Order, Resolved, Steps, order_by_needs, search_for_cycle,
 };
 use std::alloc::Global;
 
-fn define<T: Entry>(seen: &mut VarSet, entry: &T) -> Result<(), CheckFault>
+fn redefined(variable: Var) -> Stopped
+    ensures { result ≡ redefined variable }
+{
+    refused(Kind::Redefined, Place::Whole, variable.0)
+}
+
+fn undefined(literal: Lit) -> Stopped
+    ensures { result ≡ undefined literal }
+{
+    refused(Kind::Undefined, Place::Whole, literal.0)
+}
+
+fn cyclic(literal: Lit) -> Stopped
+    ensures { result ≡ cyclic literal }
+{
+    refused(Kind::Cyclic, Place::Whole, literal.0)
+}
+
+fn define<T: Entry>(seen: &mut VarSet, entry: &T) -> Result<(), Stopped>
     ensures seen { OnOk result (seen.new ≡ with_all seen.old (T.defined entry.now)) }
     ensures ok { OnOk result (first_repeat seen.old (T.defined entry.now) ≡ None) }
     ensures err { IfErr result (λ e. IsFault e
@@ -38,17 +56,14 @@ fn define<T: Entry>(seen: &mut VarSet, entry: &T) -> Result<(), CheckFault>
 {
     if let Some(variable) = entry.definition() {
         if !seen.insert(variable)? {
-            return Err(CheckFault::Redefined(variable));
+            return Err(redefined(variable));
         }
     }
     Ok(())
 }
 
 #[tactic(auto, using(crate::proofs::Checking::Sections::joined_lists))]
-pub(super) fn define_all<T: Entry>(
-    seen: &mut VarSet,
-    entries: &Listing<T>,
-) -> Result<(), CheckFault>
+pub(super) fn define_all<T: Entry>(seen: &mut VarSet, entries: &Listing<T>) -> Result<(), Stopped>
     ensures seen { OnOk result (seen.new ≡ with_all seen.old (flat_map T.defined entries.now)) }
     ensures ok { OnOk result (first_repeat seen.old (flat_map T.defined entries.now) ≡ None) }
     ensures err { IfErr result (λ e. IsFault e
@@ -110,7 +125,7 @@ fn first_unknown_use<T: Entry>(variables: &VarSet, entries: &Listing<T>) -> Opti
 /// Adds the variables of a section to those that were seen, unless one of them was seen before.
 /// Answers whether each entry uses nothing but constants and what was seen before it.
 #[tactic(auto, using(crate::proofs::Checking::Sections::joined_lists))]
-fn define_in_order<T: Entry>(seen: &mut VarSet, entries: &Listing<T>) -> Result<bool, CheckFault>
+fn define_in_order<T: Entry>(seen: &mut VarSet, entries: &Listing<T>) -> Result<bool, Stopped>
     ensures seen { OnOk result (seen.new ≡ with_all seen.old (flat_map T.defined entries.now)) }
     ensures ok { OnOk result (first_repeat seen.old (flat_map T.defined entries.now) ≡ None) }
     ensures in_order { IfOk result (λ in_order. in_order
@@ -131,7 +146,7 @@ fn definitions_before_gates(
     alloc: Global,
     circuit: &Circuit,
     expected: usize,
-) -> Result<VarSet, CheckFault>
+) -> Result<VarSet, Stopped>
     ensures variables { IfOk result (λ variables.
         variables ≡ with_all set.empty (circuit.now.inputs
         ++ map (λ l. l.var) circuit.now.latches)) }
@@ -149,7 +164,7 @@ fn definitions_before_gates(
 
 /// The variables that a circuit defines, unless one of them is defined twice, and whether its gates
 /// stand after those that they use.
-fn definitions(alloc: Global, circuit: &Circuit) -> Result<(VarSet, bool), CheckFault>
+fn definitions(alloc: Global, circuit: &Circuit) -> Result<(VarSet, bool), Stopped>
     ensures variables { IfOk result (λ found. found.0
         ≡ with_all set.empty (defined_variables circuit.now)) }
     ensures in_order { IfOk result (λ found. found.1 ≡ has_gates_in_order circuit.now) }
@@ -163,7 +178,7 @@ fn definitions(alloc: Global, circuit: &Circuit) -> Result<(VarSet, bool), Check
 }
 
 /// Unlike `definitions`, it does not look at what gates use.
-pub(crate) fn find_redefinition(alloc: Global, circuit: &Circuit) -> Result<(), CheckFault>
+pub(crate) fn find_redefinition(alloc: Global, circuit: &Circuit) -> Result<(), Stopped>
     ensures ok { OnOk result (first_repeat set.empty (defined_variables circuit.now) ≡ None) }
     ensures err { IfErr result (λ e. IsFault e
         (first_redefinition set.empty (defined_variables circuit.now))) }
@@ -237,7 +252,7 @@ fn first_unknown_operand(before: &VarSet, needs: &GateNeeds, circuit: &Circuit) 
 
 /// What the gates of a circuit need that defines no variable twice, or the first literal that they
 /// use and that it does not define.
-fn known_needs(alloc: Global, circuit: &Circuit) -> Result<GateNeeds, CheckFault>
+fn known_needs(alloc: Global, circuit: &Circuit) -> Result<GateNeeds, Stopped>
     requires in_form { IsInForm circuit.now }
     requires once { first_repeat set.empty (defined_variables circuit.now) ≡ None }
     ensures needs { IfOk result (λ needs. AreNeedsOf circuit.now.gates needs) }
@@ -251,7 +266,7 @@ fn known_needs(alloc: Global, circuit: &Circuit) -> Result<GateNeeds, CheckFault
     let expected = circuit.inputs.len() + circuit.latches.len();
     let before = definitions_before_gates(alloc, circuit, expected)?;
     match first_unknown_operand(&before, &needs, circuit) {
-        Some(literal) => Err(CheckFault::Undefined(literal)),
+        Some(literal) => Err(undefined(literal)),
         None => Ok(needs),
     }
 }
@@ -326,10 +341,7 @@ fn is_right_outside_gates(before: &VarSet, index: &GateIndex, circuit: &Circuit)
 /// What the gates of a circuit need, where its variables are spread: each variable of a gate is put
 /// into one table alone, and no set is made of them. None where something is wrong outside of what
 /// gates use.
-fn spread_needs(
-    alloc: Global,
-    circuit: &Circuit,
-) -> Result<Option<(GateNeeds, Resolved)>, CheckFault>
+fn spread_needs(alloc: Global, circuit: &Circuit) -> Result<Option<(GateNeeds, Resolved)>, Stopped>
     requires in_form { IsInForm circuit.now }
     ensures needs { IfOk result (λ some. IfSome some (λ found.
         AreNeedsOf circuit.now.gates found.0)) }
@@ -337,7 +349,7 @@ fn spread_needs(
         IsResolved circuit.now.gates found.1)) }
     ensures ok { IfOk result (λ some. IfSome some (λ _.
         first_structural_fault circuit.now
-        ≡ option_map CyclicFault (first_cyclic circuit.now.gates))) }
+        ≡ option_map cyclic (first_cyclic circuit.now.gates))) }
     ensures err { IfErr result (λ e. IsFault e (first_structural_fault circuit.now)) }
 {
     let expected = circuit.inputs.len() + circuit.latches.len();
@@ -348,7 +360,7 @@ fn spread_needs(
     }
     let needs = GateNeeds::by_index(alloc, circuit, &index)?;
     match first_unknown_operand(&before, &needs, circuit) {
-        Some(literal) => Err(CheckFault::Undefined(literal)),
+        Some(literal) => Err(undefined(literal)),
         None => {
             let resolved = Resolved::new(alloc, index, &needs)?;
             Ok(Some((needs, resolved)))
@@ -369,33 +381,33 @@ fn order_of_all(
     circuit: &Circuit,
     needs: GateNeeds,
     steps: &mut Steps,
-) -> Result<Order, CheckFault>
+) -> Result<Order, Stopped>
     requires in_form { IsInForm circuit.now }
     requires needs { AreNeedsOf circuit.now.gates needs }
     ensures ok { OnOk result (first_cyclic circuit.now.gates ≡ None) }
     ensures least { IfOk result (λ order. IsLeastReadyOrder circuit.now order.list) }
     ensures err { IfErr result (λ e. IsFault e
-        (option_map CyclicFault (first_cyclic circuit.now.gates))) }
+        (option_map cyclic (first_cyclic circuit.now.gates))) }
     ensures few { steps.new.count ≤ steps.old.count + 3 * length circuit.now.gates }
 {
     let order = order_by_needs(alloc, circuit, needs, steps)?;
     match order.first_left() {
-        Some(gate) => Err(CheckFault::Cyclic(own_literal(&circuit.gates.as_slice()[gate]))),
+        Some(gate) => Err(cyclic(own_literal(&circuit.gates.as_slice()[gate]))),
         None => Ok(order),
     }
 }
 
 /// Unlike `order_of_all`, it makes no order of the gates.
-fn find_cycle(alloc: Global, circuit: &Circuit, steps: &mut Steps) -> Result<(), CheckFault>
+fn find_cycle(alloc: Global, circuit: &Circuit, steps: &mut Steps) -> Result<(), Stopped>
     requires { IsInForm circuit.now }
     ensures ok { OnOk result (first_cyclic circuit.now.gates ≡ None) }
     ensures err { IfErr result (λ e. IsFault e
-        (option_map CyclicFault (first_cyclic circuit.now.gates))) }
+        (option_map cyclic (first_cyclic circuit.now.gates))) }
     ensures few { steps.new.count ≤ steps.old.count + 2 * length circuit.now.gates }
 {
     let found = search_for_cycle(alloc, circuit, steps)?;
     match found {
-        Some(gate) => Err(CheckFault::Cyclic(own_literal(&circuit.gates.as_slice()[gate]))),
+        Some(gate) => Err(cyclic(own_literal(&circuit.gates.as_slice()[gate]))),
         None => Ok(()),
     }
 }
@@ -404,7 +416,7 @@ fn find_cycle(alloc: Global, circuit: &Circuit, steps: &mut Steps) -> Result<(),
 /// else a literal that is used outside of gates and not defined. Where there is none, the variables
 /// that it defines, and whether its gates stand in order.
 #[tactic(auto, using(crate::proofs::Checking::Sections::unknown_append))]
-fn find_fault_outside_gates(alloc: Global, circuit: &Circuit) -> Result<(VarSet, bool), CheckFault>
+fn find_fault_outside_gates(alloc: Global, circuit: &Circuit) -> Result<(VarSet, bool), Stopped>
     ensures variables { IfOk result (λ found. found.0
         ≡ with_all set.empty (defined_variables circuit.now)) }
     ensures in_order { IfOk result (λ found. found.1 ≡ has_gates_in_order circuit.now) }
@@ -415,19 +427,19 @@ fn find_fault_outside_gates(alloc: Global, circuit: &Circuit) -> Result<(VarSet,
 {
     let (variables, in_order) = definitions(alloc, circuit)?;
     match first_undefined_end(&variables, circuit) {
-        Some(literal) => Err(CheckFault::Undefined(literal)),
+        Some(literal) => Err(undefined(literal)),
         None => Ok((variables, in_order)),
     }
 }
 
-fn find_undefined_operand(variables: &VarSet, circuit: &Circuit) -> Result<(), CheckFault>
+fn find_undefined_operand(variables: &VarSet, circuit: &Circuit) -> Result<(), Stopped>
     ensures ok { OnOk result (first_unknown variables.now
         (flat_map operands circuit.now.gates) ≡ None) }
     ensures err { IfErr result (λ e. IsFault e
         (first_undefined variables.now (flat_map operands circuit.now.gates))) }
 {
     match first_unknown_use(variables, &circuit.gates) {
-        Some(literal) => Err(CheckFault::Undefined(literal)),
+        Some(literal) => Err(undefined(literal)),
         None => Ok(()),
     }
 }
@@ -439,7 +451,7 @@ fn find_fault_by_sets(
     circuit: &Circuit,
     keep: Keep,
     steps: &mut Steps,
-) -> Result<Option<Order>, CheckFault>
+) -> Result<Option<Order>, Stopped>
     requires { IsInForm circuit.now }
     ensures ok { OnOk result (first_structural_fault circuit.now ≡ None) }
     ensures least { IfOk result (λ some.
@@ -472,7 +484,7 @@ fn needs_of_order(
     alloc: Global,
     circuit: &Circuit,
     keep: Keep,
-) -> Result<Option<(GateNeeds, Resolved)>, CheckFault>
+) -> Result<Option<(GateNeeds, Resolved)>, Stopped>
     requires in_form { IsInForm circuit.now }
     ensures needs { IfOk result (λ some. IfSome some (λ found.
         AreNeedsOf circuit.now.gates found.0)) }
@@ -481,7 +493,7 @@ fn needs_of_order(
     ensures keep { IfOk result (λ some. IfSome some (λ _. steps_a_gate keep ≡ 3)) }
     ensures ok { IfOk result (λ some. IfSome some (λ _.
         first_structural_fault circuit.now
-        ≡ option_map CyclicFault (first_cyclic circuit.now.gates))) }
+        ≡ option_map cyclic (first_cyclic circuit.now.gates))) }
     ensures err { IfErr result (λ e. IsFault e (first_structural_fault circuit.now)) }
 {
     match keep {
@@ -503,7 +515,7 @@ pub(crate) fn find_fault(
     circuit: &Circuit,
     keep: Keep,
     steps: &mut Steps,
-) -> Result<(Option<Order>, Option<Resolved>), CheckFault>
+) -> Result<(Option<Order>, Option<Resolved>), Stopped>
     requires { IsInForm circuit.now }
     ensures ok { OnOk result (first_structural_fault circuit.now ≡ None) }
     ensures least { IfOk result (λ found.

@@ -52,7 +52,7 @@ module _ (c : Circuit) (order : List ℕ) (good : IsWellFormed c) (least : IsLea
   as_many : length order ≡ length c.gates
   as_many = all_taken c order good least
 
-  -- what stands at a place behind the first ones
+  -- what stands at a place after the first ones
   behind : (k : ℕ) → k < length order → get_or vs (length first + k) 0 ≡ (at c.gates (get_or order k 0)).var
   behind k below =
       get_or-append-add first (taken_variables c.gates order) k 0

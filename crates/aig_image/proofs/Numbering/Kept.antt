@@ -38,7 +38,7 @@ number_push : (xs : List ℕ) (x v : ℕ)
     → number_in (xs ++ x ∷ []) v ≡ cond (eqb (number_in xs v) 0) (cond (eqb x v) (length xs + 1) 0) (number_in xs v)
 number_push xs x v = grind (arith, common_steps, position_or_len_push, prefix_len-le-length)
 
--- a number does not come from behind what is not there
+-- a number does not come from after what is not there
 pub not_behind : (xs ys : List ℕ) (v : ℕ) → ¬ IsAmong v ys → number_in (xs ++ ys) v ≡ number_in xs v
 not_behind xs [] v out = ap (λ l. number_in l v) (append-nil xs)
 not_behind xs (y ∷ ys) v out =

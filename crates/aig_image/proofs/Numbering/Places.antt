@@ -87,7 +87,7 @@ distinct_by_places (x ∷ xs) once = (
       omega (arith, same)),
 )
 
--- other numbers behind the same front, all of which stood there
+-- other numbers after the same front, all of which stood there
 pub swapped_last : (xs ys zs : List ℕ) → AreDistinct (xs ++ ys) → AreDistinct zs
     → ((x : ℕ) → IsAmong x zs → IsAmong x ys) → AreDistinct (xs ++ zs)
 swapped_last [] ys zs once last within = last
@@ -97,7 +97,7 @@ swapped_last (x ∷ xs) ys zs once last within = (
   swapped_last xs ys zs once.1 last within,
 )
 
--- and what is among both is among those behind the front too
+-- and what is among both is among those after the front too
 pub among_swapped : (xs ys zs : List ℕ) → ((x : ℕ) → IsAmong x ys → IsAmong x zs)
     → (x : ℕ) → IsAmong x (xs ++ ys) → IsAmong x (xs ++ zs)
 among_swapped [] ys zs within x a = within x a
@@ -226,7 +226,7 @@ numbered_on vs pre (x ∷ mid) post once some are =
     (numbered_on vs (pre ++ x ∷ []) mid post once some.1 (are ∙ sym (append_assoc pre (x ∷ []) (mid ++ post)))
     ∙ ap (λ k. range_with_len k (length mid)) next)
 
--- one place further, behind one more
+-- one place further, after one more
 pub further : (w n : ℕ) (vs : List ℕ) → get_or (w ∷ vs) (1 + n) 0 ≡ get_or vs n 0
 further w n vs = search rules
 

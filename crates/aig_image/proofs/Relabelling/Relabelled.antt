@@ -38,7 +38,7 @@ module _ {X Y : Type 0} where
   read_mapped h d e kept (x ∷ xs) zero = refl
   read_mapped h d e kept (x ∷ xs) (suc i) = read_mapped h d e kept xs i
 
--- a map behind a map
+-- a map after a map
 pub map_twice : {X Y Z : Type 0} (h : X → Y) (k : Y → Z) (m : X → Z) → ((x : X) → k (h x) ≡ m x)
     → (xs : List X) → map k (map h xs) ≡ map m xs
 map_twice h k m same xs = map-map k h xs ∙ map_each (λ x. k (h x)) m same xs

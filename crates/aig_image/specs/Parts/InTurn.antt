@@ -37,7 +37,7 @@ pub record DefineApart (c : Circuit) (gates : List Gate) : Type 0 where
   pub once : AreDistinct (variables_with c gates)
   pub some : AllByRecursion (λ v. 1 ≤ v) (variables_with c gates)
 
--- the gates of the image are made of gates that stand in order, and their variables have numbers behind these
+-- the gates of the image are made of gates that stand in order, and their variables have numbers after these
 pub record AreMadeOf (before : List ℕ) (gates news : List Gate) (n : Numbers) : Type 0 where
   pub numbers : HaveNumbers n (before ++ map (λ (g : Gate). g.var) gates)
   pub in_order : StandInOrder before gates

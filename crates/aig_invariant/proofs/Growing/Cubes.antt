@@ -9,6 +9,7 @@ use Rattle.std.proofs.lemmas.List.{length-map}
 use Rattle.std.specs.Prelude.{IfErr}
 use Rattle.std.proofs.Math.ListN.{drop_of_length-le}
 use Rattle.std.proofs.lemmas.List.Elements.{All-from_recursion}
+use Rattle.aig_fault.specs.declared.stopped.Stopped.{Stopped}
 use Rattle.aig_io.specs.Runs.{AtEnd}
 use Rattle.aig_circuit.specs.declared.circuit.Circuit.{Circuit}
 use Rattle.aig_circuit.specs.declared.circuit.Gate.{Gate}
@@ -27,21 +28,19 @@ use Rattle.aig_topo.proofs.Ordering.Cyclic.{among_last}
 use Rattle.aig_meaning.specs.Meaning.{latch_variables, next_literals}
 use Rattle.aig_meaning.proofs.Related.{AreDefined, IsDefined, known_next}
 use Rattle.aig_lines.specs.Lines.{Line, line}
-use Rattle.aig_unroll.specs.Unrolled.{chain_behind, chained, resets_of}
-use Rattle.aig_invariant.specs.declared.fault.InvariantFault.{InvariantFault}
+use Rattle.aig_unroll.specs.Unrolled.{chain_behind, chained}
 use Rattle.aig_invariant.specs.declared.growth.Latches.{Latches}
-use Rattle.aig_invariant.specs.declared.fault.InvariantFault.TheVariants as faults
 use Rattle.aig_invariant.specs.Invariant.{Cube, asked_literals, conjunction, freed, state_literals, with_conjunction}
 use Rattle.aig_invariant.specs.Invariant.{with_cube, with_cubes, with_now, with_invariant}
-use Rattle.aig_invariant.specs.InvariantText.{cubes_of, is_passed}
+use Rattle.aig_invariant.specs.InvariantText.{is_passed}
 use Rattle.aig_invariant.specs.Outcome.{HasCubes, IsOverfull, NotInvariant}
 use Rattle.aig_invariant.specs.Parts.Growing.{AreTheLatches, IsRefused, with_line}
-use Rattle.aig_invariant.specs.Parts.Rows.{IsOfLine, cube_at, cubes_at, value_or_x}
+use Rattle.aig_invariant.specs.Parts.Rows.{cube_at, cubes_at, value_or_x}
 use Rattle.aig_invariant.proofs.Growing.Formed.{all_fit, gate_formed, gate_known, known_still, with_gate}
 
 -- ---- chains
 
--- the circuit with gates that chain these literals behind a chain so far
+-- the circuit with gates that chain these literals after a chain so far
 abbrev pub with_chain : ℕ → List ℕ → Circuit → Circuit
 with_chain chain literals c = record c {
   max_var = c.max_var + length literals;
@@ -375,10 +374,10 @@ asked_next_on i row ls of_row of_ls =
 
 -- ---- lines
 
-pub refused_on : (Holds More : Type 0) (fault : InvariantFault) → (Holds → More) → IsRefused Holds fault
-    → IsRefused More fault
-refused_on Holds More fault on (inl memory) = inl memory
-refused_on Holds More fault on (inr large) = inr (large.0, on large.1)
+pub refused_on : (Holds More : Type 0) (stopped : Stopped) → (Holds → More) → IsRefused Holds stopped
+    → IsRefused More stopped
+refused_on Holds More stopped on (inl memory) = inl memory
+refused_on Holds More stopped on (inr large) = inr (large.0, on large.1)
 
 by_passed : (passed : Bool) (cube : Cube) (cubes : List Cube) (c : Circuit)
     → with_cubes (if passed then cubes else cube ∷ cubes) c ≡ with_cubes cubes (if passed then c else with_cube cube c)
@@ -434,21 +433,11 @@ low_latches c good =
 
 -- ---- what comes of it
 
-pub of_a_line : (c : Circuit) (bytes : List ℕ) (fault : InvariantFault) → IsOfLine fault
-    → cubes_of (resets_of c) bytes ≡ Err fault → NotInvariant c fault bytes AtEnd
-of_a_line c bytes faults.OutOfMemory of_line is = absurd of_line
-of_a_line c bytes faults.ReadFailed of_line is = absurd of_line
-of_a_line c bytes faults.TooLarge of_line is = absurd of_line
-of_a_line c bytes (faults.BadLine n) of_line is = (refl, is)
-of_a_line c bytes (faults.OtherLength n) of_line is = (refl, is)
-of_a_line c bytes (faults.MetAtStart n) of_line is = (refl, is)
-
-pub of_growth : (c : Circuit) (bytes : List ℕ) (cubes : List Cube) (fault : InvariantFault)
-    → HasCubes c bytes cubes → IsRefused (IsOverfull (with_cubes cubes c)) fault → NotInvariant c fault bytes AtEnd
-of_growth c bytes cubes fault has (inl memory) =
-    subst (λ (f : InvariantFault). NotInvariant c f bytes AtEnd) (sym memory) tt
-of_growth c bytes cubes fault has (inr (large, full)) =
-    subst (λ (f : InvariantFault). NotInvariant c f bytes AtEnd) (sym large) (refl, cubes, has, full)
+pub of_growth : (c : Circuit) (bytes : List ℕ) (cubes : List Cube) (stopped : Stopped)
+    → HasCubes c bytes cubes → IsRefused (IsOverfull (with_cubes cubes c)) stopped
+    → NotInvariant c stopped bytes AtEnd
+of_growth c bytes cubes stopped has (inl memory) = rw memory tt
+of_growth c bytes cubes stopped has (inr (large, full)) = rw large (refl, inr (refl, cubes, has, full))
 
 pub freed_growth : (cubes : List Cube) (c g d : Circuit) → g ≡ with_cubes cubes c → d ≡ with_free_latches g
     → d ≡ with_invariant cubes c
@@ -456,7 +445,7 @@ freed_growth cubes c g d grown freed_is =
     freed_is ∙ ap with_free_latches grown
     ∙ ap (λ (ls : List Latch). record (with_cubes cubes c) { latches = map freed ls }) (latches_stay cubes c)
 
-pub err_on : {A : Type 0} (r : Result A InvariantFault) (P Q : InvariantFault → Type 0)
-    → ((fault : InvariantFault) → P fault → Q fault) → IfErr r P → IfErr r Q
+pub err_on : {A : Type 0} (r : Result A Stopped) (P Q : Stopped → Type 0)
+    → ((stopped : Stopped) → P stopped → Q stopped) → IfErr r P → IfErr r Q
 err_on (Ok x) P Q on is = tt
-err_on (Err fault) P Q on is = on fault is
+err_on (Err stopped) P Q on is = on stopped is

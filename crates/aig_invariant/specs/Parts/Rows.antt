@@ -1,13 +1,12 @@
 -- The rows of an invariant's file as the code sees them: what a text is as a row is said of any text.
 use Rattle.std.specs.Prelude.{◌≡◌, ◌-◌, ◌==◌, ◌||◌, ◌&&◌, ◌∷◌, ℕ, List, [], Bool, false, true, Ok, Err, codes, drop}
-use Rattle.std.specs.Prelude.{length, map, take, if◌then◌else◌, ⊤}
+use Rattle.std.specs.Prelude.{length, map, take, if◌then◌else◌}
 use Rattle.std.specs.Str.{bytes_eq}
 use Rattle.aig_circuit.specs.declared.value.Val.{Val}
 use Rattle.aig_circuit.specs.declared.value.Val.TheVariants.{Zero, One, X}
 use Rattle.aig_circuit.specs.declared.circuit.Reset.{Reset}
+use Rattle.aig_fault.specs.declared.fault.Fault.{Fault}
 use Rattle.aig_lines.specs.Lines.{Line}
-use Rattle.aig_invariant.specs.declared.fault.InvariantFault.{InvariantFault}
-use Rattle.aig_invariant.specs.declared.fault.InvariantFault.TheVariants as faults
 use Rattle.aig_invariant.specs.Invariant.{Cube}
 use Rattle.aig_invariant.specs.InvariantText.{cube_in, is_passed, row_says}
 
@@ -43,15 +42,6 @@ abbrev pub IsRightLine : List Reset → ℕ → List ℕ → Type 0
 IsRightLine starts number text =
     is_passed text ≡ false → row_says starts number (cube_in text) ≡ Ok (cube_at text)
 
-abbrev pub IsWrongLine : List Reset → ℕ → List ℕ → InvariantFault → Type 0
+abbrev pub IsWrongLine : List Reset → ℕ → List ℕ → Fault → Type 0
 IsWrongLine starts number text fault =
     (is_passed text ≡ false) × (row_says starts number (cube_in text) ≡ Err fault)
-
--- a fault that a line has
-abbrev pub IsOfLine : InvariantFault → Type 0
-IsOfLine faults.OutOfMemory = ⊥
-IsOfLine (faults.BadLine line) = ⊤
-IsOfLine (faults.OtherLength line) = ⊤
-IsOfLine (faults.MetAtStart line) = ⊤
-IsOfLine faults.TooLarge = ⊥
-IsOfLine faults.ReadFailed = ⊥

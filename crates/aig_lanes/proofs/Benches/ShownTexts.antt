@@ -28,7 +28,7 @@ asked-map : {A B : Type 0} (f : A → B) (columns : Columns) (xs : List A)
 asked-map f Plain xs = refl
 asked-map f Properties xs = refl
 
--- what stands in the midst of values that were put behind a text
+-- what stands in the midst of values that were put after a text
 column : (text front : List ℕ) (put before values behind : List Val) (end from count : ℕ)
     → take end text ≡ front ++ values_text put → put ≡ before ++ (values ++ behind)
     → from ≡ length front + length before → count ≡ length values → part from count text ≡ values_text values
@@ -55,7 +55,7 @@ column text front put before values behind end from count is parted begins long 
     ∙ ap (take count) (drop_at (front ++ values_text before) (values_text values ++ values_text behind) from first)
     ∙ take_at (values_text values) (values_text behind) count (length-map values character_of ∙ sym long)
 
--- a step was put behind those before it
+-- a step was put after those before it
 module _ (c : Circuit) (shown : LaneColumns) (shows : ShowsRows c shown) (step : ℕ) (before after : List ℕ)
     (a : ℕ → Val) (start given : List Val) (room : end_of shown step ≤ length before)
     (put : take (end_of shown (step + 1)) after ≡ take (end_of shown step) before

@@ -168,7 +168,7 @@ next_last c shown shows =
     ) in
     drop_at literals (next_literals c) (length shown.literals.items - length shown.resets.items) size
 
--- and have the values of the state behind a step
+-- and have the values of the state after a step
 next_seen : (c : Circuit) (shown : LaneColumns) → ShowsRows c shown → (values : List Val) (a : ℕ → Val)
     → map (literal_value (read_from values)) shown.literals.items
     ≡ map (literal_value a) (step_literals shown.columns c)

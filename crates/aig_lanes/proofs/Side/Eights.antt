@@ -20,7 +20,7 @@ use Rattle.aig_lanes.proofs.Side.InputBits.{bit_of_byte}
 use Rattle.aig_lanes.proofs.Side.Sheets.{rows_with, text_long, zip_drop, zip_take}
 use borrow.Rule.Slice.PartMut.{put_mid}
 
--- two lists, each with another behind it
+-- two lists, each with another after it
 zip_append : (f : ℕ → ℕ → ℕ) (xs ys highs lows : List ℕ) → length xs ≡ length ys
     → zip2 f (xs ++ highs) (ys ++ lows) ≡ zip2 f xs ys ++ zip2 f highs lows
 zip_append f [] [] highs lows same = refl
@@ -195,7 +195,7 @@ woven_from m = m / 2 + 128 * (m % 2)
 pub woven_within : (m : ℕ) → m < 256 → woven_from m < 256
 woven_within m below = omega (arith, below)
 
--- three weavings bring the number of a row behind the number of a byte in it
+-- three weavings bring the number of a row after the number of a byte in it
 pub woven_thrice : (octet r : ℕ) → octet < 32 → r < 8
     → woven_from (woven_from (woven_from (8 * octet + r))) ≡ 32 * r + octet
 woven_thrice octet r in_row in_rows = search rules

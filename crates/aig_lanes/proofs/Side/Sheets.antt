@@ -91,7 +91,7 @@ vector_at inputs stride (suc steps) (suc k) lines d below =
     ∙ ap (λ ls. said (values_of (take inputs ls)))
     (drop-drop (k * stride) stride lines ∙ ap (λ n. drop n lines) (sym (one_more k stride)))
 
--- one more step behind all others
+-- one more step after all others
 pub vectors_push : (inputs stride steps : ℕ) (lines : List ℕ) → vectors_in inputs stride (steps + 1) lines
     ≡ vectors_in inputs stride steps lines ++ said (values_of (take inputs (drop (steps * stride) lines))) ∷ []
 vectors_push inputs stride zero lines =

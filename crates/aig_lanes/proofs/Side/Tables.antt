@@ -147,7 +147,7 @@ pub and_pair : (l : ℕ) (high low high_too low_too : List ℕ) (x y : Val) → 
     → IsPair l high_too low_too y → IsPair l (zip2 bit_and high high_too) (zip2 bit_or low low_too) (value_and x y)
 and_pair l high low high_too low_too x y p q = search (rules, length-zip2, and_in, least_may, or_in, most_may)
 
--- one more value is put behind those before it
+-- one more value is put after those before it
 pub placed_more : (at i : ℕ) (given : List Val) (d x : Val) (values : List Val) → i < length given
     → x ≡ get_or given i d → placed at (take (i + 1) given) values ≡ set (placed at (take i given) values) (at + i) x
 placed_more at i given d x values below is =

@@ -26,6 +26,6 @@ reset_literal resets.Uninit = 2
 abbrev pub reset_literals : List Latch → List ℕ
 reset_literals latches = map (λ (l : Latch). reset_literal l.reset) latches
 
--- the literals that are put for a step: what it shows beside states, and the state behind it
+-- the literals that are put for a step: what it shows beside states, and the state after it
 abbrev pub step_literals : Columns → Circuit → List ℕ
 step_literals columns c = seen columns c.outputs c.bad c.constraints ++ next_literals c

@@ -35,7 +35,7 @@ pub record AreTables (c : Circuit) (shown : LaneColumns) (blocks table state : �
   pub state_size : state ≡ 2 * length c.latches
   pub shows : ShowsRows c shown
 
--- how many characters are kept of so many steps, with the state behind them
+-- how many characters are kept of so many steps, with the state after them
 abbrev pub end_of : LaneColumns → ℕ → ℕ
 end_of shown steps = steps * length shown.literals.items + length shown.resets.items
 
@@ -106,7 +106,7 @@ abbrev pub KeepsRun : Circuit → Run → (lane : ℕ) → LaneColumns → List 
 KeepsRun c run lane shown sheet = (rows : List Row) × KeepsTrace c run.steps shown (text_in lane sheet) rows
 
 -- So many steps were taken side by side: what is kept is the run's trace so far; and where the run has as many steps,
--- the state behind them stands in its lane.
+-- the state after them stands in its lane.
 pub record LaneStands (c : Circuit) (run : Run) (steps lane : ℕ) (table state : List (List ℕ))
     (shown : LaneColumns) (sheet : List BytesText) : Type 0 where
   pub rows : List Row

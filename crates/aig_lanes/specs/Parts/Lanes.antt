@@ -1,6 +1,6 @@
 -- Up to 256 runs side by side, a lane for each. A plane has a bit for each lane, in four words of 64. A table has for
 -- each literal the plane of those lanes in which the literal may be 1, so that the negation of a variable, the plane
--- behind its own, tells where the variable may be 0.
+-- after its own, tells where the variable may be 0.
 use Rattle.std.specs.Prelude.{◌≡◌, ◌/◌, ◌%◌, ◌==◌, ℕ, List, [], ◌∷◌, if◌then◌else◌, length, map, slice_index_or}
 use Rattle.std.specs.Int.{bit_at}
 use Rattle.std.specs.List.{All}

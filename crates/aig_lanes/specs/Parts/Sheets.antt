@@ -23,7 +23,7 @@ abbrev pub overwritten : ℕ → (characters text : List ℕ) → List ℕ
 overwritten at characters text =
     take at text ++ (take (length text - at) characters ++ drop (at + length characters) text)
 
--- the byte at a place of rows of 32 bytes, where one row stands behind the other
+-- the byte at a place of rows of 32 bytes, where one row stands after the other
 abbrev pub byte_at : ℕ → List (List ℕ) → ℕ
 byte_at place rows = slice_index_or (slice_index_or rows (place / 32) []) (place % 32) 0
 

@@ -164,12 +164,12 @@ first_of b = record {
   has_comment = b.has_comment;
 }
 
--- the text behind the first line, and what follows it
+-- the text after the first line, and what follows it
 abbrev behind : MapBlock → List ℕ → List ℕ
 behind b rest =
     lines variable_row b.inputs (lines variable_row b.latches (lines mapped_row b.gates (last_line ++ rest)))
 
--- the lines behind the first one, section by section
+-- the lines after the first one, section by section
 rows_behind : (b : MapBlock) (rest : List ℕ)
     → (flat_map numbers_text (block_rows b) ++ last_line) ++ rest ≡ behind b rest
 rows_behind b rest =
@@ -189,7 +189,7 @@ text_by_parts b rest =
     (append_assoc (numbers_text (first_row b)) (flat_map numbers_text (block_rows b) ++ last_line) rest
     ∙ ap (line (first_row b)) (rows_behind b rest))
 
--- the lines behind a first line stand there
+-- the lines after a first line stand there
 record IsRest (f : FirstLine) (bytes : List ℕ) (r : MapBlock × List ℕ) : Type 0 where
   within : IsWithinBounds r.0
   first : first_of r.0 ≡ f

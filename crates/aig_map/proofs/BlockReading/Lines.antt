@@ -17,9 +17,9 @@ use Rattle.aig_text.specs.AsciiText.{numbers_text}
 use Rattle.aig_map.specs.declared.map_block.MappedGate.{MappedGate}
 use Rattle.aig_map.specs.MapBlock.{one_if, variable_row, mapped_row}
 use Rattle.aig_map.specs.MapSpelling.{number_at, last_number_at, is_variable, variable_at, gate_at}
-use Rattle.aig_map.specs.declared.fault.MapFault.{MapFault}
+use Rattle.aig_fault.specs.declared.fault.Fault.{Fault}
 use Rattle.aig_map.specs.MapReading.{◌>>=◌, or_else, entries_at}
-use Rattle.aig_map.specs.declared.fault.MapFault.TheVariants.{Malformed}
+use Rattle.aig_map.specs.MapReading.{bad_line}
 
 -- the line of these numbers, and what follows it
 abbrev pub line : List ℕ → List ℕ → List ℕ
@@ -29,7 +29,7 @@ line ns rest = numbers_text ns ++ rest
 abbrev IsSmall : ℕ → Type 0
 IsSmall n = n < 2 ^ 33
 
--- a number with others behind it in its line, and the last one of a line, are read
+-- a number with others after it in its line, and the last one of a line, are read
 pub number_is_read : (n m : ℕ) (ns rest : List ℕ) → IsSmall n
     → number_at (line (n ∷ m ∷ ns) rest) ≡ Some (n, line (m ∷ ns) rest)
 number_is_read n m ns rest small = search (rules, append_assoc, canonical_is_read)
@@ -37,7 +37,7 @@ number_is_read n m ns rest small = search (rules, append_assoc, canonical_is_rea
 pub last_is_read : (n : ℕ) (rest : List ℕ) → IsSmall n → last_number_at (line (n ∷ []) rest) ≡ Some (n, rest)
 last_is_read n rest small = search (rules, append_assoc, canonical_is_read)
 
--- so one of two digits is, by its own byte and the line feed behind it
+-- so one of two digits is, by its own byte and the line feed after it
 pub flag_is_read : (bytes : List ℕ) → 1 < length bytes → get_or bytes 1 0 ≡ 10 → 48 ≤ get_or bytes 0 0
     → get_or bytes 0 0 ≤ 49 → last_number_at bytes ≡ Some (get_or bytes 0 0 - 48, drop 2 bytes)
 flag_is_read [] long ends low high = absurd (omega (arith, long))
@@ -157,7 +157,7 @@ module _ (m : ℕ) (few : m ≤ LARGEST) where
 -- So many lines of a map block: their text is read as what they tell, and what is read is their text.
 
 -- what is there where no fault is
-pub there : {A : Type 0} (fault : MapFault) (x : Option A) (y : A) → or_else fault x ≡ Ok y → x ≡ Some y
+pub there : {A : Type 0} (fault : Fault) (x : Option A) (y : A) → or_else fault x ≡ Ok y → x ≡ Some y
 there fault None y h = cc
 there fault (Some x) y h = cc
 
@@ -205,15 +205,15 @@ module _ {T : Type 0} {entry : List ℕ → Option (T × List ℕ)} {row : T →
 
 -- what so many lines tell, and what follows them
 abbrev pub Read : Type 0 → Type 0
-Read T = Result (List T × List ℕ) MapFault
+Read T = Result (List T × List ℕ) Fault
 
 module _ {T : Type 0} where
-  -- what is read behind what was found before
+  -- what is read after what was found before
   abbrev pub behind_found : List T → Read T → Read T
   behind_found found (Ok x) = Ok (found ++ x.0, x.1)
   behind_found found (Err e) = Err e
 
-  -- an entry goes behind what was found, or before what comes
+  -- an entry goes after what was found, or before what comes
   found_first : (found : List T) (x : T) (r : Read T)
       → behind_found (found ++ x ∷ []) r
       ≡ behind_found found (◌>>=◌ {B = List T × List ℕ} r (λ y. Ok (x ∷ y.0, y.1)))
@@ -221,7 +221,7 @@ module _ {T : Type 0} where
   found_first found x (Err e) = refl
 
   module _ (entry : List ℕ → Option (T × List ℕ)) (i count line : ℕ) (bytes : List ℕ) (found : List T) where
-    -- what is read from here on, behind what was found
+    -- what is read from here on, after what was found
     abbrev from_here : Read T
     from_here = behind_found found (entries_at entry (line + i) (count - i) bytes)
 
@@ -236,7 +236,7 @@ module _ {T : Type 0} where
 
     -- a line that is not of its form
     pub entries_wrong : (whole : Read T) → i < count → entry bytes ≡ None → from_here ≡ whole
-        → whole ≡ Err (Malformed (line + i))
+        → whole ≡ Err (bad_line (line + i))
     unfolding entries_at
     entries_wrong whole l h is =
         let one : count - i ≡ suc (count - (i + 1)) = omega arith in

@@ -23,7 +23,7 @@ use Rattle.aig_map.specs.MapBlock.{mapped_gate, map_block, mapped_by}
 use Rattle.aig_map.specs.Undone.{comment_behind, exchanges_recorded, places_recorded, source_variables, undone}
 use Rattle.aig_map.proofs.Restoring.AtPositions.{by_position}
 
--- the comment behind a block is that of the circuit
+-- the comment after a block is that of the circuit
 comment_kept : (comment : Option (List ℕ)) (b : MapBlock) → b.has_comment ≡ is_some comment
     → comment_behind b (unwrap_or comment []) ≡ comment
 comment_kept None b has = rw has refl

@@ -183,7 +183,7 @@ well_formed_again b x comment good fit once =
 -- Where the places that a block tells are the least ready order of the undone circuit, its mapped image is the circuit
 -- that it was undone from.
 
--- the comment behind a block tells whether there was one
+-- the comment after a block tells whether there was one
 was_there : (has : Bool) (rest : List ℕ) → is_some (if has then Some rest else None) ≡ has
 was_there true rest = refl
 was_there false rest = refl

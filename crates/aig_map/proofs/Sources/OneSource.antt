@@ -17,7 +17,7 @@ use Rattle.aig_image.specs.Reordered.{operands_sorted}
 use Rattle.aig_image.proofs.Imaging.InTurn.{all_taken}
 use Rattle.aig_image.proofs.Relabelling.Formed.{all_through}
 use Rattle.aig_image.proofs.Numbering.Places.{places_apart, at_place, by_places}
-use Rattle.aig_map.specs.declared.fault.MapFault.{MapFault}
+use Rattle.aig_fault.specs.declared.fault.Fault.{Fault}
 use Rattle.aig_map.specs.declared.map_block.MappedGate.{MappedGate}
 use Rattle.aig_map.specs.declared.map_block.MapBlock.{MapBlock}
 use Rattle.aig_map.specs.MapBlock.{mapped_gate, map_block, mapped_by, IsMappedImage}
@@ -100,7 +100,7 @@ module _ (c : Circuit) (order : List ℕ) (good : IsWellFormed c) (least : IsLea
   mapped_reading = block_is_read (mapped_by order c) (map_block order c) (unwrap_or c.comment []) refl counts within
 
 -- one thing is read
-one_reading : (reading : Result (MapBlock × List ℕ) MapFault) (recorded other : MapBlock × List ℕ)
+one_reading : (reading : Result (MapBlock × List ℕ) Fault) (recorded other : MapBlock × List ℕ)
     → reading ≡ Ok recorded → reading ≡ Ok other → recorded ≡ other
 one_reading reading recorded other is is_too = cc
 

@@ -19,9 +19,9 @@ abbrev pub new_place_by : (ℕ → ℕ) → ℕ → Gate → ℕ
 new_place_by f first g = new_place_of first (relabelled_gate f g)
 
 -- what is recorded of a gate that had this variable and has this new place
-abbrev pub gate_told : ℕ → ℕ → MappedGate
-gate_told var new = record { var = var; place = new / 2; exchanged = new % 2 == 1 }
+abbrev pub gate_recorded : ℕ → ℕ → MappedGate
+gate_recorded var new = record { var = var; place = new / 2; exchanged = new % 2 == 1 }
 
 -- the same of all gates
-abbrev pub gates_told : List ℕ → List ℕ → List MappedGate
-gates_told variables new_places = zip2 gate_told variables new_places
+abbrev pub gates_recorded : List ℕ → List ℕ → List MappedGate
+gates_recorded variables new_places = zip2 gate_recorded variables new_places

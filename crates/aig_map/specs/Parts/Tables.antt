@@ -6,7 +6,7 @@ use Rattle.aig_circuit.specs.Wellformed.{AreDistinct, IsWellFormed}
 use Rattle.aig_checked.specs.BinaryOrder.{IsInBinaryOrder}
 use Rattle.aig_image.specs.Relabelled.{relabelled_gate}
 use Rattle.aig_image.specs.Reordered.{taken}
-use Rattle.aig_map.specs.declared.fault.MapFault.{MapFault}
+use Rattle.aig_fault.specs.declared.fault.Fault.{Fault}
 use Rattle.aig_map.specs.declared.map_block.MapBlock.{MapBlock}
 use Rattle.aig_map.specs.declared.recorded.Recorded.{Recorded}
 use Rattle.aig_map.specs.MapReading.{block_reading, HasCountsOf, IsWithinBounds}
@@ -14,7 +14,7 @@ use Rattle.aig_map.specs.Parts.Turns.{positions}
 use Rattle.aig_map.specs.Undone.{comment_behind, exchanges_recorded, places_recorded, undone}
 
 -- the block that was read, or an empty one
-abbrev pub block_in : Result (MapBlock × List ℕ) MapFault → MapBlock
+abbrev pub block_in : Result (MapBlock × List ℕ) Fault → MapBlock
 block_in (Ok (b, rest)) = b
 block_in (Err e) = record { max_var = 0; inputs = []; latches = []; gates = []; has_comment = false }
 
@@ -52,7 +52,7 @@ pub record IsBlockOf (b : MapBlock) (x : Circuit) (r : Recorded) (by_place : Lis
 abbrev pub without_comment : Circuit → Circuit
 without_comment x = record x { comment = None }
 
--- what is left of a well-formed circuit once this block was taken off its comment: the comment behind it, and the
+-- what is left of a well-formed circuit once this block was taken off its comment: the comment after it, and the
 -- circuit without a comment
 pub record IsLeftOf (x : Circuit) (b : MapBlock) (rest : List ℕ) (left : Circuit) : Type 0 where
   pub formed : IsWellFormed x

@@ -10,7 +10,7 @@ use Rattle.aig_map.specs.Undone.{places_recorded}
 abbrev pub positions : List MappedGate → List ℕ
 positions gates = positions_of (places_recorded gates)
 
--- The first place that a gate of the image may have, where the first gate has this variable: the one behind the gate
+-- The first place that a gate of the image may have, where the first gate has this variable: the one after the gate
 -- that its larger operand is over, or 0 where that is over none.
 abbrev pub ready_from : ℕ → Gate → ℕ
 ready_from first g = suc (variable_of g.left) - first

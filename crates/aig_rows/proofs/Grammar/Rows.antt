@@ -5,9 +5,9 @@ use Rattle.std.proofs.Common.{inl, inr, not, ltb-false, lt-ltb, le-ltb, eq-eqb, 
 use Rattle.std.specs.List.{AllZip}
 use Rattle.std.proofs.lemmas.Slice.Zip.{AllZip-long}
 use Rattle.std.proofs.lemmas.Bool.{eqb-false, or_parts, or_from}
-use Rattle.aig_rows.specs.declared.fault.ReadFault.{ReadFault}
-use Rattle.aig_rows.specs.declared.fault.ReadKind.{ReadKind}
-use Rattle.aig_rows.specs.declared.fault.ReadKind.TheVariants as kinds
+use Rattle.aig_fault.specs.declared.stopped.Stopped.{Stopped}
+use Rattle.aig_fault.specs.declared.kind.Kind.{Kind}
+use Rattle.aig_fault.specs.declared.kind.Kind.TheVariants as kinds
 use Rattle.aig_rows.specs.declared.row.Role.TheVariants as roles
 use Rattle.aig_lines.specs.Lines.{Line, Ahead, ahead}
 use Rattle.aig_rows.specs.Scanning.{numbers_at}
@@ -57,7 +57,7 @@ module _ (bound carried own : ℕ) where
       (may_stand bound carried own r n p.0, all_may_stand rs ns (omega arith) p.1)
   all_may_stand rs ns long h = absurd (omega arith)
 
-  none_wrong : (rs : List Role) (ns : List ℕ) → AllZip (MayStand bound carried own) rs ns
+  pub none_wrong : (rs : List Role) (ns : List ℕ) → AllZip (MayStand bound carried own) rs ns
       → AreRight bound carried own rs ns
   none_wrong [] [] h = record { defined = refl; within = refl; reset = refl; sized = refl }
   none_wrong (r ∷ rs) (n ∷ ns) h =
@@ -68,7 +68,7 @@ module _ (bound carried own : ℕ) where
 abbrev own_of : Form → ℕ → List ℕ → ℕ
 own_of form carried ns = own_literal form.first carried (get_or ns 0 0)
 
-unless_none : {A : Type 0} (x y : A) (o : Option _) → unless_wrong x o ≡ Ok y → (o ≡ None) × (x ≡ y)
+pub unless_none : {A : Type 0} (x y : A) (o : Option Kind) → unless_wrong x o ≡ Ok y → (o ≡ None) × (x ≡ y)
 unless_none x y None h = (refl, ok_same x y h)
 unless_none x y (Some k) h = cc
 
@@ -114,7 +114,7 @@ row_is_found form bound carried l ns h g =
       right.sized,
     ) refl
 
--- what is carried behind a row
+-- what is carried after a row
 abbrev pub carried_behind : Form → ℕ → List ℕ → ℕ
 carried_behind form carried ns = carried_on form.first carried (get_or ns 0 0)
 
@@ -146,8 +146,8 @@ abbrev then_rows : Form → ℕ → ℕ → ℕ → List ℕ × Ahead → Found 
 then_rows form bound carried count first =
     rows_at form bound (carried_behind form carried first.0) count first.1 >>= with_first first.0
 
--- what a line tells, and what is ahead behind it
-pub first_found : {A : Type 0} (missing : ReadKind) (tell : Line → Result A ReadKind) (n : ℕ) (l : Line)
+-- what a line tells, and what is ahead after it
+pub first_found : {A : Type 0} (missing : Kind) (tell : Line → Result A Kind) (n : ℕ) (l : Line)
     (ls : List Line) (p : A × Ahead)
     → line_found missing tell n (l ∷ ls) ≡ Ok p → (x : A) × (tell l ≡ Ok x) × ((x, ahead (n + 1) ls) ≡ p)
 first_found missing tell n l ls p h = search (rules, both_ok, ok_at_line, ok_same)
@@ -162,7 +162,7 @@ rows_from form bound carried (suc count) n (l ∷ ls) p s h =
     let r = first_found kinds.Truncated (row_of form bound carried) n l ls f.0 f.1 in
     let next : ℕ = carried_behind form carried f.0.0 in
     let o = both_ok (rows_at form bound next count f.0.1) (with_first f.0.0) p f.2 in
-    let whole : (f.0.0 ∷ o.0.0, o.0.1) ≡ p = ok_same {E = ReadFault} _ _ o.2 in
+    let whole : (f.0.0 ∷ o.0.0, o.0.1) ≡ p = ok_same {E = Stopped} _ _ o.2 in
     let others = rows_from form bound next count f.0.1.number f.0.1.lines o.0 s o.1 in
     let here =
     subst (λ (q : List ℕ × Ahead). IsRowThere form bound carried l q.0) r.2

@@ -5,8 +5,8 @@ use Rattle.std.proofs.Common.{ltb, inl, inr, Option, Some, None, Err, suc, pred,
 use Rattle.std.proofs.Common.{ltb-true, eqb-true, ne_eqb}
 use Rattle.std.proofs.lemmas.Bool.{cases_lt, cases_Bool, or_parts, or_from, and_parts, not-true, not-false}
 use Rattle.aig_circuit.specs.declared.circuit.TheConstants.{LARGEST}
-use Rattle.aig_rows.specs.declared.fault.ReadKind.{ReadKind}
-use Rattle.aig_rows.specs.declared.fault.ReadKind.TheVariants as kinds
+use Rattle.aig_fault.specs.declared.kind.Kind.{Kind}
+use Rattle.aig_fault.specs.declared.kind.Kind.TheVariants as kinds
 use Rattle.aig_rows.specs.declared.row.Role.TheVariants as roles
 use Rattle.std.proofs.Math.Seq.{drop-nil}
 use Rattle.std.proofs.lemmas.List.{length-map}
@@ -108,7 +108,7 @@ own_small m c roles.Definition n l k e = let low : n ≤ 2 * m + 1 = ltb-false (
 own_small m c r n l k e = omega arith
 
 -- the first test that is not passed tells the fault
-abbrev told : Bool → Bool → Bool → Bool → Option ReadKind
+abbrev told : Bool → Bool → Bool → Bool → Option Kind
 told a b d e =
     cond a (Some kinds.NotVariable)
     (cond b (Some kinds.LiteralRange) (cond d (Some kinds.BadReset) (cond e (Some kinds.TooLarge) None)))
@@ -210,7 +210,7 @@ module _ (form : Form) (m c most : ℕ) (text : List ℕ) (ended : Bool) (small 
   unfolding checked_row
   no_row h = row_is None h
 
-  pub row_wrong : (ns : List ℕ) (kind : ReadKind) → kept_numbers (numbers_at ended form.least most text) ≡ Some ns
+  pub row_wrong : (ns : List ℕ) (kind : Kind) → kept_numbers (numbers_at ended form.least most text) ≡ Some ns
       → fault_in_row form m c ns ≡ Some kind → row_of form m c (line text ended) ≡ Err kind
   unfolding checked_row
   row_wrong ns kind h e = row_is (Some ns) h ∙ ap (unless_wrong ns) e

@@ -32,7 +32,7 @@ put_one : (front : List ℕ) (n : ℕ) (r : Option (List ℕ))
 put_one front n None = refl
 put_one front n (Some ns) = ap (λ (xs : List ℕ). Some xs) (append_assoc front (n ∷ []) ns)
 
--- the number behind what is kept of it
+-- the number after what is kept of it
 abbrev pub Behind : ℕ → List ℕ → Option (ℕ × List ℕ) → Type 0
 Behind value after read = (n : ℕ) × (read ≡ Some (n, after)) × (kept n ≡ value)
 

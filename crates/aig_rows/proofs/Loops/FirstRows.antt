@@ -3,27 +3,27 @@ use Rattle.std.proofs.Common.{◌≡◌, ◌≢◌, ◌+◌, ◌-◌, ◌<◌, �
 use Rattle.std.proofs.Common.{inl, inr, Result, Ok, Err, refl, sym, ap, subst, append_assoc, append-nil, length-append}
 use Rattle.std.proofs.Common.{arith}
 use Rattle.std.proofs.lemmas.List.{map-append}
-use Rattle.aig_rows.specs.declared.fault.ReadFault.{ReadFault}
-use Rattle.aig_rows.specs.declared.fault.ReadKind.{ReadKind}
-use Rattle.aig_rows.specs.declared.fault.ReadKind.TheVariants as kinds
+use Rattle.aig_fault.specs.declared.stopped.Stopped.{Stopped}
+use Rattle.aig_fault.specs.declared.kind.Kind.{Kind}
+use Rattle.aig_fault.specs.declared.kind.Kind.TheVariants as kinds
 use Rattle.aig_lines.specs.Lines.{Line, Ahead, IsBehind, ahead, lines_of, with_lines}
 use Rattle.aig_rows.specs.Rows.{Role, Form}
 use Rattle.aig_rows.specs.Outcomes.{row_meant, rows_meant}
 use Rattle.aig_rows.specs.Reading.{◌>>=◌, Found, carried_on, at_line, fault_at, line_found, row_of, row_at, rows_at}
-use Rattle.aig_rows.specs.Reading.{want_of_memory}
+use Rattle.aig_fault.specs.declared.stopped.Stopped.TheVariants.{OutOfMemory}
 use Rattle.aig_rows.specs.declared.rows.Due.{Due}
 use Rattle.aig_rows.specs.Begun.{carried_over, AreFirst, HaveRead}
 use Rattle.aig_rows.proofs.Steps.{both_ok, ok_same}
 use Rattle.aig_lines.proofs.Cutting.{some_lines}
 use Rattle.aig_rows.proofs.Loops.Rows.{IsCarried, meant_row}
 
--- what the first line tells, where more lines come behind those
-module _ {A : Type 0} (missing : ReadKind) (tell : Line → Result A ReadKind) (n : ℕ) where
-  told_by : (ls more : List Line) (r : Result A ReadFault) (p : A × Ahead)
+-- what the first line tells, where more lines come after those
+module _ {A : Type 0} (missing : Kind) (tell : Line → Result A Kind) (n : ℕ) where
+  told_by : (ls more : List Line) (r : Result A Stopped) (p : A × Ahead)
       → ◌>>=◌ {B = A × Ahead} r (λ found. Ok (found, ahead (n + 1) ls)) ≡ Ok p
       → ◌>>=◌ {B = A × Ahead} r (λ found. Ok (found, ahead (n + 1) (ls ++ more))) ≡ Ok (p.0, with_lines p.1 more)
   told_by ls more (Ok x) p h =
-      ap (λ (q : A × Ahead). Ok (q.0, with_lines q.1 more)) (ok_same {E = ReadFault} (x, ahead (n + 1) ls) p h)
+      ap (λ (q : A × Ahead). Ok (q.0, with_lines q.1 more)) (ok_same {E = Stopped} (x, ahead (n + 1) ls) p h)
   told_by ls more (Err e) p h = cc
 
   pub found_joined : (ls more : List Line) (p : A × Ahead) → line_found missing tell n ls ≡ Ok p
@@ -31,22 +31,22 @@ module _ {A : Type 0} (missing : ReadKind) (tell : Line → Result A ReadKind) (
   found_joined [] more p h = cc
   found_joined (l ∷ ls) more p h = told_by ls more (at_line n (tell l)) p h
 
-  refused_by : (ls more : List Line) (r : Result A ReadFault) (e : ReadFault)
+  refused_by : (ls more : List Line) (r : Result A Stopped) (e : Stopped)
       → ◌>>=◌ {B = A × Ahead} r (λ found. Ok (found, ahead (n + 1) ls)) ≡ Err e
       → ◌>>=◌ {B = A × Ahead} r (λ found. Ok (found, ahead (n + 1) (ls ++ more))) ≡ Err e
   refused_by ls more (Ok x) e h = cc
   refused_by ls more (Err d) e h = cc
 
-  pub refused_joined : (ls more : List Line) (e : ReadFault) → ls ≢ [] → line_found missing tell n ls ≡ Err e
+  pub refused_joined : (ls more : List Line) (e : Stopped) → ls ≢ [] → line_found missing tell n ls ≡ Err e
       → line_found missing tell n (ls ++ more) ≡ Err e
   refused_joined [] more e some h = absurd (some refl)
   refused_joined (l ∷ ls) more e some h = refused_by ls more (at_line n (tell l)) e h
 
-  behind_by : (l : Line) (ls : List Line) (r : Result A ReadFault) (p : A × Ahead)
+  behind_by : (l : Line) (ls : List Line) (r : Result A Stopped) (p : A × Ahead)
       → ◌>>=◌ {B = A × Ahead} r (λ found. Ok (found, ahead (n + 1) ls)) ≡ Ok p → IsBehind (ahead n (l ∷ ls)) p.1
   behind_by l ls (Ok x) p h =
       subst (λ (q : A × Ahead). IsBehind (ahead n (l ∷ ls)) q.1)
-      (ok_same {E = ReadFault} (x, ahead (n + 1) ls) p h)
+      (ok_same {E = Stopped} (x, ahead (n + 1) ls) p h)
       (record { front = l ∷ []; lines = refl; number = refl })
   behind_by l ls (Err e) p h = cc
 
@@ -62,7 +62,7 @@ behind_more at mid now a b = record {
   number = omega (arith, a.number, b.number, length-append a.front b.front);
 }
 
--- rows behind those that were read
+-- rows after those that were read
 abbrev pub after_rows : List (List ℕ) → Found (List (List ℕ)) → Found (List (List ℕ))
 after_rows rows (Ok x) = Ok (rows ++ x.0, x.1)
 after_rows rows (Err e) = Err e
@@ -106,7 +106,7 @@ module _ (form : Form) (m : ℕ) where
         others = o.0;
         row = f.1;
         rows = o.1;
-        whole = ok_same {E = ReadFault} (f.0.0 ∷ o.0.0, o.0.1) p o.2;
+        whole = ok_same {E = Stopped} (f.0.0 ∷ o.0.0, o.0.1) p o.2;
       }
 
   abbrev Splits : (n k carried : ℕ) (at : Ahead) (p : List (List ℕ) × Ahead) → Type 0
@@ -119,7 +119,7 @@ module _ (form : Form) (m : ℕ) where
   unfolding rows_at
   rows_split zero k carried at p h =
       let none : 0 + k ≡ k = omega arith in
-      subst (Splits 0 k carried at) (ok_same {E = ReadFault} ([], at) p h)
+      subst (Splits 0 k carried at) (ok_same {E = Stopped} ([], at) p h)
       (rw none (none_before (rows_at form m carried k at)))
   rows_split (suc n) k carried at p h =
       let t = parted carried n at p h in
@@ -133,7 +133,7 @@ module _ (form : Form) (m : ℕ) where
       → rows_at form m carried n (with_lines at more) ≡ Ok (p.0, with_lines p.1 more)
   unfolding rows_at
   rows_joined zero carried at more p h =
-      ap (λ (q : List (List ℕ) × Ahead). Ok (q.0, with_lines q.1 more)) (ok_same {E = ReadFault} ([], at) p h)
+      ap (λ (q : List (List ℕ) × Ahead). Ok (q.0, with_lines q.1 more)) (ok_same {E = Stopped} ([], at) p h)
   rows_joined (suc n) carried at more p h =
       let t = parted carried n at p h in
       let row = found_joined kinds.Truncated (row_of form m carried) at.number at.lines more t.first t.row in
@@ -145,7 +145,7 @@ module _ (form : Form) (m : ℕ) where
       → IsBehind at p.1
   unfolding rows_at
   rows_behind zero carried at p h =
-      subst (λ (q : List (List ℕ) × Ahead). IsBehind at q.1) (ok_same {E = ReadFault} ([], at) p h)
+      subst (λ (q : List (List ℕ) × Ahead). IsBehind at q.1) (ok_same {E = Stopped} ([], at) p h)
       (record { front = []; lines = refl; number = omega arith })
   rows_behind (suc n) carried at p h =
       let t = parted carried n at p h in
@@ -202,12 +202,12 @@ module _ (form : Form) (m : ℕ) where
   }
 
   -- a row that is wrong, or missing
-  pub row_wrong : (carried n : ℕ) (at : Ahead) (e : ReadFault) → row_at form m carried at ≡ Err e
+  pub row_wrong : (carried n : ℕ) (at : Ahead) (e : Stopped) → row_at form m carried at ≡ Err e
       → rows_at form m carried (suc n) at ≡ Err e
   unfolding rows_at
   row_wrong carried n at e h = rw h refl
 
-  pub first_wrong : (due left : Due) (at now : Ahead) (rows : List (List ℕ)) (more : List Line) (e : ReadFault)
+  pub first_wrong : (due left : Due) (at now : Ahead) (rows : List (List ℕ)) (more : List Line) (e : Stopped)
       → AreFirst form m due left at now rows → 0 < left.count → row_at form m left.carried (with_lines now more) ≡ Err e
       → rows_at form m due.carried due.count (with_lines at more) ≡ Err e
   first_wrong due left at now rows more e first some h =
@@ -216,7 +216,7 @@ module _ (form : Form) (m : ℕ) where
       ∙ ap (λ (k : ℕ). after_rows rows (rows_at form m left.carried k (with_lines now more))) one
       ∙ ap (after_rows rows) (row_wrong left.carried (left.count - 1) (with_lines now more) e h)
 
--- what the rows mean stands behind what was found
+-- what the rows mean stands after what was found
 module _ {A : Type 0} (tell : List ℕ → A) (form : Form) (m : ℕ) where
   pub have_none : (due : Due) (before : List A) (at : Ahead) → HaveRead tell form m due due before before at at
   have_none due before at = record { rows = []; first = none_yet form m due at; meant = sym (append-nil before) }
@@ -241,12 +241,12 @@ module _ {A : Type 0} (tell : List ℕ → A) (form : Form) (m : ℕ) where
             ∙ ap (λ (xs : List A). before ++ xs) (sym (map-append tell h.rows (r.numbers ∷ [])));
       }
 
-  no_meaning : (r : Found (List ℕ)) (e : ReadFault) → row_meant tell r ≡ Err e → r ≡ Err e
+  no_meaning : (r : Found (List ℕ)) (e : Stopped) → row_meant tell r ≡ Err e → r ≡ Err e
   no_meaning (Ok x) e h = cc
   no_meaning (Err d) e h = cc
 
   pub wrong_first : (due left : Due) (before found : List A) (at : Ahead) (number : ℕ) (rest : List ℕ)
-      (more : List Line) (e : ReadFault) → HaveRead tell form m due left before found at (ahead number (lines_of rest))
+      (more : List Line) (e : Stopped) → HaveRead tell form m due left before found at (ahead number (lines_of rest))
       → 0 < left.count → 0 < length rest
       → row_meant tell (row_at form m left.carried (ahead number (lines_of rest))) ≡ Err e
       → rows_at form m due.carried due.count (with_lines at more) ≡ Err e
@@ -278,10 +278,10 @@ module _ {A : Type 0} (tell : List ℕ → A) (form : Form) (m : ℕ) where
       (fault_at now.number kinds.Truncated) h.first some
       (ap (λ (ls : List Line). row_at form m left.carried (ahead now.number ls)) (append-nil now.lines ∙ none)))
 
-  pub wrong_alone : (due : Due) (from at : Ahead) (before : List A) (e : ReadFault) → from ≡ at
-      → (e ≡ want_of_memory)
+  pub wrong_alone : (due : Due) (from at : Ahead) (before : List A) (e : Stopped) → from ≡ at
+      → (e ≡ OutOfMemory)
       ⊎ ((more : List Line) → rows_at form m due.carried due.count (with_lines from more) ≡ Err e)
-      → (e ≡ want_of_memory) ⊎ (rows_meant tell before (rows_at form m due.carried due.count at) ≡ Err e)
+      → (e ≡ OutOfMemory) ⊎ (rows_meant tell before (rows_at form m due.carried due.count at) ≡ Err e)
   wrong_alone due from at before e same (inl h) = inl h
   wrong_alone due from at before e same (inr h) =
       inr (ap (λ (x : Ahead). rows_meant tell before (rows_at form m due.carried due.count x))

@@ -3,8 +3,8 @@ use Rattle.std.proofs.Common.{◌≡◌, ◌+◌, ◌≤◌, ◌∷◌, subst, l
 use Rattle.std.proofs.Common.{Option, Some, None, Ok, Err, refl, arith, Result, OnOk, sum, ltb-false}
 use Rattle.aig_rows.specs.Scanning.{numbers_at}
 use Rattle.std.proofs.lemmas.List.Sums.{sum_by-cons, sum_by-append}
-use Rattle.aig_rows.specs.declared.fault.ReadFault.{ReadFault}
-use Rattle.aig_rows.specs.declared.fault.ReadKind.TheVariants as kinds
+use Rattle.aig_fault.specs.declared.stopped.Stopped.{Stopped}
+use Rattle.aig_fault.specs.declared.kind.Kind.TheVariants as kinds
 use Rattle.aig_rows.specs.declared.row.Role.TheVariants as roles
 use Rattle.aig_lines.specs.Lines.{Line, Ahead}
 use Rattle.aig_rows.specs.Rows.{Role, Form, size_form, size_of}
@@ -14,7 +14,7 @@ use Rattle.aig_rows.specs.Reading.{row_at, rows_at}
 use Rattle.aig_rows.proofs.Steps.{both_ok, ok_at_line, ok_same}
 use Rattle.aig_rows.proofs.Kept.Checks.{first_is_right, right_parts}
 
--- what comes behind a row that is right
+-- what comes after a row that is right
 abbrev with_first : {X : Type 0} → X → List X × Ahead → Found (List X)
 with_first x others = Ok (x ∷ others.0, others.1)
 
@@ -85,7 +85,7 @@ module _ {A : Type 0} (tell : List ℕ → A) (form : Form) (m : ℕ) where
       ◌>>=◌ {B = List (List ℕ) × Ahead}
       (rows_at form m (carried_on form.first carried (get_or first.0 0 0)) count first.1) (with_first first.0)
 
-  -- what is carried on behind a row that means this
+  -- what is carried on after a row that means this
   abbrev pub IsCarried : ℕ → A → ℕ → Type 0
   IsCarried carried x next = (ns : List ℕ) → tell ns ≡ x → next ≡ carried_on form.first carried (get_or ns 0 0)
 
@@ -109,7 +109,7 @@ sizes_small m carried (suc count) at after rows l h =
     let o =
     both_ok (rows_at size_form m (carried + n) count f.0.1) (with_first f.0.0) (rows, after) f.2 in
     let whole : (f.0.0 ∷ o.0.0, o.0.1) ≡ (rows, after) =
-    ok_same {E = ReadFault} (f.0.0 ∷ o.0.0, o.0.1) (rows, after) o.2 in
+    ok_same {E = Stopped} (f.0.0 ∷ o.0.0, o.0.1) (rows, after) o.2 in
     let right = row_is_right size_form m carried at f.0.0 f.0.1 f.1 in
     subst (λ (q : List (List ℕ) × Ahead). carried + sum (map size_of q.0) ≤ m) whole
     (more_sizes m carried n (map size_of o.0.0)
@@ -122,7 +122,7 @@ sizes_fit m start count at after before rows (Err e) is from l h = cc
 sizes_fit m start count at after before rows (Ok x) is from l h = search (rules, ok_same, sizes_small, sum_by-append)
 
 pub sizes_read : {X : Type 0} (m start count : ℕ) (at after : Ahead) (before found : List ℕ)
-    (result : Result X ReadFault) → start ≡ sum before → sum before ≤ m
+    (result : Result X Stopped) → start ≡ sum before → sum before ≤ m
     → GivesOrMemory (λ _. (found, after)) result (rows_meant size_of before (rows_at size_form m start count at))
     → OnOk result (sum found ≤ m)
 sizes_read m start count at after before found (Ok x) from l h = search (rules, sizes_fit)

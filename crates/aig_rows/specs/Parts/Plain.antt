@@ -1,4 +1,4 @@
--- Rows in plain spelling: digits, one space between numbers, and a line feed behind the last.
+-- Rows in plain spelling: digits, one space between numbers, and a line feed after the last.
 use Rattle.std.specs.Prelude.{◌≡◌, ◌≤◌, ◌++◌, ℕ, List, ◌∷◌, length}
 use Rattle.aig_lines.specs.Lines.{HasNoLineFeed}
 use Rattle.aig_rows.specs.Spelling.{IsNumber, AreMoreNumbers, zeros}

@@ -40,7 +40,7 @@ pub placed_length : (at : ℕ) (xs values : List Val) → length (placed at xs v
 placed_length at [] values = refl
 placed_length at (x ∷ xs) values = placed_length (at + 1) xs (set values at x) ∙ length-set values at x
 
--- one more value is put behind the others
+-- one more value is put after the others
 pub placed_behind : (at : ℕ) (xs : List Val) (x : Val) (values : List Val)
     → placed at (xs ++ x ∷ []) values ≡ set (placed at xs values) (at + length xs) x
 placed_behind at [] x values =

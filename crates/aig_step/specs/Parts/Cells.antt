@@ -1,4 +1,4 @@
--- Values as bytes, and tables of values as bytes: the byte of each value, and behind it that of its negation, so that a
+-- Values as bytes, and tables of values as bytes: the byte of each value, and after it that of its negation, so that a
 -- literal is the place of its own byte.
 use Rattle.std.specs.Prelude.{◌≡◌, ◌==◌, ℕ, List, [], ◌∷◌, if◌then◌else◌}
 use Rattle.aig_circuit.specs.declared.value.Val.{Val}

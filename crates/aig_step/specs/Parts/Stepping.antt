@@ -21,6 +21,6 @@ pub record Evaluated (before after : Stepping) (given : List Val) : Type 0 where
 abbrev pub row_of : Stepping → Row
 row_of s = row_read s.circuit s.state (map (read_from s.values) s.circuit.inputs) (read_from s.values)
 
--- in the state behind the last step
+-- in the state after the last step
 abbrev pub in_next_state : Stepping → Stepping
 in_next_state s = record s { state = (row_of s).next }

@@ -4,6 +4,7 @@ use Rattle.std.proofs.Common.{zero, suc, cond, eqb}
 use Rattle.std.proofs.Common.{Option, None, Some, List, refl, sym, ap, subst, arith, length, get_or, take, [], drop}
 use Rattle.std.proofs.Common.{nat_cmp, nat_lt, BTreeMap, replicate, ⊎_elim, true≢false, is_some, length-set, ap₂, All}
 use Rattle.std.specs.BTreeMap.{get as tree_get, Updates}
+use Rattle.std.specs.FinMap.{FinMap, get}
 use Rattle.std.specs.Option.{option_or}
 use Rattle.std.specs.List.{position_or_len}
 use Rattle.std.specs.Cmp.{unsigned_tied, eq_by_cmp_equiv}
@@ -16,8 +17,8 @@ use Rattle.std.proofs.lemmas.List.Elements.{All-set, All-replicate}
 use Rattle.std.proofs.Math.ListN.{set as put}
 use Rattle.aig_tables.specs.declared.var_map.slot.Slot.{Slot}
 use Rattle.aig_tables.specs.declared.var_map.spread.TheConstants.{WINDOW}
-use Rattle.aig_tables.specs.Parts.Places.{start_of, window_of, ends_search, stored, seen, spread_at, IsSpread}
-use Rattle.aig_tables.proofs.Tables.Maps.{HasNew}
+use Rattle.aig_tables.specs.Parts.Places.{start_of, window_of, ends_search, stored, seen, spread_at, map_of, IsSpread}
+use Rattle.aig_tables.proofs.Tables.Maps.{HasNew, map_has}
 
 pub none_of : {T : Type 0} (o : Option T) → is_some o ≡ false → o ≡ None
 none_of None e = refl
@@ -146,30 +147,6 @@ module _ {T : Type 0} where
       → (q ≢ k → new ≡ old) → new ≡ option_or old (cond (eqb q k) (Some v) None)
   one_more new old q k v here none elsewhere = grind (arith, common_steps, here, none, elsewhere)
 
--- What is seen of an index, by the place where the search for it ends.
-module _ {T : Type 0} (starts : ℕ) (slots : List (Slot T)) (others : BTreeMap ℕ T) (k : ℕ)
-    (before : IsSpread starts slots others) (w : List (Slot T)) (window : w ≡ window_of starts slots k)
-    (p : ℕ) (place : p ≡ position_or_len (ends_search k) w) where
-  in_window : spread_at starts slots others k ≡ seen k w (tree_get nat_cmp others k)
-  in_window = before.in_sight k ∙ ap (λ x. seen k x (tree_get nat_cmp others k)) (sym window)
-
-  pub in_tree : p ≡ length w → spread_at starts slots others k ≡ tree_get nat_cmp others k
-  in_tree past = in_window ∙ full w k _ (omega (arith, past, place))
-
-  pub no_room : p ≡ length w
-      → length (window_of starts slots k) ≤ position_or_len (ends_search k) (window_of starts slots k)
-  no_room past = subst (λ x. length x ≤ position_or_len (ends_search k) x) window (omega (arith, past, place))
-
-  module _ (s : Slot T) (some : p ≢ length w) (is : s ≡ get_or w p s) where
-    within : position_or_len (ends_search k) w < length w
-    within = omega (arith, ends_within w k, some, place)
-
-    pub in_slot : s.index ≡ k → spread_at starts slots others k ≡ Some s.value
-    in_slot same = in_window ∙ seen_here w k _ s within (subst (λ i. s ≡ get_or w i s) place is) same
-
-    pub nowhere : s.index ≢ k → spread_at starts slots others k ≡ None
-    nowhere other = in_window ∙ seen_nowhere w k _ s within (subst (λ i. s ≡ get_or w i s) place is) other
-
 -- The empty slot in which the search for an index ends gets the index and its value.
 module _ {T : Type 0} (starts : ℕ) (slots : List (Slot T)) (others : BTreeMap ℕ T) (k : ℕ) (v : T) (s : Slot T)
     (before : IsSpread starts slots others)
@@ -273,32 +250,6 @@ module _ {T : Type 0} (starts : ℕ) (slots : List (Slot T)) (others : BTreeMap 
         (cases_eq q k);
   }
 
--- the same, as the code finds the slot
-module _ {T : Type 0} (starts : ℕ) (slots : List (Slot T)) (others : BTreeMap ℕ T) (k : ℕ) (v : T)
-    (before : IsSpread starts slots others) (w : List (Slot T)) (window : w ≡ window_of starts slots k) (p : ℕ)
-    (ends : p ≡ position_or_len (ends_search k) w) (s : Slot T) (some : p ≢ length w) (is : s ≡ get_or w p s)
-    (other : s.index ≢ k) (start : ℕ) (starts_there : start ≡ start_of starts k) where
-  ends_before : position_or_len (ends_search k) (window_of starts slots k) < length (window_of starts slots k)
-  ends_before = subst (λ x. position_or_len (ends_search k) x < length x) window
-      (within starts slots others k before w window p ends s some is)
-
-  ends_there : s ≡ get_or (window_of starts slots k) (position_or_len (ends_search k) (window_of starts slots k)) s
-  ends_there = subst (λ x. s ≡ get_or x (position_or_len (ends_search k) x) s) window
-      (subst (λ i. s ≡ get_or w i s) ends is)
-
-  same_place : start_of starts k + position_or_len (ends_search k) (window_of starts slots k) ≡ start + p
-  same_place = sym (ap₂ (λ a b. a + b) starts_there (ends ∙ ap (position_or_len (ends_search k)) window))
-
-  pub more_put : HasNew (spread_at starts slots others)
-      (spread_at starts (put slots (start + p) (filled k v)) others) k v
-  more_put = subst (λ i. HasNew (spread_at starts slots others)
-      (spread_at starts (put slots i (filled k v)) others) k v)
-      same_place (more_in_slot starts slots others k v s before ends_before ends_there other)
-
-  pub spread_put : IsSpread starts (put slots (start + p) (filled k v)) others
-  spread_put = subst (λ i. IsSpread starts (put slots i (filled k v)) others) same_place
-      (spread_in_slot starts slots others k v s before ends_before ends_there other)
-
 -- The tree gets an index whose window has no room.
 module _ {T : Type 0} (starts : ℕ) (slots : List (Slot T)) (others tree : BTreeMap ℕ T) (k : ℕ) where
   pub more_in_others : (v : T) → HasNew (tree_get nat_cmp others) (tree_get nat_cmp tree) k v
@@ -323,6 +274,63 @@ module _ {T : Type 0} (starts : ℕ) (slots : List (Slot T)) (others tree : BTre
         ≡ seen q (window_of starts slots q) o) (sym (same q ne)) (before.in_sight q))
         (cases_eq q k);
   }
+
+-- What a map of slots has of an index, and what it gets, by the place where the code's search for the index ends.
+module _ {T : Type 0} {starts : ℕ} {slots ss w : List (Slot T)} {others : BTreeMap ℕ T} (k : ℕ)
+    (before : IsSpread starts slots others) (cut : w ≡ window_of starts ss k) (same : ss ≡ slots) {p : ℕ}
+    (place : p ≡ position_or_len (ends_search k) w) where
+  window : w ≡ window_of starts slots k
+  window = cut ∙ ap (λ x. window_of starts x k) same
+
+  in_window : spread_at starts slots others k ≡ seen k w (tree_get nat_cmp others k)
+  in_window = before.in_sight k ∙ ap (λ x. seen k x (tree_get nat_cmp others k)) (sym window)
+
+  pub no_room : p ≡ length w
+      → length (window_of starts slots k) ≤ position_or_len (ends_search k) (window_of starts slots k)
+  no_room past = subst (λ x. length x ≤ position_or_len (ends_search k) x) window (omega (arith, past, place))
+
+  module _ {s : Slot T} (some : p ≢ length w) (is : s ≡ get_or w p s) where
+    within : position_or_len (ends_search k) w < length w
+    within = omega (arith, ends_within w k, some, place)
+
+    there : s ≡ get_or w (position_or_len (ends_search k) w) s
+    there = subst (λ i. s ≡ get_or w i s) place is
+
+    module _ (other : s.index ≢ k) {start : ℕ} (starts_there : start ≡ start_of starts k) (v : T) where
+      ends_before : position_or_len (ends_search k) (window_of starts slots k) < length (window_of starts slots k)
+      ends_before = subst (λ x. position_or_len (ends_search k) x < length x) window within
+
+      ends_there : s ≡ get_or (window_of starts slots k) (position_or_len (ends_search k) (window_of starts slots k)) s
+      ends_there = subst (λ x. s ≡ get_or x (position_or_len (ends_search k) x) s) window there
+
+      same_place : start_of starts k + position_or_len (ends_search k) (window_of starts slots k) ≡ start + p
+      same_place = sym (ap₂ (λ a b. a + b) starts_there (place ∙ ap (position_or_len (ends_search k)) window))
+
+      pub more_put : HasNew (spread_at starts slots others)
+          (spread_at starts (put slots (start + p) (filled k v)) others) k v
+      more_put = subst (λ i. HasNew (spread_at starts slots others)
+          (spread_at starts (put slots i (filled k v)) others) k v)
+          same_place (more_in_slot starts slots others k v s before ends_before ends_there other)
+
+      pub spread_put : IsSpread starts (put slots (start + p) (filled k v)) others
+      spread_put = subst (λ i. IsSpread starts (put slots i (filled k v)) others) same_place
+          (spread_in_slot starts slots others k v s before ends_before ends_there other)
+
+  module _ {m : FinMap nat_cmp T} (view : map_of (spread_at starts slots others) ≡ m) {var : ℕ} (names : k ≡ var)
+      (below : k < 2 ^ 32) where
+    has : (o : Option T) → seen k w (tree_get nat_cmp others k) ≡ o → get m var ≡ o
+    has o is = rw (← view, ← names) (map_has (spread_at starts slots others) k below ∙ in_window ∙ is)
+
+    pub in_tree : p ≡ length w → get m var ≡ tree_get nat_cmp others var
+    in_tree past = has (tree_get nat_cmp others var)
+        (full w k _ (omega (arith, past, place)) ∙ ap (tree_get nat_cmp others) names)
+
+    module _ {s : Slot T} (some : p ≢ length w) (is : s ≡ get_or w p s) where
+      pub in_slot : s.index ≡ k → get m var ≡ Some s.value
+      in_slot same = has (Some s.value) (seen_here w k _ s (within some is) (there some is) same)
+
+      pub nowhere : s.index ≢ k → get m var ≡ None
+      nowhere other = has None (seen_nowhere w k _ s (within some is) (there some is) other)
 
 -- a tree that gets a value for an index that it lacked
 module _ {T : Type 0} (others tree : BTreeMap ℕ T) (k : ℕ) (v : T) (more : Updates nat_cmp others tree k (Some v)) where

@@ -64,7 +64,7 @@ abbrev pub spread_at : {T : Type 0} → ℕ → List (Slot T) → BTreeMap ℕ T
 spread_at starts slots others index =
     option_or (stored index (window_of starts slots index)) (get nat_cmp others index)
 
--- there are slots for each window, and none of its index is behind an empty one
+-- there are slots for each window, and none of its index is after an empty one
 pub record IsSpread {T : Type 0} (starts : ℕ) (slots : List (Slot T)) (others : BTreeMap ℕ T) : Type 0 where
   pub some : 0 < starts
   pub few : starts < 2 ^ 32

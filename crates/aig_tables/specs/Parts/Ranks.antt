@@ -20,7 +20,7 @@ rank_of words index =
 abbrev pub end_of : Word → ℕ
 end_of word = word.before + count_ones word.bits
 
--- of the first so many words the places are behind those of the words before, and below the count
+-- of the first so many words the places are after those of the words before, and below the count
 pub record IsRanking (words : List Word) (many count : ℕ) : Type 0 where
   pub behind : (v w : ℕ) → v < w → w < many → end_of (word_at words v) ≤ (word_at words w).before
   pub below : (w : ℕ) → w < many → end_of (word_at words w) ≤ count

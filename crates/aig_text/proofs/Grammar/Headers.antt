@@ -13,8 +13,8 @@ use Rattle.aig_circuit.proofs.Checking.{all_weaker}
 use Rattle.aig_lines.specs.Lines.{Line}
 use Rattle.aig_rows.specs.Spelling.{IsGap, AreMoreNumbers}
 use Rattle.aig_rows.specs.Scanning.{more_numbers_at}
-use Rattle.aig_rows.specs.declared.fault.ReadKind.{ReadKind}
-use Rattle.aig_rows.specs.declared.fault.ReadKind.TheVariants as kinds
+use Rattle.aig_fault.specs.declared.kind.Kind.{Kind}
+use Rattle.aig_fault.specs.declared.kind.Kind.TheVariants as kinds
 use Rattle.aig_rows.proofs.Grammar.Spellings.{one_more}
 use Rattle.aig_rows.proofs.Grammar.NumberLines.{end_is_numbers, more_reads}
 use Rattle.aig_rows.proofs.Steps.{ok_same, passed, let_through}
@@ -98,7 +98,7 @@ pub record TellsHeader (word : List ℕ) (limit : ℕ) (l : Line) (h : Header) :
   pub within : AllByRecursion (λ n. n ≤ min limit largest_index) numbers
   pub counted : get_or numbers 1 0 + get_or numbers 2 0 + get_or numbers 4 0 ≤ get_or numbers 0 0
 
-abbrev counts_fit : ℕ → List ℕ → Result Header ReadKind
+abbrev counts_fit : ℕ → List ℕ → Result Header Kind
 counts_fit limit ns =
     cond (ltb (get_or ns 0 0) (get_or ns 1 0 + get_or ns 2 0 + get_or ns 4 0)) (Err kinds.BadHeader)
     (Ok (header_of_row limit ns))

@@ -9,7 +9,7 @@ use Rattle.aig_circuit.specs.declared.circuit.Circuit.{Circuit}
 use Rattle.aig_circuit.specs.Wellformed.{IsWithinLimits}
 use Rattle.aig_circuit.specs.Form.{HasEntriesInRange, IsInForm}
 use Rattle.aig_circuit.proofs.Checking.{by_parts, in_range}
-use Rattle.aig_rows.specs.declared.fault.ReadFault.{ReadFault}
+use Rattle.aig_fault.specs.declared.stopped.Stopped.{Stopped}
 use Rattle.aig_text.specs.declared.section.Section.TheVariants.{Inputs, Latches, JusticeSizes, Gates}
 use Rattle.aig_lines.specs.Lines.{Line, Ahead, ahead}
 use Rattle.aig_text.specs.Sections.{Header, Section, sections, Listed, in_ascii, rows_in, rows_of, header_row}
@@ -144,7 +144,7 @@ module _ (listed : Section → Listed) (h : Header) where
   sections_found sound tells (s ∷ ss) c at p apart empty is =
       let f = both_ok (section_at (listed s) h c at) (then_sections ss) p is in
       let r = both_ok (rows_of_section s c at) (after_rows s c) f.0 f.1 in
-      let e : ((listed s).with_rows h r.0.0 c, r.0.1) ≡ f.0 = ok_same {E = ReadFault} _ _ r.2 in
+      let e : ((listed s).with_rows h r.0.0 c, r.0.1) ≡ f.0 = ok_same {E = Stopped} _ _ r.2 in
       let rows =
       rows_meant (listed s).form ((listed s).bound h) ((listed s).start h c) ((listed s).count h c) at r.0 (sound s)
       r.1 in

@@ -14,12 +14,12 @@ use Rattle.aig_core.specs.declared.names.Names.{Names}
 use Rattle.aig_core.specs.Names.{is_named, with_name, nothing_named}
 use Rattle.aig_lines.specs.Lines.{Line, bytes_of}
 use Rattle.aig_lines.specs.Laws.{IsOneLine}
-use Rattle.aig_rows.specs.declared.fault.ReadFault.{ReadFault}
-use Rattle.aig_rows.specs.declared.fault.ReadKind.{ReadKind}
-use Rattle.aig_rows.specs.declared.fault.ReadKind.TheVariants as kinds
-use Rattle.aig_rows.specs.Reading.{◌>>=◌, at_line, unless_wrong}
+use Rattle.aig_fault.specs.declared.stopped.Stopped.{Stopped}
+use Rattle.aig_fault.specs.declared.kind.Kind.TheVariants as kinds
+use Rattle.aig_rows.specs.Reading.{◌>>=◌, at_line}
 use Rattle.aig_rows.proofs.Steps.{both_ok, ok_at_line, ok_same}
 use Rattle.aig_rows.proofs.Grammar.NumberLines.{branches as branch}
+use Rattle.aig_rows.proofs.Grammar.Rows.{unless_none}
 use Rattle.aig_text.specs.Sections.{Header}
 use Rattle.aig_text.specs.Tail.{IsSymbolLine, IsComment, AreTailLines}
 use Rattle.aig_text.specs.Scanning.{symbol_at, is_comment_line}
@@ -46,7 +46,7 @@ pub record TellsTail (h : Header) (before : Names) (c d : Circuit) (ls : List Li
   pub circuit : with_tail c symbols comment ≡ d
 
 -- one symbol
-abbrev IsNew : Header → Names → Symbol → Type 0
+abbrev pub IsNew : Header → Names → Symbol → Type 0
 IsNew h before s = (s.position < count_named h s.kind) × (is_named before s.kind s.position ≡ false)
 
 by_tests : (far twice : Bool) → cond far (Some kinds.SymbolRange) (cond twice (Some kinds.SymbolTwice) None) ≡ None
@@ -54,17 +54,14 @@ by_tests : (far twice : Bool) → cond far (Some kinds.SymbolRange) (cond twice 
 by_tests false false h = (refl, refl)
 by_tests b d h = cc
 
-unless_none : {A : Type 0} (x y : A) (o : Option ReadKind) → unless_wrong x o ≡ Ok y → (o ≡ None) × (x ≡ y)
-unless_none x y None h = (refl, ok_same x y h)
-unless_none x y (Some k) h = cc
-
-checked_tells : (h : Header) (before : Names) (o : Option Symbol) (s : Symbol) → checked_symbol h before o ≡ Ok s
+pub checked_tells : (h : Header) (before : Names) (o : Option Symbol) (s : Symbol) → checked_symbol h before o ≡ Ok s
     → (o ≡ Some s) × IsNew h before s
 unfolding checked_symbol
 checked_tells h before None s e = cc
 checked_tells h before (Some t) s e = search (rules, unless_none, by_tests, leb-false)
 
-new_is_checked : (h : Header) (before : Names) (s : Symbol) → IsNew h before s → checked_symbol h before (Some s) ≡ Ok s
+pub new_is_checked : (h : Header) (before : Names) (s : Symbol) → IsNew h before s
+    → checked_symbol h before (Some s) ≡ Ok s
 unfolding checked_symbol
 new_is_checked h before s n = rw (lt-leb (count_named h s.kind) s.position n.0, n.1) refl
 
@@ -98,7 +95,7 @@ whole_tail h before c ls comment is = record {
   circuit = ap (λ (ss : List Symbol). record c { symbols = ss; comment = comment }) (append-nil c.symbols);
 }
 
-abbrev then_tail : Header → Names → Circuit → ℕ → List Line → Symbol → Result Circuit ReadFault
+abbrev then_tail : Header → Names → Circuit → ℕ → List Line → Symbol → Result Circuit Stopped
 then_tail h before c n ls s = tail_at h (with_name before s.kind s.position) (with_symbol c s) (n + 1) ls
 
 -- where there is no comment before
@@ -106,7 +103,7 @@ pub tail_tells : (h : Header) (before : Names) (c : Circuit) (n : ℕ) (ls : Lis
     → tail_at h before c n ls ≡ Ok d → TellsTail h before c d ls
 unfolding tail_at
 tail_tells h before c n [] d none is =
-    let same : c ≡ d = ok_same {E = ReadFault} c d is in
+    let same : c ≡ d = ok_same {E = Stopped} c d is in
     let bare : record c { comment = None } ≡ c = ap (λ (o : Option (List ℕ)). record c { comment = o }) (sym none) in
     rw (bare ∙ same) at (whole_tail h before c [] None tt)
 tail_tells h before c n (l ∷ ls) d none is =

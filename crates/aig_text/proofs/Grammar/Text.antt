@@ -7,7 +7,6 @@ use Rattle.aig_circuit.specs.declared.circuit.Symbol.{Symbol}
 use Rattle.aig_circuit.specs.Wellformed.{IsWellFormed, IsWithinLimits, HasGoodSymbols, largest_index}
 use Rattle.aig_circuit.specs.Form.{IsInForm}
 use Rattle.aig_circuit.proofs.Checking.{well_formed_in_form, back}
-use Rattle.aig_core.specs.declared.fault.CheckFault.{CheckFault}
 use Rattle.aig_core.specs.Fault.{first_structural_fault}
 use Rattle.aig_core.specs.Names.{nothing_named}
 use Rattle.aig_core.specs.Fault as structure
@@ -15,9 +14,10 @@ use Rattle.aig_core.proofs.Checking.Faultless.{well_formed, faultless}
 use Rattle.aig_lines.specs.Lines.{Line, Ahead, ahead, lines_of}
 use Rattle.aig_lines.specs.Laws.{IsOneLine}
 use Rattle.aig_lines.proofs.Cutting.{pieces}
-use Rattle.aig_rows.specs.declared.fault.ReadFault.{ReadFault}
-use Rattle.aig_rows.specs.declared.fault.ReadKind.TheVariants as kinds
-use Rattle.aig_rows.specs.Reading.{◌>>=◌, want_of_memory}
+use Rattle.aig_fault.specs.declared.stopped.Stopped.{Stopped}
+use Rattle.aig_fault.specs.declared.stopped.Stopped.TheVariants.{OutOfMemory}
+use Rattle.aig_fault.specs.declared.kind.Kind.TheVariants as kinds
+use Rattle.aig_rows.specs.Reading.{◌>>=◌}
 use Rattle.aig_rows.specs.Outcomes.{GivesOrMemory}
 use Rattle.aig_rows.proofs.Steps.{both_ok, ok_same}
 use Rattle.aig_rows.proofs.Grammar.Rows.{first_found}
@@ -44,10 +44,10 @@ record TellCircuit (limit : ℕ) (ls : List Line) (c : Circuit) : Type 0 where
   pub sections : AreAllSections header numbered others rest
   pub tail : TellsTail header nothing_named numbered c rest
 
-abbrev then_tail : Header → Circuit × Ahead → Result Circuit ReadFault
+abbrev then_tail : Header → Circuit × Ahead → Result Circuit Stopped
 then_tail h numbered = tail_at h nothing_named numbered.0 numbered.1.number numbered.1.lines
 
-abbrev then_sections : Header × Ahead → Result Circuit ReadFault
+abbrev then_sections : Header × Ahead → Result Circuit Stopped
 then_sections header =
     sections_at in_ascii header.0 sections (empty_circuit header.0.max_var) header.1 >>= then_tail header.0
 
@@ -146,8 +146,8 @@ found_is_accepted limit text c t w =
       well_formed = w;
     }
 
-no_fault : (c d : Circuit) (o : Option CheckFault) → unless_faulty c o ≡ Ok d → (o ≡ None) × (c ≡ d)
-no_fault c d None h = (refl, ok_same {E = ReadFault} c d h)
+no_fault : (c d : Circuit) (o : Option Stopped) → unless_faulty c o ≡ Ok d → (o ≡ None) × (c ≡ d)
+no_fault c d None h = (refl, ok_same {E = Stopped} c d h)
 no_fault c d (Some f) h = cc
 
 -- a text that is read is a file of the circuit
@@ -196,16 +196,16 @@ unfolding reading
 reading_of limit text c h = rw h refl
 
 -- the fault of a line is the first fault
-pub line_fault : (limit : ℕ) (text : List ℕ) (e : ReadFault)
-    → (e ≡ want_of_memory) ⊎ (circuit_at limit (lines_of text) ≡ Err e) → IsFirstFault e (first_ascii_fault limit text)
+pub line_fault : (limit : ℕ) (text : List ℕ) (e : Stopped)
+    → (e ≡ OutOfMemory) ⊎ (circuit_at limit (lines_of text) ≡ Err e) → IsFirstFault e (first_ascii_fault limit text)
 unfolding reading
 line_fault limit text e (inl m) = inl m
 line_fault limit text e (inr h) = inr (rw h refl)
 
 -- a text that is the file of a circuit is refused only for want of memory
-pub memory_only : (limit : ℕ) (text : List ℕ) (c : Circuit) (e : ReadFault)
+pub memory_only : (limit : ℕ) (text : List ℕ) (c : Circuit) (e : Stopped)
     → IsFirstFault e (first_ascii_fault limit text)
-    → IsAsciiText text limit c → e ≡ want_of_memory
+    → IsAsciiText text limit c → e ≡ OutOfMemory
 memory_only limit text c e (inl m) a = m
 memory_only limit text c e (inr h) a =
     let none : first_ascii_fault limit text ≡ None = ap fault_of (accepted_is_read limit text c a) in cc
@@ -216,13 +216,13 @@ one_circuit : (limit : ℕ) (text : List ℕ) (c d : Circuit) → reading limit 
 one_circuit limit text c d h a = let same : reading limit text ≡ Ok c = accepted_is_read limit text c a in cc
 
 -- what a reader of a text answered that gave what is read of it
-pub record Tells (limit : ℕ) (text : List ℕ) (r : Result Circuit ReadFault) : Type 0 where
+pub record Tells (limit : ℕ) (text : List ℕ) (r : Result Circuit Stopped) : Type 0 where
   pub ok : IfOk r (λ c. IsAsciiText text limit c)
   pub only :
-      (c : Circuit) → IsAsciiText text limit c → MatchResult r (λ d. d ≡ c) (λ e. e ≡ want_of_memory)
+      (c : Circuit) → IsAsciiText text limit c → MatchResult r (λ d. d ≡ c) (λ e. e ≡ OutOfMemory)
   pub fault : IfErr r (λ e. IsFirstFault e (first_ascii_fault limit text))
 
-read_tells : (limit : ℕ) (text : List ℕ) (r : Result Circuit ReadFault)
+read_tells : (limit : ℕ) (text : List ℕ) (r : Result Circuit Stopped)
     → GivesOrMemory (λ c. c) r (reading limit text) → Tells limit text r
 read_tells limit text (Ok c) h = record {
   ok = reading_is_accepted limit text c h;
@@ -233,7 +233,7 @@ read_tells limit text (Err e) h =
     let first = ⊎_elim inl (λ (is : reading limit text ≡ Err e). inr (ap fault_of is)) h in
     record { ok = tt; only = λ c is. memory_only limit text c e first is; fault = first }
 
-pub checked_tells : (limit : ℕ) (text : List ℕ) (c : Circuit) (r : Result Circuit ReadFault)
+pub checked_tells : (limit : ℕ) (text : List ℕ) (c : Circuit) (r : Result Circuit Stopped)
     → circuit_at limit (lines_of text) ≡ Ok c
     → GivesOrMemory (λ d. d) r (unless_faulty c (structure.first_structural_fault c)) → Tells limit text r
 checked_tells limit text c r h is = read_tells limit text r (rw (reading_of limit text c h) is)

@@ -7,9 +7,10 @@ use Rattle.std.proofs.lemmas.List.{map-append}
 use Rattle.std.proofs.lemmas.List.Sums.{sum_by-append, sum_by-cons}
 use Rattle.aig_circuit.specs.declared.circuit.Circuit.{Circuit}
 use Rattle.aig_lines.specs.Lines.{Ahead, Line, ahead, with_lines}
-use Rattle.aig_rows.specs.declared.fault.ReadFault.{ReadFault}
-use Rattle.aig_rows.specs.Reading.{◌>>=◌, Found, want_of_memory, fault_at, rows_at}
-use Rattle.aig_rows.specs.declared.fault.ReadKind.TheVariants as kinds
+use Rattle.aig_fault.specs.declared.stopped.Stopped.{Stopped}
+use Rattle.aig_fault.specs.declared.stopped.Stopped.TheVariants.{OutOfMemory}
+use Rattle.aig_rows.specs.Reading.{◌>>=◌, Found, fault_at, rows_at}
+use Rattle.aig_fault.specs.declared.kind.Kind.TheVariants as kinds
 use Rattle.aig_rows.specs.declared.row.Role.TheVariants as roles
 use Rattle.aig_rows.specs.Rows.{size_of}
 use Rattle.aig_rows.specs.declared.rows.Due.{Due}
@@ -46,10 +47,10 @@ module _ (listed : Section → Listed) (h : Header) where
       → sections_at listed h (left_from (i + 1)) d after ≡ sections_at listed h (left_from i) c at
   sections_more i s c d at after l r = sym (next_section i s c at l ∙ rw r refl)
 
-  pub sections_wrong : (i : ℕ) (s : Section) (c : Circuit) (at : Ahead) (e : ReadFault) (whole : Found Circuit)
+  pub sections_wrong : (i : ℕ) (s : Section) (c : Circuit) (at : Ahead) (e : Stopped) (whole : Found Circuit)
       → i < length sections
-      → (e ≡ want_of_memory) ⊎ (section_at (listed (get_or sections i s)) h c at ≡ Err e)
-      → sections_at listed h (left_from i) c at ≡ whole → (e ≡ want_of_memory) ⊎ (whole ≡ Err e)
+      → (e ≡ OutOfMemory) ⊎ (section_at (listed (get_or sections i s)) h c at ≡ Err e)
+      → sections_at listed h (left_from i) c at ≡ whole → (e ≡ OutOfMemory) ⊎ (whole ≡ Err e)
   sections_wrong i s c at e whole l (inl m) w = inl m
   sections_wrong i s c at e whole l (inr r) w = inr (sym w ∙ next_section i s c at l ∙ rw r refl)
 
@@ -60,7 +61,7 @@ module _ (listed : Section → Listed) (h : Header) where
 
 -- Sections whose lines come in pieces.
 
--- rows behind rows, and none
+-- rows after rows, and none
 with_more : (s : Section) (h : Header) (a b : List (List ℕ)) (c : Circuit)
     → (in_ascii s).with_rows h b ((in_ascii s).with_rows h a c) ≡ (in_ascii s).with_rows h (a ++ b) c
 with_more Inputs h a b c = simp (append_assoc, map-append)
@@ -71,7 +72,7 @@ with_none Inputs h c = simp append-nil
 with_none s h c = simp append-nil
 
 module _ (h : Header) where
-  -- a section goes on behind its first rows
+  -- a section goes on after its first rows
   abbrev placed : Section → Circuit → List (List ℕ) × Ahead → Found Circuit
   placed s c found = Ok ((in_ascii s).with_rows h found.0 c, found.1)
 
@@ -140,7 +141,7 @@ module _ (h : Header) where
   all_begins c due at is = rw is refl
 
   -- a row that is wrong, or missing
-  wrong_section : (p : Progress) (at : Ahead) (e : ReadFault)
+  wrong_section : (p : Progress) (at : Ahead) (e : Stopped)
       → rows_due (in_ascii (section_of p.section)) h p.due at ≡ Err e → sections_from h p at ≡ Err e
   wrong_section p at e is = rw is refl
 
@@ -195,10 +196,10 @@ module _ (h : Header) where
   nothing_more : (at : Ahead) → with_lines at [] ≡ at
   nothing_more at = ap (ahead at.number) (append-nil at.lines)
 
-  pub section_wrong : (s : Section) (due : Due) (c : Circuit) (at : Ahead) (e : ReadFault)
+  pub section_wrong : (s : Section) (due : Due) (c : Circuit) (at : Ahead) (e : Stopped)
       → due ≡ due_of (in_ascii s) h c
-      → (e ≡ want_of_memory) ⊎ ((more : List Line) → rows_due (in_ascii s) h due (with_lines at more) ≡ Err e)
-      → (e ≡ want_of_memory) ⊎ (section_at (in_ascii s) h c at ≡ Err e)
+      → (e ≡ OutOfMemory) ⊎ ((more : List Line) → rows_due (in_ascii s) h due (with_lines at more) ≡ Err e)
+      → (e ≡ OutOfMemory) ⊎ (section_at (in_ascii s) h c at ≡ Err e)
   section_wrong s due c at e is (inl m) = inl m
   section_wrong s due c at e is (inr wrong) =
       inr (ap (λ (d : Due). section_from (in_ascii s) h d c at) (sym is)
@@ -216,9 +217,9 @@ module _ (h : Header) where
       (row_missing s left (with_lines now []) some (append-nil now.lines ∙ none))
 
   -- all sections
-  pub alone_wrong : (p : Progress) (at : Ahead) (e : ReadFault)
-      → (e ≡ want_of_memory) ⊎ ((more : List Line) → sections_from h p (with_lines at more) ≡ Err e)
-      → (e ≡ want_of_memory) ⊎ (sections_from h p at ≡ Err e)
+  pub alone_wrong : (p : Progress) (at : Ahead) (e : Stopped)
+      → (e ≡ OutOfMemory) ⊎ ((more : List Line) → sections_from h p (with_lines at more) ≡ Err e)
+      → (e ≡ OutOfMemory) ⊎ (sections_from h p at ≡ Err e)
   alone_wrong p at e (inl m) = inl m
   alone_wrong p at e (inr wrong) = inr (ap (sections_from h p) (sym (nothing_more at)) ∙ wrong [])
 

@@ -12,10 +12,11 @@ use Rattle.aig_lines.specs.Lines.{Line, bytes_of, line_bytes, lines_of, Ahead, a
 use Rattle.aig_lines.specs.Lines.{HasNoLineFeed}
 use Rattle.aig_lines.proofs.Cutting.{pieces, some_lines}
 use Rattle.aig_lines.proofs.Taken.{IsTaken, left_fits, lines_cut, taken}
-use Rattle.aig_rows.specs.declared.fault.ReadFault.{ReadFault}
-use Rattle.aig_rows.specs.Reading.{◌>>=◌, at_line, want_of_memory, Found}
+use Rattle.aig_fault.specs.declared.stopped.Stopped.{Stopped}
+use Rattle.aig_fault.specs.declared.stopped.Stopped.TheVariants.{OutOfMemory}
+use Rattle.aig_rows.specs.Reading.{◌>>=◌, at_line, Found}
 use Rattle.aig_rows.specs.Outcomes.{GivesOrFails}
-use Rattle.aig_rows.specs.declared.fault.ReadKind.TheVariants as kinds
+use Rattle.aig_fault.specs.declared.kind.Kind.TheVariants as kinds
 use Rattle.aig_rows.proofs.Loops.FirstRows.{found_joined, refused_joined, found_behind}
 use Rattle.aig_text.specs.Sections.{Header, ascii_word, sections, in_ascii}
 use Rattle.aig_text.specs.Scanning.{symbol_at, is_comment_line}
@@ -35,10 +36,10 @@ module _ (h : Header) (before : Names) (c : Circuit) (n : ℕ) where
   unfolding tail_at
   comment_tail bytes rest l are is = rw (are, is) (ap (λ (t : List ℕ). Ok (with_comment c t)) (pieces rest).joined)
 
-  pub wrong_symbol : (bytes rest : List ℕ) (l : Line) (e : ReadFault) → lines_of bytes ≡ l ∷ lines_of rest
+  pub wrong_symbol : (bytes rest : List ℕ) (l : Line) (e : Stopped) → lines_of bytes ≡ l ∷ lines_of rest
       → is_comment_line l ≡ false
-      → (e ≡ want_of_memory) ⊎ (at_line n (checked_symbol h before (symbol_at l.text)) ≡ Err e)
-      → (e ≡ want_of_memory) ⊎ (tail_at h before c n (lines_of bytes) ≡ Err e)
+      → (e ≡ OutOfMemory) ⊎ (at_line n (checked_symbol h before (symbol_at l.text)) ≡ Err e)
+      → (e ≡ OutOfMemory) ⊎ (tail_at h before c n (lines_of bytes) ≡ Err e)
   unfolding tail_at
   wrong_symbol bytes rest l e are other (inl m) = inl m
   wrong_symbol bytes rest l e are other (inr r) = inr (rw (are, other, r) refl)
@@ -68,15 +69,15 @@ first_bytes bytes after l are =
     ∙ front_of (line_bytes l) after
 
 -- The steps of reading a text, one after another.
-pub no_header : (limit : ℕ) (ls : List Line) (e : ReadFault) → header_at ascii_word limit (ahead 1 ls) ≡ Err e
+pub no_header : (limit : ℕ) (ls : List Line) (e : Stopped) → header_at ascii_word limit (ahead 1 ls) ≡ Err e
     → circuit_at limit ls ≡ Err e
 unfolding circuit_at
 no_header limit ls e h = rw h refl
 
-pub no_sections : (limit : ℕ) (ls : List Line) (at : Ahead) (h : Header) (e : ReadFault)
+pub no_sections : (limit : ℕ) (ls : List Line) (at : Ahead) (h : Header) (e : Stopped)
     → header_at ascii_word limit (ahead 1 ls) ≡ Ok (h, at)
-    → (e ≡ want_of_memory) ⊎ (sections_at in_ascii h sections (empty_circuit h.max_var) at ≡ Err e)
-    → (e ≡ want_of_memory) ⊎ (circuit_at limit ls ≡ Err e)
+    → (e ≡ OutOfMemory) ⊎ (sections_at in_ascii h sections (empty_circuit h.max_var) at ≡ Err e)
+    → (e ≡ OutOfMemory) ⊎ (circuit_at limit ls ≡ Err e)
 unfolding circuit_at
 no_sections limit ls at h e is (inl m) = inl m
 no_sections limit ls at h e is (inr r) = inr (rw (is, r) refl)
@@ -89,7 +90,7 @@ unfolding circuit_at
 tail_follows limit ls at after h c is s = rw (is, s) refl
 
 -- An ASCII file whose bytes come in pieces: what is left tells what all of it told.
-abbrev pub tailed : Header → Found Circuit → Result Circuit ReadFault
+abbrev pub tailed : Header → Found Circuit → Result Circuit Stopped
 tailed h r = ◌>>=◌ {B = Circuit} r (then_tail h)
 
 module _ (h : Header) where
@@ -113,13 +114,13 @@ stays at now is = record {
   number = rw is (omega arith);
 }
 
-behind_header : (limit : ℕ) (r : Result Header ReadFault) (at now : Ahead)
+behind_header : (limit : ℕ) (r : Result Header Stopped) (at now : Ahead)
     → GivesOrFails (λ (h : Header). (h, now)) r (header_at ascii_word limit at) → OnErr r (now ≡ at) → IsBehind at now
 behind_header limit (Ok h) at now is err =
     found_behind kinds.NotAiger (header_of ascii_word limit) at.number at.lines (h, now) is
 behind_header limit (Err e) at now is err = stays at now err
 
-pub header_told : (limit : ℕ) (lines : List ℕ) (used : ℕ) (r : Result Header ReadFault) (now : Ahead) (more : List ℕ)
+pub header_told : (limit : ℕ) (lines : List ℕ) (used : ℕ) (r : Result Header Stopped) (now : Ahead) (more : List ℕ)
     → 0 < length lines → IsTaken lines used 1 now.number (lines_of lines) now.lines
     → GivesOrFails (λ (h : Header). (h, now)) r (header_at ascii_word limit (ahead 1 (lines_of lines)))
     → circuit_at limit (lines_of (lines ++ more))
@@ -135,13 +136,13 @@ header_told limit lines used (Err e) now more some t is =
     (some_lines lines some) is) refl
 
 -- the header line was read of whole lines
-pub record Begins (limit : ℕ) (lines left : List ℕ) (number : ℕ) (r : Result Header ReadFault) : Type 0 where
+pub record Begins (limit : ℕ) (lines left : List ℕ) (number : ℕ) (r : Result Header Stopped) : Type 0 where
   pub behind : IsBehind (ahead 1 (lines_of lines)) (ahead number (lines_of left))
   pub told :
       (more : List ℕ) → circuit_at limit (lines_of (lines ++ more))
       ≡ header_then r (ahead number (lines_of (drop (length lines - length left) lines ++ more)))
 
-begins_at : (limit : ℕ) (lines left : List ℕ) (number : ℕ) (r : Result Header ReadFault) → 0 < length lines
+begins_at : (limit : ℕ) (lines left : List ℕ) (number : ℕ) (r : Result Header Stopped) → 0 < length lines
     → AreEnded (lines_of lines)
     → GivesOrFails (λ (h : Header). (h, ahead number (lines_of left))) r
     (header_at ascii_word limit (ahead 1 (lines_of lines)))
@@ -156,7 +157,7 @@ begins_at limit lines left number r some ended is err =
           header_told limit lines (length lines - length left) r (ahead number (lines_of left)) more some t is;
     }
 
-pub begins : (limit : ℕ) (lines left : List ℕ) (number : ℕ) (r : Result Header ReadFault) (from now : Ahead)
+pub begins : (limit : ℕ) (lines left : List ℕ) (number : ℕ) (r : Result Header Stopped) (from now : Ahead)
     → 0 < length lines → AreEnded (lines_of lines) → from ≡ ahead 1 (lines_of lines)
     → ahead number (lines_of left) ≡ now
     → GivesOrFails (λ (h : Header). (h, now)) r (header_at ascii_word limit from) → OnErr r (now ≡ from)
@@ -171,11 +172,11 @@ rest_is : (r : AsciiReader) (h : Header) (ls : List Line) → r.header ≡ Ok h
     → rest_of r ls ≡ tailed h (sections_from h r.progress (ahead r.number ls))
 rest_is r h ls is = rw is refl
 
-pub wrong_on : (r : AsciiReader) (h : Header) (bytes lines rest more : List ℕ) (at : Ahead) (e : ReadFault)
+pub wrong_on : (r : AsciiReader) (h : Header) (bytes lines rest more : List ℕ) (at : Ahead) (e : Stopped)
     → r.header ≡ Ok h → bytes ≡ lines ++ rest → AreEnded (lines_of lines) → at ≡ ahead r.number (lines_of lines)
-    → (e ≡ want_of_memory) ⊎ ((others : List Line) → sections_from h r.progress (with_lines at others) ≡ Err e)
+    → (e ≡ OutOfMemory) ⊎ ((others : List Line) → sections_from h r.progress (with_lines at others) ≡ Err e)
     → ReadsOn (rest_of r (lines_of (bytes ++ more))) (Err e)
-wrong_on r h bytes lines rest more at e is cut ended from (inl m) = inl (ap (λ (f : ReadFault). Err f) m)
+wrong_on r h bytes lines rest more at e is cut ended from (inl m) = inl (ap (λ (f : Stopped). Err f) m)
 wrong_on r h bytes lines rest more at e is cut ended from (inr wrong) =
     inr (rest_is r h (lines_of (bytes ++ more)) is
     ∙ ap (λ (ls : List Line). tailed h (sections_from h r.progress (ahead r.number ls)))

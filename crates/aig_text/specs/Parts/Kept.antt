@@ -5,7 +5,7 @@ use Rattle.aig_rows.specs.Kept.{kept}
 use Rattle.aig_rows.specs.Scanning.{number_at, ◌>>=◌}
 use Rattle.aig_text.specs.Scanning.{after_space}
 
--- the number at the front, and what stands behind the one space that follows it
+-- the number at the front, and what stands after the one space that follows it
 unfoldable pub position_at : List ℕ → Option (ℕ × List ℕ)
 position_at bytes = do
   position ← number_at bytes

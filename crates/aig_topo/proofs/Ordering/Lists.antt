@@ -19,7 +19,7 @@ list_is zero links link (u ∷ us) to few = absurd (omega (arith, few))
 list_is (suc most) links link (u ∷ us) to few =
     search (rules, list_is most links (next_of links u) us to.1 (omega (arith, few)))
 
--- a table that has the same links behind these gates
+-- a table that has the same links after these gates
 kept : (links more : List Link) (us : List ℕ) (link : ℕ)
     → ((v : ℕ) → IsAmong v us → next_of more v ≡ next_of links v) → LeadsTo links link us → LeadsTo more link us
 kept links more [] link same to = to
@@ -115,7 +115,7 @@ module _ (links more : List Link) (list gate : ℕ) (lists : AreLists links) (as
 pub nothing_there : (links : List Link) (list : ℕ) → first_of links list ≡ 0 → list_of links list ≡ []
 nothing_there links list is = list_is (length links) links (first_of links list) [] is (omega arith)
 
--- where no list has a first gate, all are empty, whatever is behind each gate
+-- where no list has a first gate, all are empty, whatever is after each gate
 module _ (links : List Link) (none : (k : ℕ) → first_of links k ≡ 0) where
   pub all_empty : (k : ℕ) → list_of links k ≡ []
   all_empty k = nothing_there links k (none k)
@@ -150,14 +150,14 @@ module _ (links : List Link) (k : ℕ) (link : Link) where
   pub next_elsewhere : (v : ℕ) → v ≢ k → next_of (put links k link) v ≡ next_of links v
   next_elsewhere v differs = ap (λ (l : Link). l.next) (elsewhere v differs)
 
-  -- where another gate comes first, what is behind each gate stays
+  -- where another gate comes first, what is after each gate stays
   pub same_next : k < length links → link.next ≡ next_of links k
       → (v : ℕ) → next_of (put links k link) v ≡ next_of links v
   same_next there same v =
       ⊎_elim (search (rules, next_there))
       (λ (f : (eqb v k ≡ false) × (v ≢ k)). next_elsewhere v f.1) (eqb_tells v k)
 
-  -- where another gate is behind it, what comes first in each list stays
+  -- where another gate is after it, what comes first in each list stays
   pub same_first : k < length links → link.first ≡ first_of links k → (v : ℕ)
       → first_of (put links k link) v ≡ first_of links v
   same_first there same v =
@@ -188,7 +188,7 @@ have_less links list gate lists there is link same now =
     let as_many = length-set links list link in
     search (rules, first_elsewhere, first_there, same_next, popped_lists, popped, popped_elsewhere)
 
--- and once a gate was put at the front of one: first behind the gate, then before it
+-- and once a gate was put at the front of one: first after the gate, then before it
 pub record HaveMore (links more : List Link) (list gate : ℕ) : Type 0 where
   pub lists : AreLists more
   pub front : list_of more list ≡ gate ∷ list_of links list

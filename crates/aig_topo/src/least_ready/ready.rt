@@ -11,10 +11,11 @@ use aig_circuit::LARGEST;
 use std::alloc::{AllocError, Global};
 use std::marker::Model;
 
-/// A set of gates, by their positions, that gives the least one first. That one stands apart, so
-/// that a gate that comes where there is none, and goes before another comes, never goes through
-/// the tree. The tree, which has the others, is made of words, where below bit b stands word b + 1.
-/// Each bit of the lowest level is a gate, and each bit above is set if the word below it has any.
+/// A set of gates, by their positions, that gives the least one first. The minimum is kept outside
+/// the tree, so that a gate that comes where there is none, and goes before another comes, never
+/// goes through the tree. The tree, which has the others, is made of words, where below bit b
+/// stands word b + 1. Each bit of the lowest level is a gate, and each bit above is set if the word
+/// below it has any.
 #[derive(Drop)]
 pub(super) struct Ready {
     least: Option<u32>,

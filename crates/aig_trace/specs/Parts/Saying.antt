@@ -3,7 +3,7 @@ use Rattle.std.specs.Prelude.{◌++◌, ℕ, List, [], ◌∷◌, true, false, O
 use Rattle.aig_lines.specs.Feeding.{Feeding, Turn, feeding, turn}
 use Rattle.aig_step.specs.Stimulus.{Entry, entry_in}
 
--- how many inputs the circuit has, what the lines so far say, and what else is known of the one who hears them
+-- how many inputs the circuit has, what the lines so far say, and what else is known of the one who takes them
 pub record Saying (K : Type 0) : Type 0 where
   pub known : K
   pub inputs : ℕ
@@ -26,6 +26,6 @@ say_line s text = entry_turn s (entry_in s.inputs text)
 abbrev pub longest_entry : ℕ → ℕ
 longest_entry inputs = max inputs 1
 
--- where bytes are fed from, before the first
+-- where the fold of bytes begins, before the first
 abbrev pub before_lines : {K : Type 0} → K → ℕ → Feeding (Saying K)
 before_lines known inputs = feeding (longest_entry inputs) (nothing_said known inputs)

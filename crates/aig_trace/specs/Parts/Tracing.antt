@@ -2,8 +2,8 @@
 use Rattle.std.specs.Prelude.{◌≡◌, ◌++◌, ℕ, List, [], ◌∷◌, Bool, false, true, Some, codes, if◌then◌else◌, length}
 use Rattle.aig_circuit.specs.declared.circuit.Circuit.{Circuit}
 use Rattle.aig_circuit.specs.declared.value.Val.{Val}
-use Rattle.aig_io.specs.Output.{Out, Put}
-use Rattle.aig_lines.specs.Fed.{Feeder, IsUnfed}
+use Rattle.aig_io.specs.Output.{Appended, Out}
+use Rattle.aig_lines.specs.Feeders.{Feeder, IsInitial}
 use Rattle.aig_step.specs.declared.trace.Columns.{Columns}
 use Rattle.aig_step.specs.Stimulus.{Entry, entry_in, stimulus}
 use Rattle.aig_step.specs.Parts.Lines.{vector_in}
@@ -32,7 +32,7 @@ pub record TookLine {W : Type 0} (before after : Tracing) (a b : Out W) (text : 
   pub line : List ℕ
   pub said : entry_in (length before.circuit.inputs) text ≡ Some entry
   pub does : Does before.circuit before.columns (point_of before) entry (point_of after) line
-  pub put : Put a b line
+  pub put : Appended a b line
 
 -- a step was taken with the inputs that a text says, and its line was put
 pub record TookStep {W : Type 0} (before after : Tracing) (a b : Out W) (text : List ℕ) : Type 0 where
@@ -40,14 +40,14 @@ pub record TookStep {W : Type 0} (before after : Tracing) (a b : Out W) (text : 
   pub line : List ℕ
   pub said : vector_in (length before.circuit.inputs) text ≡ Some given
   pub steps : Steps before.circuit before.columns (point_of before) given (point_of after) line
-  pub put : Put a b line
+  pub put : Appended a b line
 
 -- a tracer did what lines say, and put the text for it
 pub record Did {W : Type 0} (before after : Tracing) (entries : List Entry) (a b : Out W) : Type 0 where
   pub same : IsSameTracer before after
   pub text : List ℕ
   pub goes : Goes before.circuit before.columns (point_of before) entries (point_of after) text
-  pub put : Put a b text
+  pub put : Appended a b text
 
 -- a tracer, what the lines say that wait for their text, and the output for the text
 pub record LineTracing (W : Type 0) : Type 0 where
@@ -61,8 +61,8 @@ pub record MovedOn {W : Type 0} (before after : LineTracing W) : Type 0 where
   pub did : Did before.tracing after.tracing done before.output after.output
   pub left : before.waiting ≡ done ++ after.waiting
 
--- A line was heard: it says an entry. What was done is done in turn, and the rest waits.
-pub record HeardLine {W : Type 0} (before after : LineTracing W) (text : List ℕ) : Type 0 where
+-- A line was accepted: it says an entry. What was done is done in turn, and the rest waits.
+pub record AcceptedLine {W : Type 0} (before after : LineTracing W) (text : List ℕ) : Type 0 where
   pub entry : Entry
   pub said : entry_in (length before.tracing.circuit.inputs) text ≡ Some entry
   pub done : List Entry
@@ -95,12 +95,12 @@ pub record HasTraced {W : Type 0} (t : LineTracing W) (s : Saying (Task W)) : Ty
   pub did : Did (tracing_of s.known) t.tracing done s.known.from t.output
 
 -- the text was put for all lines of these bytes up to the first bad one, and the end of the run that was going on
-pub record PutText {W : Type 0} (t : Tracing) (bytes : List ℕ) (a b : Out W) : Type 0 where
+pub record AppendedText {W : Type 0} (t : Tracing) (bytes : List ℕ) (a b : Out W) : Type 0 where
   pub point : Point
   pub text : List ℕ
   pub goes : let entries = (stimulus (length t.circuit.inputs) bytes true).entries in
       Goes t.circuit t.columns (begin_of t.circuit) entries point text
-  pub put : Put a b (text ++ (if point.has_step then codes ".\n" else []))
+  pub put : Appended a b (text ++ (if point.has_step then codes ".\n" else []))
 
 -- what takes the bytes of a stimulus: what cuts them into lines, the tracer, and what the lines say that wait
 pub record Reading : Type 0 where
@@ -110,7 +110,7 @@ pub record Reading : Type 0 where
 
 -- it stands before the first byte
 pub record IsFresh (r : Reading) : Type 0 where
-  pub unfed : IsUnfed r.feeder
+  pub initial : IsInitial r.feeder
   pub limit : r.feeder.limit ≡ longest_entry (length r.tracing.circuit.inputs)
   pub begun : point_of r.tracing ≡ begin_of r.tracing.circuit
   pub settled : r.waiting ≡ []

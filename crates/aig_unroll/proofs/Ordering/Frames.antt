@@ -166,9 +166,9 @@ module _ (c : Circuit) (frames : ℕ) where
   pub bad_length : (s n : ℕ) → length (flat_map (bad_at c frames) (range_with_len s n)) ≡ n * length c.bad
   bad_length = search (rules, rows_length, length-map, length-range_with_len)
 
--- The gates of a frame by pieces: some of the copies, and what is behind them all.
+-- The gates of a frame by pieces: some of the copies, and what is after them all.
 
--- copies of the gates behind some, and of those before some
+-- copies of the gates after some, and of those before some
 copied_behind : (f : ℕ → ℕ) (k v : ℕ) (gs : List Gate) → copied f (v + k) (drop k gs) ≡ drop k (copied f v gs)
 copied_behind f zero v gs = let same : v + 0 ≡ v = omega arith in ap (λ w. copied f w gs) same
 copied_behind f (suc k) v [] = refl
@@ -200,7 +200,7 @@ module _ (c : Circuit) (frames t : ℕ) where
       ∙ sym (ap (take n) (drop-append-le from gate_copies behind (omega (arith, size, fits)))
       ∙ take-append-le n (drop from gate_copies) behind (omega (arith, length-drop from gate_copies, size, fits)))
 
-  -- what is behind them
+  -- what is after them
   pub behind_stands : behind ≡ drop (length c.gates) (gates_at c frames t)
   behind_stands =
       sym (ap (λ n. drop n (gates_at c frames t)) (sym (copies_length c frames t))
@@ -212,7 +212,7 @@ module _ (c : Circuit) (frames t : ℕ) where
 last_put : {X : Type 0} (b : ℕ) (xs ys : List X) → put_mid b (length xs - b) xs ys ≡ take b xs ++ ys
 last_put b xs ys = search (rules, drop_all, length-drop, append-nil)
 
--- two parts, of which the first was put in front, and the second behind it
+-- two parts, of which the first was put in front, and the second after it
 pub two_put : {X : Type 0} (a : ℕ) (xs ys zs : List X) → length ys ≡ a
     → put_mid a (length (ys ++ drop a xs) - a) (ys ++ drop a xs) zs ≡ ys ++ zs
 two_put a xs ys zs first = search (rules, take-append-le, take_all, last_put)
@@ -225,7 +225,7 @@ joined_there m n xs fits =
     ∙ ap (λ ys. take (n - m) (drop m xs) ++ ys) (sym (drop-drop (n - m) m xs))
     ∙ take-append-drop (n - m) (drop m xs)
 
--- One frame more was written behind those before it.
+-- One frame more was written after those before it.
 pub frame_put : {X : Type 0} (f : ℕ → List X) (width t : ℕ) (before after : List X) → IsPutAt f width t before after
     → length (f t) ≡ width → t * width ≤ length before → take (t * width) before ≡ flat_map f (range_with_len 0 t)
     → take ((t + 1) * width) after ≡ flat_map f (range_with_len 0 (t + 1))

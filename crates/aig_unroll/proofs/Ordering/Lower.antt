@@ -11,7 +11,7 @@ use Rattle.aig_circuit.specs.declared.circuit.Reset.TheVariants as resets
 use Rattle.aig_circuit.specs.Literal.{literal_of, negation_of, variable_of}
 use Rattle.aig_circuit.proofs.Checking.{all_weaker}
 use Rattle.aig_unroll.specs.Unrolled.{at, chain_at, chain_behind, first_constraint, first_gate, first_latches}
-use Rattle.aig_unroll.specs.Unrolled.{latches_at, literal_in, next_of, resets_of, standing_for, uninitialised}
+use Rattle.aig_unroll.specs.Unrolled.{latches_at, literal_in, next_of, resets_of, substitute_for, uninitialised}
 use Rattle.aig_unroll.proofs.Ordering.Frames.{next_gate, by_order, in_row, read_anywhere}
 use Rattle.aig_rows.proofs.Grammar.Entries.{all_mapped}
 
@@ -37,7 +37,7 @@ first_below n v (resets.Uninit ∷ rs) some fits =
     let next : v + (1 + uninitialised rs) ≤ n = fits in
     (omega arith, first_below n (v + 1) rs some (omega arith))
 
--- the chain behind constraints
+-- the chain after constraints
 pub chain_below : (v chain : ℕ) (xs : List ℕ) → IsBelow v chain → IsBelow (v + length xs) (chain_behind v chain xs)
 chain_below v chain [] below = omega arith
 chain_below v chain (x ∷ xs) below =
@@ -53,9 +53,9 @@ module _ (c : Circuit) (frames : ℕ) where
   start t = first_gate c frames t
 
   -- what stands for a variable
-  pub standing_below : (t k v : ℕ) (latches : List ℕ) → t < frames → AllByRecursion (IsBelow (start t)) latches
-      → v < own_gates c + k → IsBelow (start t + k) (standing_for c frames t latches v)
-  standing_below t k v latches there all fits =
+  pub substitution_below : (t k v : ℕ) (latches : List ℕ) → t < frames → AllByRecursion (IsBelow (start t)) latches
+      → v < own_gates c + k → IsBelow (start t + k) (substitute_for c frames t latches v)
+  substitution_below t k v latches there all fits =
       let Fits : ℕ → Type 0 = IsBelow (start t + k) in
       let i : ℕ = length c.inputs in
       let l : ℕ = length c.latches in
@@ -73,10 +73,10 @@ module _ (c : Circuit) (frames : ℕ) where
   pub literal_below : (t k literal : ℕ) (latches : List ℕ) → t < frames → AllByRecursion (IsBelow (start t)) latches
       → IsBelow (own_gates c + k) literal → IsBelow (start t + k) (literal_in c frames t latches literal)
   literal_below t k literal latches there all fits =
-      let below = standing_below t k (variable_of literal) latches there all (omega arith) in
-      cond_both (eqb (literal % 2) 0) (standing_for c frames t latches (variable_of literal))
-      (negation_of (standing_for c frames t latches (variable_of literal))) (IsBelow (start t + k))
-      (λ _. below) (λ _. negation_below (start t + k) (standing_for c frames t latches (variable_of literal)) below)
+      let below = substitution_below t k (variable_of literal) latches there all (omega arith) in
+      cond_both (eqb (literal % 2) 0) (substitute_for c frames t latches (variable_of literal))
+      (negation_of (substitute_for c frames t latches (variable_of literal))) (IsBelow (start t + k))
+      (λ _. below) (λ _. negation_below (start t + k) (substitute_for c frames t latches (variable_of literal)) below)
 
   -- all literals of the circuit are over its variables
   abbrev pub own_end : ℕ
@@ -115,7 +115,7 @@ module _ (c : Circuit) (frames : ℕ) where
       let behind = chain_below (first_constraint c frames t) (chain_at c frames t) c.constraints (omega arith) in
       omega (arith, next_gate c frames t)
 
-  -- and behind its constraints, before the gates of bad states
+  -- and after its constraints, before the gates of bad states
   pub chain_behind_below : (t : ℕ)
       → IsBelow (first_constraint c frames t + length c.constraints) (chain_at c frames (suc t))
   chain_behind_below t =

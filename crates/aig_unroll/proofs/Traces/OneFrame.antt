@@ -21,7 +21,7 @@ use Rattle.aig_meaning.proofs.Related.{known_constraints, known_operands, contai
 use Rattle.aig_meaning.proofs.Traces.{inputs_length, state_length}
 use Rattle.aig_image.proofs.Meaning.{and_exchanged, larger_first}
 use Rattle.aig_unroll.specs.Unrolled.{chain_behind, chained, copied, gate_of, guarded, at, first_gate, first_input}
-use Rattle.aig_unroll.specs.Unrolled.{latches_at, standing_for}
+use Rattle.aig_unroll.specs.Unrolled.{latches_at, substitute_for}
 use Rattle.aig_unroll.specs.SideBySide.{and_all}
 
 module _ {X : Type 0} (a : ℕ → X) where
@@ -91,9 +91,9 @@ module _ (a : ℕ → Val) where
   negation_value l = search (rules, cases_lt, not_twice)
 
   -- what stands for a literal's variable, with the literal's sign, has the literal's value
-  signed_value : (b : ℕ → Val) (l standing : ℕ) → literal_value a standing ≡ b (variable_of l)
-      → literal_value a (cond (eqb (l % 2) 0) standing (negation_of standing)) ≡ literal_value b l
-  signed_value b l standing same = search (rules, negation_value)
+  signed_value : (b : ℕ → Val) (l substitution : ℕ) → literal_value a substitution ≡ b (variable_of l)
+      → literal_value a (cond (eqb (l % 2) 0) substitution (negation_of substitution)) ≡ literal_value b l
+  signed_value b l substitution same = search (rules, negation_value)
 
   -- the literals of variables that follow on one another
   pub variables_values : (v : ℕ) (xs : List Val) → StandAt a v xs
@@ -102,7 +102,7 @@ module _ (a : ℕ → Val) where
   variables_values v (x ∷ xs) all =
       ap₂ (λ (y : Val) (ys : List Val). y ∷ ys) (variable_value v ∙ all.0) (variables_values (v + 1) xs all.1)
 
--- the values of the chain behind each of these
+-- the values of the chain after each of these
 abbrev pub chain_values : Val → List Val → List Val
 chain_values held [] = []
 chain_values held (x ∷ xs) = value_and held x ∷ chain_values (value_and held x) xs
@@ -140,7 +140,7 @@ module _ (a : ℕ → Val) where
     chained_hold (v + 1) (literal_of v) (value_and held (literal_value a l)) ls (variable_value a v ∙ all.0) all.1,
   )
 
-  -- and the literal behind the chain has the `and` of all
+  -- and the literal after the chain has the `and` of all
   pub chain_goes_on : (v chain : ℕ) (held : Val) (ls : List ℕ) (xs : List Val)
       → literal_value a chain ≡ held → length ls ≡ length xs → StandAt a v (chain_values held xs)
       → literal_value a (chain_behind v chain ls) ≡ and_all held xs
@@ -197,8 +197,8 @@ module _ (c : Circuit) (formed : IsWellFormed c) (ordered : IsInBinaryOrder c) (
   as_many_latches =
       sym (length-map (latches_at c frames t) (literal_value a)) ∙ ap length from ∙ state_length c row (b, is)
 
-  abbrev standing : ℕ → ℕ
-  standing v = standing_for c frames t (latches_at c frames t) v
+  abbrev substitution : ℕ → ℕ
+  substitution v = substitute_for c frames t (latches_at c frames t) v
 
   at_input : (i : ℕ) → i < length c.inputs → literal_value a (literal_of (first_input c t + i)) ≡ b (1 + i)
   at_input i below =
@@ -224,14 +224,14 @@ module _ (c : Circuit) (formed : IsWellFormed c) (ordered : IsInBinaryOrder c) (
       (omega (arith, length-map (variables_of c.gates) b, length-map c.gates (λ (g : Gate). g.var)))
       gates (gates_stand b (1 + length c.inputs + length c.latches) c.gates ordered.gates)
 
-  standing_value : (v : ℕ) → v ≤ length c.inputs + length c.latches + length c.gates
-      → literal_value a (standing v) ≡ b v
-  standing_value v most = search (rules, cases_lt, ne_eqb, le-leb, at_input, lt-leb, at_latch, at_gate)
+  substitution_value : (v : ℕ) → v ≤ length c.inputs + length c.latches + length c.gates
+      → literal_value a (substitution v) ≡ b v
+  substitution_value v most = search (rules, cases_lt, ne_eqb, le-leb, at_input, lt-leb, at_latch, at_gate)
 
   known_value : (l : ℕ) → IsDefined c l → literal_value a (at c frames t l) ≡ literal_value b l
   known_value l known =
       let all : c.max_var ≡ length c.inputs + length c.latches + length c.gates = ordered.all in
-      signed_value a b l (standing (variable_of l)) (standing_value (variable_of l)
+      signed_value a b l (substitution (variable_of l)) (substitution_value (variable_of l)
       (⊎_elim (λ (e : variable_of l ≡ 0). omega (arith, e)) (λ (among : IsAmong (variable_of l) (defined_variables c)).
       let in_range = each (IsVariableUpTo c.max_var) (defined_variables c) formed.in_range (variable_of l) among in
       omega (arith, in_range.1, all)) known))

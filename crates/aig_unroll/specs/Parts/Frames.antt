@@ -23,14 +23,14 @@ abbrev pub table_at : Circuit → ℕ → ℕ → List ℕ
 table_at c frames t = table (first_input c t) (length c.inputs) (latches_at c frames t)
 
 -- The circuit is in binary order and not too large, and what is kept is that of this frame.
-pub record IsFrame (c : Circuit) (frames frame input gate : ℕ) (standing next : List ℕ) : Type 0 where
+pub record IsFrame (c : Circuit) (frames frame input gate : ℕ) (substitution next : List ℕ) : Type 0 where
   pub formed : IsWellFormed c
   pub ordered : IsInBinaryOrder c
   pub fits : ¬ IsTooLarge c frames
   pub within : frame < frames
   pub input_is : input ≡ first_input c frame
   pub gate_is : gate ≡ first_gate c frames frame
-  pub standing_is : standing ≡ table_at c frames frame
+  pub substitution_is : substitution ≡ table_at c frames frame
   pub next_room : length next ≡ length c.latches
 
 -- What was written for frame t: its items, at its place where each frame has so many. All others stay.
@@ -54,7 +54,7 @@ circuit_with inputs outputs bad gates = record {
   comment = None;
 }
 
--- the gates of a frame behind those of the circuit, where this stands for literals, these have the variables from this
+-- the gates of a frame after those of the circuit, where this stands for literals, these have the variables from this
 -- one on, and this is the chain before the frame
 abbrev pub behind_by : (ℕ → ℕ) → ℕ → ℕ → Circuit → List Gate
 behind_by f first chain c =

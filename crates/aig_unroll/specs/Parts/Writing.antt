@@ -8,7 +8,7 @@ use Rattle.aig_rows.specs.Rows.{gate_row, input_row, literal_row}
 use Rattle.aig_unroll.specs.declared.writing.TheConstants.{PIECE}
 use Rattle.aig_unroll.specs.Parts.Frames.{Frame}
 
--- How many gates there is room for: those of a piece of a frame's copies, and all that are behind the copies.
+-- How many gates there is room for: those of a piece of a frame's copies, and all that are after the copies.
 abbrev pub gate_room : Circuit → ℕ
 gate_room c = PIECE + length c.constraints + length c.bad
 

@@ -24,7 +24,7 @@ begin_of w = record { time = 0; run = 0; state = w.resets; before = blank w }
 abbrev pub frame_at : Layout → Point → List ℕ → Frame
 frame_at w p line = frame p.run (if is_stop line then closing_line w p.state else line)
 
--- behind a line of the trace
+-- after a line of the trace
 abbrev pub behind : Layout → Point → List ℕ → Point
 behind w p line = record {
   time = p.time + 1;

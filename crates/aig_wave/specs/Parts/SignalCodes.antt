@@ -20,11 +20,11 @@ pub record IsSignalCode (t : SignalCode) : Type 0 where
   pub short : t.size ≤ TAIL
   pub text : take t.size t.tail ≡ change_tail (signal_in t)
 
--- the changes of signals, a line behind another
+-- the changes of signals, a line after another
 abbrev pub changes_text : ℕ → List ℕ → List ℕ → List SignalCode → List ℕ
 changes_text time before line ts = flat_map (λ t. change_text time (frame 0 before) (frame 0 line) (signal_in t)) ts
 
--- the change of a signal of one position that has this character, behind another
+-- the change of a signal of one position that has this character, after another
 abbrev pub bit_text : ℕ → ℕ → Signal → List ℕ
 bit_text before bit s = if before == bit then [] else bit ∷ change_tail s
 

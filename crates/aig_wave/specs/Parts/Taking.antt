@@ -1,6 +1,6 @@
 -- What comes of the end of a line.
 use Rattle.std.specs.Prelude.{◌≡◌, ◌++◌, ℕ, List, [], take}
-use Rattle.aig_io.specs.Output.{Put}
+use Rattle.aig_io.specs.Output.{Appended}
 use Rattle.aig_wave.specs.Dumping.{Waving}
 use Rattle.aig_wave.specs.Parts.Points.{behind_line, line_piece}
 
@@ -13,4 +13,4 @@ pub record TookEnded {W : Type 0} (a b : Waving W) (last : List ℕ) : Type 0 wh
   pub dump_state : b.dump_state
       ≡ record a.dump_state { point = behind_line a.dump_state.layout a.dump_state.point (line_kept a last) }
   pub kept : b.kept ≡ record a.kept { bytes = [] }
-  pub put : Put a.output b.output (line_piece a.dump_state.layout a.dump_state.point (line_kept a last))
+  pub put : Appended a.output b.output (line_piece a.dump_state.layout a.dump_state.point (line_kept a last))

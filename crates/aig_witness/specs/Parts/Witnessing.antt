@@ -122,14 +122,14 @@ StandsWhen w (Property property) = (w.due ≡ due.FirstState) × IsUnbegun w.sea
 StandsWhen w (Steps claim) = (w.due ≡ due.Steps) × Follows w claim
 StandsWhen w (Whole claim) = (w.due ≡ due.Nothing) × Follows w claim
 
--- a line of this text was taken, behind what was said before
+-- a line of this text was taken, after what was said before
 pub record TookDue (before after : Witnessing) (said : Said) (text : List ℕ) : Type 0 where
   pub next : Said
   pub is : said_with (shape_of before.circuit) said text ≡ Some next
   pub stands : StandsWhen after next
   pub circuit : after.circuit ≡ before.circuit
 
--- a line of this text is not due, behind what was said before, and that still stands
+-- a line of this text is not due, after what was said before, and that still stands
 pub record NotDue (before after : Witnessing) (said : Said) (text : List ℕ) : Type 0 where
   pub none : said_with (shape_of before.circuit) said text ≡ None
   pub stands : StandsWhen after said
@@ -140,22 +140,22 @@ abbrev pub longest_line : Shape → ℕ
 longest_line shape = max (max (length shape.resets) shape.inputs) 12
 
 -- the circuit, and what the lines so far say
-pub record Hearing : Type 0 where
+pub record WitnessState : Type 0 where
   pub circuit : Circuit
   pub said : Said
 
-abbrev pub hearing : Circuit → Said → Hearing
-hearing c said = record { circuit = c; said = said }
+abbrev pub witness_state : Circuit → Said → WitnessState
+witness_state c said = record { circuit = c; said = said }
 
 -- with what is said then, if anything is
-abbrev pub said_turn : Circuit → Said → Option Said → Turn Hearing
-said_turn c said None = turn (hearing c said) false
-said_turn c said (Some next) = turn (hearing c next) true
+abbrev pub said_turn : Circuit → Said → Option Said → Turn WitnessState
+said_turn c said None = turn (witness_state c said) false
+said_turn c said (Some next) = turn (witness_state c next) true
 
 -- what one more line of this text comes to
-abbrev pub hear_line : Hearing → List ℕ → Turn Hearing
-hear_line h text = said_turn h.circuit h.said (said_with (shape_of h.circuit) h.said text)
+abbrev pub witness_step : WitnessState → List ℕ → Turn WitnessState
+witness_step h text = said_turn h.circuit h.said (said_with (shape_of h.circuit) h.said text)
 
 -- what judges lines stands where this was said
-abbrev pub HasHeard : Witnessing → Hearing → Type 0
-HasHeard w h = (w.circuit ≡ h.circuit) × StandsWhen w h.said
+abbrev pub HasWitnessState : Witnessing → WitnessState → Type 0
+HasWitnessState w h = (w.circuit ≡ h.circuit) × StandsWhen w h.said

@@ -1,7 +1,7 @@
 use Rattle.std.proofs.Common.{arith, ap, inr, refl}
 use Rattle.std.proofs.lemmas.Result.{err_from_is_err_and}
 use Rattle.aig_arrays.specs.Outcomes.{entries_meant}
-use Rattle.aig_arrays.specs.Told.{Ahead, rows_told}
+use Rattle.aig_arrays.specs.Decoded.{Ahead, rows_decoded}
 use Rattle.aig_arrays.proofs.Loops.{all_found, more_found, wrong_found}
 use Rattle.aig_arrays.proofs.sections.push_rows.Goals as goal
 
@@ -12,7 +12,7 @@ pub loop-left-init : goal.loop-left-init
 loop-left-init g c = record {
   tells =
       ap (λ (a : Ahead). entries_meant g.T.FromWords.meant_by c.args.found.now.items
-      (rows_told g.T.FromWords.form c.args.bound c.args.start c.args.count a)) c.from.view_is;
+      (rows_decoded g.T.FromWords.form c.args.bound c.args.start c.args.count a)) c.from.view_is;
   small = omega (arith, c.requires.start, c.ranges.count.fits);
 }
 

@@ -1,4 +1,4 @@
-use Rattle.aig_arrays.specs.Told.{header_of}
+use Rattle.aig_arrays.specs.Decoded.{header_of}
 use Rattle.aig_arrays.proofs.Whole.{no_more_sections, section_fails, sections_go_on}
 use Rattle.aig_arrays.proofs.sections.read_each.Goals as goal
 

@@ -1,7 +1,7 @@
 use Rattle.std.proofs.Common.{◌+◌, ◌≤◌, List, ap, arith, length, refl, subst, sym}
 use Rattle.std.proofs.lemmas.Result.{err_from_is_err_and}
 use Rattle.aig_circuit.specs.declared.circuit.Symbol.{Symbol}
-use Rattle.aig_arrays.specs.Told.{header_of}
+use Rattle.aig_arrays.specs.Decoded.{header_of}
 use Rattle.aig_arrays.proofs.Whole.{all_symbols, more_symbols, wrong_symbols}
 use Rattle.aig_arrays.proofs.symbols.push_symbols.Goals as goal
 

@@ -1,6 +1,6 @@
 use Rattle.std.proofs.Common.{refl}
 use Rattle.aig_core.specs.Names.{nothing_named}
-use Rattle.aig_arrays.specs.Told.{header_of}
+use Rattle.aig_arrays.specs.Decoded.{header_of}
 use Rattle.aig_arrays.proofs.Whole.{all_symbols}
 use Rattle.aig_arrays.proofs.symbols.read_symbols.Goals as goal
 

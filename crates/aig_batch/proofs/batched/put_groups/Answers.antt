@@ -6,7 +6,7 @@ use Rattle.aig_step.specs.declared.trace.Columns.{Columns}
 use Rattle.aig_lanes.specs.declared.lane_columns.LaneColumns.{LaneColumns}
 use Rattle.aig_lanes.specs.Parts.LaneTexts.{IsTextOf}
 use Rattle.aig_lanes.specs.Parts.Benches.{HasRoomFor}
-use Rattle.aig_batch.specs.Parts.RunsRead.{PutRuns, kept_texts}
+use Rattle.aig_batch.specs.Parts.RunsRead.{AppendedRuns, kept_texts}
 use Rattle.aig_batch.proofs.Side.Fronts.{put_more, zipped_texts}
 use Rattle.aig_lanes.proofs.Benches.Steps.{room_stays}
 use Rattle.aig_batch.proofs.batched.put_groups.Goals as goal
@@ -32,7 +32,7 @@ loop-group-preserved g c =
           (c.loop-group.invariant.room k d below);
       put =
           subst
-          (λ (gs : List (List Run)). PutRuns machine columns gs c.args.output.now c.run_group.new.output)
+          (λ (gs : List (List Run)). AppendedRuns machine columns gs c.args.output.now c.run_group.new.output)
           (sym now)
           (put_more machine columns (take i groups) runs (kept_texts shown runs (length runs) sheet)
           c.args.output.now c.loop-group.output c.run_group.new.output c.loop-group.invariant.put

@@ -1,7 +1,9 @@
 use Rattle.std.proofs.Common.{◌≡◌, ◌++◌, ◌+◌, ◌<◌, ◌∙◌, ◌∷◌, Err, List, ℕ, [], length, length-append, inr, ap, sym}
 use Rattle.std.proofs.Common.{arith, drop, refl}
-use Rattle.aig_rows.specs.declared.fault.ReadKind.{ReadKind}
-use Rattle.aig_rows.specs.declared.fault.Place.TheVariants as places
+use Rattle.aig_fault.specs.Stopping.{refusal}
+use Rattle.aig_fault.specs.declared.kind.Kind.{Kind}
+use Rattle.aig_fault.specs.declared.stopped.Stopped.{Stopped}
+use Rattle.aig_fault.specs.declared.fault.Place.TheVariants as places
 use Rattle.aig_text.proofs.LastBytes.{rest_is}
 use Rattle.aig_binary.specs.Begun.{gates_from}
 use Rattle.aig_binary.specs.BinaryReading.{gate_at}
@@ -28,8 +30,8 @@ returns-in-Err c =
           inr (λ more.
           gate_refused c.args.variable c.args.count c.args.found.now found c.args.bytes.now rest few on more
           c.in-Err.kind (λ e. let no = c.if-is_cut.ensures.1 e in cc) h
-          ∙ ap (λ (k : ℕ). Err (record { place = places.Gate (k + 1); kind = c.in-Err.kind }))
-          (n ∙ sym c.from.ensures));
+          ∙ ap (λ (k : ℕ). Err (refusal c.in-Err.kind (places.Gate (k + 1)) 0))
+          (n ∙ sym c.from.ensures) ∙ ap (λ (e : Stopped). Err e) (sym c.refused.ensures));
     }
 
 pub loop-used-preserved : goal.loop-used-preserved
@@ -91,4 +93,4 @@ returns-then-is_cut-clause-all c =
     let n : length found ≡ c.len-at.result = sym c.len-at.ensures in
     rw same (inr (
     ap (λ (k : ℕ). gate_at (c.args.variable + k) rest) n ∙ c.in-Err.ensures.gate
-    ∙ ap (λ (k : ReadKind). Err k) (c.if-is_cut.ensures.0 refl)))
+    ∙ ap (λ (k : Kind). Err k) (c.if-is_cut.ensures.0 refl)))

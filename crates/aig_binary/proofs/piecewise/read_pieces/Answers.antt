@@ -1,7 +1,7 @@
-use Rattle.std.proofs.Common.{ap, arith, length, length-drop, not}
+use Rattle.std.proofs.Common.{ap, arith, length, length-drop}
 use Rattle.std.proofs.lemmas.Result.{err_from_is_err_and}
 use Rattle.aig_io.proofs.Took.{some_later}
-use Rattle.aig_binary.proofs.FileSource.{can_fail_still, reads_more}
+use Rattle.aig_binary.proofs.FileSource.{reads_more}
 use Rattle.aig_binary.proofs.piecewise.read_pieces.Goals as goal
 
 pub returns-in_err-more-clause-err : goal.returns-in_err-more-clause-err
@@ -33,5 +33,4 @@ loop-more-preserved g c =
             c.in_ok-more.ensures.bound,
             c.loop-more.invariant.counted,
           );
-      countable = can_fail_still (not c.in_ok-more.more) came.given _ _ came.gave c.loop-more.invariant.countable;
     }

@@ -1,6 +1,5 @@
 use Rattle.std.proofs.Common.{◌+◌, ◌≤◌, ◌^◌, length, if◌then◌else◌}
 use Rattle.aig_binary.specs.Sources.{ReadsFrom}
-use Rattle.aig_io.specs.Devices.{CanFail}
 use Rattle.aig_binary.proofs.piecewise.read_pieces.Given as goal
 
 -- what was to be read is what is to be read
@@ -11,10 +10,9 @@ invariant-loop-more g l =
     record {
       reads :
           ReadsFrom (p.rest l.fn.reader) (p.rest l.reader) l.fn.window l.window l.more
-          (d.past l.fn.source) (d.past l.source);
+          (d.history l.fn.source) (d.history l.source);
       valid : p.is_valid l.reader;
       counted : p.next_line l.reader + length l.window + d.bound l.source ≤ 2 ^ 63;
-      countable : CanFail (d.past l.source);
     }
 
 abbrev pub decreases-loop-more : goal.decreases-loop-more

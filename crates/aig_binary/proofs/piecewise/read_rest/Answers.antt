@@ -1,19 +1,15 @@
-use Rattle.std.proofs.Common.{Err, Ok}
-use Rattle.aig_binary.proofs.FileSource.{rest_read}
+use Rattle.std.proofs.Common.{◌++◌, ℕ, List, Result}
+use Rattle.aig_circuit.specs.declared.circuit.Circuit.{Circuit}
+use Rattle.aig_fault.specs.declared.stopped.Stopped.{Stopped}
+use Rattle.aig_rows.specs.Outcomes.{GivesOrMemory}
+use Rattle.aig_binary.proofs.FileSource.{all_came, rest_read}
 use Rattle.aig_binary.proofs.piecewise.read_rest.Goals as goal
 
-pub returns-in-Ok : goal.returns-in-Ok
-returns-in-Ok g c =
+pub returns : goal.returns
+returns g c =
     let p = g.P.Pieces in
-    rest_read (p.rest c.args.reader) (p.rest c.read_pieces.new.reader) c.args.window
-    c.read_pieces.new.window c.in_ok-bytes.bytes.items c.in_ok-more.more _ _ _ (Ok c.in-Ok.circuit)
-    c.in_ok-more.ensures.ok c.in_ok-bytes.ensures.ok
-    c.in-Ok.ensures
-
-pub returns-in-Err : goal.returns-in-Err
-returns-in-Err g c =
-    let p = g.P.Pieces in
-    rest_read (p.rest c.args.reader) (p.rest c.read_pieces.new.reader) c.args.window
-    c.read_pieces.new.window c.in_ok-bytes.bytes.items c.in_ok-more.more _ _ _ (Err c.in-Err.fault)
-    c.in_ok-more.ensures.ok c.in_ok-bytes.ensures.ok
-    c.in-Err.ensures
+    all_came (λ (answer : Result Circuit Stopped) (bytes : List ℕ).
+    GivesOrMemory (λ d. d) answer (p.rest c.args.reader (c.args.window ++ bytes))) c.finish_with.result _ _
+    (rest_read (p.rest c.args.reader) (p.rest c.read_pieces.new.reader) c.args.window
+    c.read_pieces.new.window c.in_ok-bytes.bytes.items c.in_ok-more.more _ _ _ c.finish_with.result
+    c.in_ok-more.ensures.ok c.in_ok-bytes.ensures.ok c.finish_with.ensures)

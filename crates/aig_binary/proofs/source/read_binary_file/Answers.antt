@@ -1,15 +1,15 @@
-use Rattle.std.proofs.Common.{◌∙◌}
+use Rattle.std.proofs.Common.{◌∙◌, inr}
 use Rattle.std.proofs.lemmas.Result.{err_from_is_err_and}
 use Rattle.aig_io.proofs.Took.{some_later}
 use Rattle.aig_binary.specs.Begun.{rest_of}
-use Rattle.aig_binary.proofs.FileSource.{all_held, is_file, is_ordered, is_refused, is_well_formed}
+use Rattle.aig_binary.proofs.FileSource.{all_held, failed_by, is_file, is_ordered, is_refused, is_well_formed}
 use Rattle.aig_binary.proofs.source.read_binary_file.Goals as goal
 
 pub returns-in_err-front : goal.returns-in_err-front
 returns-in_err-front g c = λ before is.
     let h = err_from_is_err_and c.from_residual.result c.from_residual.ensures.1 in
     rw (h.1, h.2)
-    (some_later _ c.args.window before _ _ is c.in_err-front.ensures.err)
+    (inr (failed_by _ _ _ (some_later _ c.args.window before _ _ is c.in_err-front.ensures.err)))
 
 pub returns-in_err-circuit : goal.returns-in_err-circuit
 returns-in_err-circuit g c = λ before is.

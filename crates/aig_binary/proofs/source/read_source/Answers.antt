@@ -1,75 +1,48 @@
-use Rattle.std.proofs.Common.{◌≢◌, ◌∙◌, Err, Ok, arith, length, sym}
-use Rattle.std.proofs.lemmas.Bool.{eqb-false}
+use Rattle.std.proofs.Common.{◌∙◌, inr, sym}
 use Rattle.std.proofs.lemmas.Result.{err_from_is_err_and}
-use Rattle.aig_binary.proofs.FileSource.{IsBegun, begun, checked, in_form, refused, word_stays}
+use Rattle.aig_binary.specs.Sources.{AnswersFile}
+use Rattle.aig_binary.proofs.FileSource.{all_came, begun, checked, failed_by, in_form, refused, word_stays}
 use Rattle.aig_binary.proofs.source.read_source.Goals as goal
+
+pub returns-in_err-first : goal.returns-in_err-first
+returns-in_err-first g c =
+    let h = err_from_is_err_and c.from_residual.result c.from_residual.ensures.1 in
+    rw (h.1, h.2) (inr (failed_by _ _ _ c.in_err-first.ensures.err))
 
 pub returns-in_err-circuit : goal.returns-in_err-circuit
 returns-in_err-circuit g c =
     let h = err_from_is_err_and c.from_residual-in_err-circuit.result c.from_residual-in_err-circuit.ensures.1 in
-    let none : length c.ended_lines.result.0.now ≢ 0 =
-    eqb-false _ _ (sym c.is_empty.ensures ∙ c.if-is_empty.false) in
     let first = rw c.if-not-more.false at c.in_ok-first.ensures.ok in
-    let begin : IsBegun c.args.limits.max_var c.in_ok-first.first c.pass.new.self c.begin-reader.result.0 =
+    let begin =
     begun c.args.limits.max_var c.in_ok-first.first c.ended_lines.result.0.now c.ended_lines.result.1.now
-    c.begin-reader.result.1 c.begin-reader.result.0 (sym c.as_slice.ensures ∙ c.ended_lines.ensures.cut)
-    c.ended_lines.ensures.ended (omega (arith, none)) (sym c.first_word_is.ensures ∙ c.if-first_word_is.false)
-    c.begin-reader.ensures.within c.begin-reader.ensures.on c.pass.new.self c.pass.ensures in
-    rw (h.1, h.2)
-    (refused c.args.limits.max_var c.in_ok-first.first c.pass.new.self c.begin-reader.result.0 begin
-    c.in_err-circuit.field-0.0 _ _ _ first c.in_err-circuit.ensures)
+    c.begin-reader.result.1 c.begin-reader.result.0 c.as_slice.ensures c.ended_lines.ensures.cut
+    c.ended_lines.ensures.ended c.is_empty.ensures c.if-is_empty.false c.first_word_is.ensures
+    c.if-first_word_is.false c.begin-reader.ensures.within c.begin-reader.ensures.on c.pass.ensures in
+    rw (h.1, h.2) (refused begin c.in_err-circuit.field-0.0 _ _ _ first c.in_err-circuit.ensures)
 
 pub check_read-requires : goal.check_read-requires
 check_read-requires g c =
-    let none : length c.ended_lines.result.0.now ≢ 0 =
-    eqb-false _ _ (sym c.is_empty.ensures ∙ c.if-is_empty.false) in
-    let begin : IsBegun c.args.limits.max_var c.in_ok-first.first c.pass.new.self c.begin-reader.result.0 =
+    let begin =
     begun c.args.limits.max_var c.in_ok-first.first c.ended_lines.result.0.now c.ended_lines.result.1.now
-    c.begin-reader.result.1 c.begin-reader.result.0 (sym c.as_slice.ensures ∙ c.ended_lines.ensures.cut)
-    c.ended_lines.ensures.ended (omega (arith, none)) (sym c.first_word_is.ensures ∙ c.if-first_word_is.false)
-    c.begin-reader.ensures.within c.begin-reader.ensures.on c.pass.new.self c.pass.ensures in
-    in_form c.args.limits.max_var c.in_ok-first.first c.pass.new.self c.begin-reader.result.0 begin
-    c.in_ok-circuit.circuit
-    _ _ c.in_ok-circuit.ensures
-
-pub returns-in_err-check_read : goal.returns-in_err-check_read
-returns-in_err-check_read g c =
-    let h = err_from_is_err_and c.from_residual-in_err-check_read.result
-    c.from_residual-in_err-check_read.ensures.1 in
-    let none : length c.ended_lines.result.0.now ≢ 0 =
-    eqb-false _ _ (sym c.is_empty.ensures ∙ c.if-is_empty.false) in
-    let first = rw c.if-not-more.false at c.in_ok-first.ensures.ok in
-    let begin : IsBegun c.args.limits.max_var c.in_ok-first.first c.pass.new.self c.begin-reader.result.0 =
-    begun c.args.limits.max_var c.in_ok-first.first c.ended_lines.result.0.now c.ended_lines.result.1.now
-    c.begin-reader.result.1 c.begin-reader.result.0 (sym c.as_slice.ensures ∙ c.ended_lines.ensures.cut)
-    c.ended_lines.ensures.ended (omega (arith, none)) (sym c.first_word_is.ensures ∙ c.if-first_word_is.false)
-    c.begin-reader.ensures.within c.begin-reader.ensures.on c.pass.new.self c.pass.ensures in
-    let all =
-    checked c.args.limits.max_var c.in_ok-first.first c.pass.new.self c.begin-reader.result.0 begin
-    c.in_ok-circuit.circuit
-    _ _ _ (Err c.in_err-check_read.field-0.0) first c.in_ok-circuit.ensures c.in_err-check_read.ensures in
-    rw (h.1, h.2) all
+    c.begin-reader.result.1 c.begin-reader.result.0 c.as_slice.ensures c.ended_lines.ensures.cut
+    c.ended_lines.ensures.ended c.is_empty.ensures c.if-is_empty.false c.first_word_is.ensures
+    c.if-first_word_is.false c.begin-reader.ensures.within c.begin-reader.ensures.on c.pass.ensures in
+    in_form begin c.in_ok-circuit.circuit _ _ c.in_ok-circuit.ensures
 
 pub returns : goal.returns
 returns g c =
-    let none : length c.ended_lines.result.0.now ≢ 0 =
-    eqb-false _ _ (sym c.is_empty.ensures ∙ c.if-is_empty.false) in
     let first = rw c.if-not-more.false at c.in_ok-first.ensures.ok in
-    let begin : IsBegun c.args.limits.max_var c.in_ok-first.first c.pass.new.self c.begin-reader.result.0 =
+    let begin =
     begun c.args.limits.max_var c.in_ok-first.first c.ended_lines.result.0.now c.ended_lines.result.1.now
-    c.begin-reader.result.1 c.begin-reader.result.0 (sym c.as_slice.ensures ∙ c.ended_lines.ensures.cut)
-    c.ended_lines.ensures.ended (omega (arith, none)) (sym c.first_word_is.ensures ∙ c.if-first_word_is.false)
-    c.begin-reader.ensures.within c.begin-reader.ensures.on c.pass.new.self c.pass.ensures in
-    let all =
-    checked c.args.limits.max_var c.in_ok-first.first c.pass.new.self c.begin-reader.result.0 begin
-    c.in_ok-circuit.circuit
-    _ _ _ (Ok c.in_ok-check_read.field-0) first c.in_ok-circuit.ensures c.in_ok-check_read.ensures in
-    all
+    c.begin-reader.result.1 c.begin-reader.result.0 c.as_slice.ensures c.ended_lines.ensures.cut
+    c.ended_lines.ensures.ended c.is_empty.ensures c.if-is_empty.false c.first_word_is.ensures
+    c.if-first_word_is.false c.begin-reader.ensures.within c.begin-reader.ensures.on c.pass.ensures in
+    all_came (AnswersFile c.args.limits.max_var) c.check_read.result _ _
+    (checked begin c.in_ok-circuit.circuit _ _ _ c.check_read.result first c.in_ok-circuit.ensures c.check_read.ensures)
 
 pub read_binary_file-requires-clause-binary : goal.read_binary_file-requires-clause-binary
 read_binary_file-requires-clause-binary g c = λ more.
-    let none : length c.ended_lines.result.0.now ≢ 0 =
-    eqb-false _ _ (sym c.is_empty.ensures ∙ c.if-is_empty.false) in
     word_stays c.in_ok-first.first c.ended_lines.result.0.now c.ended_lines.result.1.now more
-    (sym c.as_slice.ensures ∙ c.ended_lines.ensures.cut) c.ended_lines.ensures.ended (omega (arith, none))
+    (sym c.as_slice.ensures ∙ c.ended_lines.ensures.cut) c.ended_lines.ensures.ended
+    (sym c.is_empty.ensures ∙ c.if-is_empty.false)
     ∙ sym c.first_word_is.ensures ∙ c.if-first_word_is.true

@@ -3,7 +3,7 @@ use Rattle.aig_command.proofs.builder.aigunroll.Goals as goal
 -- Each argument in turn is added to what there is.
 pub returns : goal.returns
 returns c =
-    let with1 = c.with_argument-command.ensures _ _ c.command.ensures c.frames.ensures in
+    let with1 = c.with_argument-command.ensures _ _ c.command_with_usage.ensures c.frames.ensures in
     let with2 = c.with_argument-command-2.ensures _ _ with1 c.flag.ensures in
     let with3 = c.with_argument-command-3.ensures _ _ with2 c.flag-2.ensures in
     let with4 = c.with_argument-command-4.ensures _ _ with3 c.solver_file.ensures in

@@ -19,9 +19,8 @@ loop-source-preserved g c =
                 (rw c.deref_mut.ensures.value c.make_room.ensures.same)
                 (rw c.deref_mut.ensures.value (omega (arith, at.invariant.within, c.make_room.ensures.grown)))
                 c.in_ok-count.ensures.within;
-            gave = c.in_ok-count.ensures.past ∙ gave_next into count _ (omega (arith, c.if-count-eq0.false));
+            gave = c.in_ok-count.ensures.history ∙ gave_next into count _ (omega (arith, c.if-count-eq0.false));
           });
       within = search rules;
       bound = search rules;
-      countable = search rules;
     }

@@ -7,7 +7,7 @@ invariant-loop-at g l =
     let d = g.W.Sink in
     record {
       within : l.at ≤ length l.bytes;
-      past : d.past l.sink ≡ took (take l.at l.bytes) (d.past l.fn.sink);
+      history : d.history l.sink ≡ took (take l.at l.bytes) (d.history l.fn.sink);
     }
 
 abbrev pub decreases-loop-at : goal.decreases-loop-at

@@ -9,7 +9,7 @@ use Rattle.aig_lanes.proofs.sheets.new_byte_rows.Goals as goal
 add_none : (n : ℕ) → n ≡ n + 0
 add_none n = omega arith
 
--- behind other rows of bytes stand these
+-- after other rows of bytes stand these
 last_rows : (byte_rows : List BytesText) (octet : BytesText) (k : ℕ) → k / 8 ≡ length byte_rows
     → text_in k (byte_rows ++ octet ∷ []) ≡ bytes_text (k % 8) octet
 last_rows byte_rows octet k is =

@@ -1,7 +1,7 @@
 use Rattle.std.proofs.Common.{ℕ, List}
 use Rattle.aig_io.specs.Runs.{AtEnd}
-use Rattle.aig_engines.specs.Jobs.{Makes, Refuses}
-use Rattle.aig_engines.specs.declared.job.Job.{Job}
+use Rattle.aig_commands.specs.Jobs.{Makes, Refuses}
+use Rattle.aig_commands.specs.declared.job.Job.{Job}
 use Rattle.aig_library.proofs.Lents.{refused, stopped, whole}
 use Rattle.aig_library.proofs.memory.read_bytes.Goals as goal
 

@@ -1,6 +1,6 @@
 use Rattle.std.proofs.Common.{◌<◌, Err, List, Ok, subst, sym, ℕ}
 use Rattle.std.proofs.lemmas.Result.{err_from_is_err_and}
-use Rattle.aig_engines.specs.Jobs.{Makes, Refuses, sources_left, text_of}
+use Rattle.aig_commands.specs.Jobs.{Makes, Refuses, sources_left, text_of}
 use Rattle.aig_io.specs.Runs.{AtEnd}
 use Rattle.aig_library.specs.Memory.{Comes, is_refused, is_written, makes}
 use Rattle.aig_library.proofs.Answered.{stops_as, text_is}

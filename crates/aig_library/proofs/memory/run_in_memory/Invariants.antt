@@ -1,5 +1,5 @@
 use Rattle.std.proofs.Common.{List, Result, ℕ}
-use Rattle.aig_engines.specs.Jobs.{CanDo, sources_left}
+use Rattle.aig_commands.specs.Jobs.{CanDo, sources_left}
 use Rattle.aig_fault.specs.declared.fault.Fault.{Fault}
 use Rattle.aig_library.specs.Memory.{Comes, HasNoSteps}
 use Rattle.aig_library.proofs.memory.run_in_memory.Given as goal

@@ -1,7 +1,7 @@
 use Rattle.std.proofs.Common.{ℕ, List}
 use Rattle.aig_circuit.specs.declared.circuit.Circuit.{Circuit}
-use Rattle.aig_engines.specs.File.{IsFileOf}
-use Rattle.aig_engines.specs.Reading.{AtItsEnd, IsUnreadable}
+use Rattle.aig_commands.specs.File.{IsFileOf}
+use Rattle.aig_commands.specs.Reading.{AtItsEnd, IsUnreadable}
 use Rattle.aig_library.proofs.Lents.{at_its_end, stopped, whole}
 use Rattle.aig_library.proofs.simulation.circuit_of.Goals as goal
 

@@ -7,16 +7,18 @@ pub returns-in_err-done-clause-err : goal.returns-in_err-done-clause-err
 returns-in_err-done-clause-err c =
     let h = err_from_is_err_and c.from_residual-in_err-done.result c.from_residual-in_err-done.ensures.1 in
     rw (h.1, h.2) (not_batched c.args.stimulus.now _ c.gives_its_bytes.ensures c.args.found.now c.args.columns
-    (Err c.in_err-done.field-0.0) _ _ (rw c.in_ok-source.ensures at c.in_err-done.ensures.ran))
+    (Err c.in_err-done.field-0.0) _ _ (rw c.in_ok-source.ensures at c.in_err-done.ensures.transferred))
 
 pub returns-clause-none_bad : goal.returns-clause-none_bad
 returns-clause-none_bad c =
     let found = batched c.args.stimulus.now _ c.gives_its_bytes.ensures c.args.found.now c.args.columns
-    (Ok c.in_ok-done.field-0) _ _ (rw (c.in_ok-source.ensures, c.new-sink.ensures) at c.in_ok-done.ensures.ran) in
+    (Ok c.in_ok-done.field-0) _ _ (rw (c.in_ok-source.ensures, c.new-sink.ensures) at
+    c.in_ok-done.ensures.transferred) in
     found.0
 
 pub returns-clause-text : goal.returns-clause-text
 returns-clause-text c =
     let found = batched c.args.stimulus.now _ c.gives_its_bytes.ensures c.args.found.now c.args.columns
-    (Ok c.in_ok-done.field-0) _ _ (rw (c.in_ok-source.ensures, c.new-sink.ensures) at c.in_ok-done.ensures.ran) in
+    (Ok c.in_ok-done.field-0) _ _ (rw (c.in_ok-source.ensures, c.new-sink.ensures) at
+    c.in_ok-done.ensures.transferred) in
     rw c.into_vec.ensures found.1

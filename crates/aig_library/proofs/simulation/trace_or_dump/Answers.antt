@@ -1,6 +1,10 @@
-use Rattle.std.proofs.Common.{◌∙◌, IfOk, rules, sym}
-use Rattle.aig_engines.specs.Simulation.{IsWrittenText}
+use Rattle.std.proofs.Common.{◌∙◌, IfErr, IfOk, inr, rules, sym}
+use Rattle.std.proofs.lemmas.Result.{err_from_is_err_and}
+use Rattle.aig_commands.specs.Simulation.{IsWrittenText}
+use Rattle.aig_dump.specs.InMemory.{IsBadStimulus, StopsInMemory}
+use Rattle.aig_library.specs.Answers.{IsSimulationRefused}
 use Rattle.aig_library.specs.Asked.{simulation}
+use Rattle.aig_library.proofs.Answered.{stops_as}
 use Rattle.aig_library.proofs.Dumps.{written_dump, written_trace}
 use Rattle.aig_library.proofs.simulation.trace_or_dump.Goals as goal
 use Rattle.aig_library.proofs.simulation.trace_or_dump.Goals.{then-has, else-has}
@@ -18,3 +22,19 @@ returns-clause-ok c =
           (rw w.columns_of.ensures at w.trace-text.ensures.text))
     ] in
     search (rules, text)
+
+pub returns-in_err-text-clause-err : goal.returns-in_err-text-clause-err
+returns-in_err-text-clause-err c =
+    let h = err_from_is_err_and c.from_residual-in_err-text.result c.from_residual-in_err-text.ensures.1 in
+    let found = c.in_ok-found.found in
+    let stimulus = c.args.stimulus.now in
+    let stopped = c.in_err-text.field-0.0 in
+    let why : IfErr c.if-has.text (StopsInMemory (IsBadStimulus found stimulus)) =
+    elim c.if-has.branch [
+      | then-has w ↦ rw w.text-is w.dump-text.ensures.err
+      | else-has w ↦ rw w.text-is w.trace-text.ensures.err
+    ] in
+    let bad : StopsInMemory (IsBadStimulus found stimulus) stopped = rw c.in_err-text.was at why in
+    rw (h.1, h.2) (stops_as (IsBadStimulus found stimulus)
+    (IsSimulationRefused (simulation c.args.options c.args.max_var) c.args.model.now stimulus) stopped
+    (λ fault is. inr (found, c.in_ok-found.ensures.ok, is)) bad)

@@ -1,5 +1,10 @@
-use Rattle.std.proofs.Common.{◌≡◌, ◌++◌, ap, rules, string_bytes}
+use Rattle.std.proofs.Common.{◌≡◌, ◌++◌, ap, inr, rules, string_bytes}
+use Rattle.std.proofs.lemmas.Result.{err_from_is_err_and}
 use Rattle.aig_claims.specs.RunDump.{comment_line}
+use Rattle.aig_dump.specs.InMemory.{IsBadWitness}
+use Rattle.aig_library.specs.Answers.{IsWitnessRefused}
+use Rattle.aig_library.specs.Asked.{simulation}
+use Rattle.aig_library.proofs.Answered.{stops_as, stops_within}
 use Rattle.aig_library.proofs.witness_dump.verdict_and_dump.Goals as goal
 
 pub returns-in-Ok-clause-ok : goal.returns-in-Ok-clause-ok
@@ -17,3 +22,14 @@ returns-in-Ok-clause-ok c =
       };
       is_dump = record { run = run; is_run = is_run; is_text = ap (λ text. text ++ run) comment };
     }
+
+pub returns-in_err-verdict-clause-err : goal.returns-in_err-verdict-clause-err
+returns-in_err-verdict-clause-err c =
+    let h = err_from_is_err_and c.from_residual-in_err-verdict.result c.from_residual-in_err-verdict.ensures.1 in
+    let found = c.in_ok-found.found in
+    let witness = c.args.witness.now in
+    let stopped = c.in_err-verdict.field-0.0 in
+    rw (h.1, h.2) (stops_as (IsBadWitness found witness)
+    (IsWitnessRefused (simulation 0 c.args.max_var) c.args.model.now witness) stopped
+    (λ fault bad. inr (found, c.in_ok-found.ensures.ok, bad))
+    (stops_within (IsBadWitness found witness) stopped c.in_err-verdict.ensures.err))

@@ -8,11 +8,11 @@ invariant-loop-count g l =
     let t = g.T.LineTaker in
     record {
       reached : (s : t.State) → t.IsAt l.fn.taker s
-          → Reached t.step t.IsAt l.fn.feeder.limit s (r.past l.fn.source) (r.past l.source) l.feeder l.taker;
+          → Reached t.step t.IsAt l.fn.feeder.limit s (r.history l.fn.source) (r.history l.source) l.feeder l.taker;
       counted : t.counted l.taker ≤ l.feeder.number;
       going : l.feeder.refused ≡ false;
       number : r.bound l.source ≤ 2 ^ 62 → l.feeder.number + r.bound l.source ≤ 2 ^ 62 + 1;
-      failures : (r.past l.source).failures ≡ (r.past l.fn.source).failures;
+      failures : (r.history l.source).failures ≡ (r.history l.fn.source).failures;
     }
 
 abbrev pub decreases-loop-count : goal.decreases-loop-count

@@ -1,7 +1,7 @@
 use Rattle.std.proofs.Common.{◌+◌, ◌∙◌, rules, ap, length}
 use Rattle.aig_circuit.specs.declared.circuit.Circuit.{Circuit}
 use Rattle.aig_map.proofs.BlockText.{as_many_inputs, as_many_latches}
-use Rattle.aig_map.proofs.NewPlaces.{kept_told, places_by_new}
+use Rattle.aig_map.proofs.NewPlaces.{kept_recorded, places_by_new}
 use Rattle.aig_map.proofs.recording.record_new_map.Goals as goal
 
 pub returns : goal.returns
@@ -14,7 +14,8 @@ returns c = λ f old kept is.
       as_many_latches f old new is,
       ap (λ (d : Circuit). d.gates) is,
     ) at read in
-    let gates = kept_told f first old.gates c.args.variables.gates.items c.in_ok-new_places.new_places.items kept.gates
+    let gates = kept_recorded f first old.gates c.args.variables.gates.items c.in_ok-new_places.new_places.items
+    kept.gates
     (new_places ∙ places_by_new f first old.gates) in
     let max_var = ap (λ (d : Circuit). d.max_var) is in
     let comment = ap (λ (d : Circuit). d.comment) is in

@@ -49,7 +49,7 @@ pub returns-else-place_gates-clause-err : goal.returns-else-place_gates-clause-e
 returns-else-place_gates-clause-err c =
     let block = c.args.block.now in
     inr (
-      refl,
+      c.refused_whole.ensures,
       place_twice block.max_var block.gates c.requires.bounds.gates
           (rw c.as_slice-3.ensures at c.if-place_gates.ensures.twice),
     )

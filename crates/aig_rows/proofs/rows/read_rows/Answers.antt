@@ -1,7 +1,8 @@
 use Rattle.std.proofs.Common.{◌∙◌, ap, inr, sym, Err, ℕ, arith}
 use Rattle.aig_lines.specs.Lines.{Ahead, ahead, lines_of}
 use Rattle.aig_rows.specs.Reading.{fault_at}
-use Rattle.aig_rows.specs.declared.fault.ReadKind.TheVariants as kinds
+use Rattle.aig_fault.specs.declared.kind.Kind.TheVariants as kinds
+use Rattle.aig_fault.specs.declared.stopped.Stopped.{Stopped}
 use Rattle.aig_rows.proofs.Loops.FirstRows.{have_all, have_few, wrong_alone}
 use Rattle.aig_rows.proofs.rows.read_rows.Goals as goal
 
@@ -18,7 +19,8 @@ returns-then-left-gt0-clause-rows g c =
     c.read_first_rows.new.found (ahead c.at.inside.number (lines_of c.at.inside.rest.now)) c.args.at.now
     c.read_first_rows.new.at c.at.view_is c.if-left-gt0.true (c.in-Ok.ensures.all c.if-left-gt0.true)
     c.in-Ok.ensures.rows
-    ∙ ap (λ (n : ℕ). Err (fault_at n kinds.Truncated)) (sym (ap (λ (a : Ahead). a.number) c.from.view_is)))
+    ∙ ap (λ (n : ℕ). Err (fault_at n kinds.Truncated)) (sym (ap (λ (a : Ahead). a.number) c.from.view_is))
+    ∙ ap (λ (e : Stopped). Err e) (sym c.refused_at.ensures))
 
 pub returns-clause-rows : goal.returns-clause-rows
 returns-clause-rows g c =

@@ -1,6 +1,6 @@
 use Rattle.std.proofs.Common.{length, drop, min, Some, refl, arith}
 use Rattle.aig_circuit.specs.Wellformed.{largest_index}
-use Rattle.aig_rows.specs.declared.fault.ReadKind.TheVariants as kinds
+use Rattle.aig_fault.specs.declared.kind.Kind.TheVariants as kinds
 use Rattle.aig_text.specs.Sections.{least_header_numbers, most_header_numbers}
 use Rattle.aig_rows.specs.Scanning.{more_numbers_at}
 use Rattle.aig_text.specs.Reading.{header_within, header_of}

@@ -1,5 +1,5 @@
 use Rattle.std.proofs.Common.{refl}
-use Rattle.aig_rows.specs.declared.fault.ReadKind.TheVariants as kinds
+use Rattle.aig_fault.specs.declared.kind.Kind.TheVariants as kinds
 use Rattle.aig_text.specs.Scanning.{symbol_at}
 use Rattle.aig_text.specs.Tail.{IsSymbolLine}
 use Rattle.aig_text.specs.Reading.{checked_symbol, fault_in_symbol}

@@ -1,5 +1,5 @@
 use Rattle.std.proofs.Common.{◌∙◌, inr, ap, sym, Err}
-use Rattle.aig_rows.specs.declared.fault.ReadFault.{ReadFault}
+use Rattle.aig_fault.specs.declared.stopped.Stopped.{Stopped}
 use Rattle.aig_text.proofs.Loops.Sections.{begin_summed, part_summed, section_short, section_wrong}
 use Rattle.aig_text.proofs.section.read_section.Goals as goal
 
@@ -13,7 +13,7 @@ returns-then-left-gt0-clause-read c =
     inr (section_short c.args.header.now c.args.section c.section_rows-due.result c.in-Ok.left c.args.circuit.now
     c.read_first_of_section.new.circuit c.args.at.now c.read_first_of_section.new.at c.section_rows-due.ensures.rows
     c.in-Ok.ensures.part c.if-left-gt0.true (c.in-Ok.ensures.all c.if-left-gt0.true)
-    ∙ ap (λ (e : ReadFault). Err e) (sym c.missing_line.ensures))
+    ∙ ap (λ (e : Stopped). Err e) (sym c.missing_line.ensures))
 
 pub returns-clause-sizes : goal.returns-clause-sizes
 returns-clause-sizes c =

@@ -1,6 +1,6 @@
 use Rattle.std.proofs.Common.{rules, subst, sym}
 use Rattle.aig_tools.specs.Ends.{Ends, answers_steps, goes_on, is_stopped, writes}
-use Rattle.aig_tools.proofs.Jobs.{as_is, fewer}
+use Rattle.aig_tools.proofs.Jobs.{as_is}
 use Rattle.aig_tools.proofs.program.run.Goals as goal
 
 pub loop-job-preserved : goal.loop-job-preserved
@@ -27,7 +27,8 @@ pub returns-in-Steps-clause-ends : goal.returns-in-Steps-clause-ends
 returns-in-Steps-clause-ends g c =
     c.loop-job.invariant.rest _ _
     (as_is c.args.names.now _ _ _ _ _ c.in-Steps.is
-    (answers_steps c.in-Steps.task c.in-Steps.model c.answer_steps-done.result _ _ _ _ c.answer_steps-done.ensures.ran
+    (answers_steps c.in-Steps.task c.in-Steps.model c.answer_steps-done.result _ _ _ _
+    c.answer_steps-done.ensures.transferred
     c.conclude-in-Steps.ensures.concludes))
 
 pub returns-in-Write-clause-ends : goal.returns-in-Write-clause-ends

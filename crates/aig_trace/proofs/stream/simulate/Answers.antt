@@ -1,7 +1,7 @@
 use Rattle.std.proofs.Common.{rules, subst}
-use Rattle.aig_io.specs.Devices.{Past}
-use Rattle.aig_io.specs.Runs.{Ran}
-use Rattle.aig_io.proofs.Runs.{ran_weaker}
+use Rattle.aig_io.specs.Devices.{History}
+use Rattle.aig_io.specs.Runs.{Transferred}
+use Rattle.aig_io.proofs.Runs.{transferred_weaker}
 use Rattle.aig_step.specs.Outcome.{TraceSays}
 use Rattle.aig_trace.proofs.Ending.{trace_says_too}
 use Rattle.aig_trace.proofs.stream.simulate.Goals as goal
@@ -13,11 +13,12 @@ returns g c =
     at c.trace_all-traced.ensures in
     let result = c.trace_all-traced.result in
     record {
-      ran = subst
-          (λ (sink_now : Past). Ran (TraceSays c.args.checked.now c.args.columns result)
-          (g.R.Source.past c.args.source.now) (g.R.Source.past c.trace_all-traced.new.source)
-          (g.W.Sink.past c.args.sink.now) sink_now)
+      transferred = subst
+          (λ (sink_now : History). Transferred (TraceSays c.args.checked.now c.args.columns result)
+          (g.R.Source.history c.args.source.now) (g.R.Source.history c.trace_all-traced.new.source)
+          (g.W.Sink.history c.args.sink.now) sink_now)
           (search rules)
-          (ran_weaker _ _ _ _ _ _ (trace_says_too c.args.checked.now _ c.in-Ok.ensures.same c.args.columns result)
-          ends.ran);
+          (transferred_weaker _ _ _ _ _ _ (trace_says_too c.args.checked.now _ c.in-Ok.ensures.same c.args.columns
+          result)
+          ends.transferred);
     }

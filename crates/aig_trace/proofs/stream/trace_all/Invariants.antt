@@ -10,7 +10,7 @@ invariant-loop-count g l =
     let inputs = length l.fn.lines.tracing.circuit.inputs in
     record {
       reached : Reached say_line HasTraced (longest_entry inputs) (nothing_said (tracing_task l.fn.lines) inputs)
-          (r.past l.fn.source) (r.past l.source) l.feeder l.lines;
+          (r.history l.fn.source) (r.history l.source) l.feeder l.lines;
       going : l.feeder.refused ≡ false;
       settled : l.lines.waiting ≡ [];
       empty : l.lines.output.held ≡ [];

@@ -1,6 +1,6 @@
 use Rattle.std.proofs.Common.{◌≡◌, ◌+◌, ◌∙◌, [], flat_map, ap, subst, sym, List, ℕ}
 use Rattle.std.specs.List.{range_with_len}
-use Rattle.aig_io.specs.Output.{Put}
+use Rattle.aig_io.specs.Output.{Appended}
 use Rattle.aig_io.proofs.Puts.{put_nothing}
 use Rattle.aig_unroll.specs.Parts.Frames.{Frame}
 use Rattle.aig_unroll.proofs.Written.{frame_more, none_in_any}
@@ -14,7 +14,7 @@ returns-then-is_empty-clause-put g c =
     let text : [] ≡ flat_map g.S.FrameSection.text
     (flat_map (g.S.FrameSection.at f.circuit f.frames) (range_with_len 0 f.frames)) =
     sym (ap (flat_map g.S.FrameSection.text) none) in
-    subst (λ (bytes : List ℕ). Put c.args.output.now c.args.output.now bytes) text (put_nothing c.args.output.now)
+    subst (λ (bytes : List ℕ). Appended c.args.output.now c.args.output.now bytes) text (put_nothing c.args.output.now)
 
 pub loop-frame-preserved : goal.loop-frame-preserved
 loop-frame-preserved g c =

@@ -10,7 +10,7 @@ use Rattle.aig_witness.proofs.witness_line.may_start_in.Goals as goal
 abbrev all_start : List Latch → List Val → Bool
 all_start latches state = may_start_in (map (λ (k : Latch). k.reset) latches) state
 
--- all from a place on may start at their values, if the one there may and those behind it
+-- all from a place on may start at their values, if the one there may and those after it
 from_here : (latches : List Latch) (state : List Val) (i : ℕ) (k : Latch) (v w : Val) (b : Bool) → i < length latches
     → i < length state → v ≡ get_or state i v → w ≡ v → b ≡ may_start_at (get_or latches i k).reset w
     → all_start (drop i latches) (drop i state) ≡ (b && all_start (drop (i + 1) latches) (drop (i + 1) state))

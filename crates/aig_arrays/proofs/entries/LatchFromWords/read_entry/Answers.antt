@@ -5,7 +5,7 @@ use Rattle.aig_arrays.proofs.entries.LatchFromWords.read_entry.Goals as goal
 
 pub returns-in-Some : goal.returns-in-Some
 returns-in-Some c =
-    rw (← c.from.view_is)
+    rw (← c.from.view_is, c.bad_entry.ensures)
     (three_wrong latch_of latch_form c.args.bound c.args._carried c.from.inside.at c.from.inside.rest.now c.in-Some.kind
     c.in-len3-up.len_at_least refl (c.in-Some.ensures c.args._carried))
 

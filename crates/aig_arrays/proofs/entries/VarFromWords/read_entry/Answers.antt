@@ -5,7 +5,7 @@ use Rattle.aig_arrays.proofs.entries.VarFromWords.read_entry.Goals as goal
 
 pub returns-in-Some : goal.returns-in-Some
 returns-in-Some c =
-    rw (← c.from.view_is)
+    rw (← c.from.view_is, c.bad_entry.ensures)
     (one_wrong input_of input_form c.args.bound c.args._carried c.from.inside.at c.from.inside.rest.now c.in-Some.kind
     c.in-len1-up.len_at_least refl (c.in-Some.ensures c.args._carried))
 

@@ -9,7 +9,7 @@ use Rattle.aig_cnf.specs.ClauseText.{literal_text}
 use Rattle.aig_cnf.specs.VariableTexts.{spaces}
 use Rattle.aig_cnf.proofs.variable_text.VariableText.write_literal.Goals as goal
 
--- the first bytes of a text and what is behind it, where all of the text is among them
+-- the first bytes of a text and what is after it, where all of the text is among them
 copied : (k : ℕ) (text rest : List ℕ) → length text ≤ k → take k (text ++ rest) ≡ text ++ take (k - length text) rest
 copied k text rest short =
     let all : k ≡ length text + (k - length text) = omega arith in
@@ -24,7 +24,7 @@ signed_length zero n low = omega (arith, length-append (decimal n) (codes " "))
 signed_length (suc zero) n low = omega (arith, length-append (decimal n) (codes " "))
 signed_length (suc (suc s)) n low = absurd (omega arith)
 
--- the spaces behind it
+-- the spaces after it
 others : List ℕ
 others = replicate 20 32
 

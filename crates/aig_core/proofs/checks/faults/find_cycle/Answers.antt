@@ -2,7 +2,7 @@ use Rattle.std.proofs.Common.{◌≡◌, ◌∙◌, ◌*◌, ◌≤◌, ap, sym,
 use Rattle.std.proofs.lemmas.List.{get_or_default}
 use Rattle.aig_circuit.specs.declared.circuit.Gate.{Gate}
 use Rattle.aig_circuit.specs.declared.circuit.TheConstants.{LARGEST}
-use Rattle.aig_core.specs.declared.fault.CheckFault.TheVariants.{Cyclic}
+use Rattle.aig_core.specs.Fault.{cyclic}
 use Rattle.aig_topo.specs.Order.{first_cyclic}
 use Rattle.aig_topo.proofs.Ordering.Ranked.{no_gate, at}
 use Rattle.aig_topo.proofs.Ordering.Cyclic.{cyclic_there, cyclic_nowhere_there, in_bounds}
@@ -26,7 +26,11 @@ returns-in-Some c =
     ∙ get_or_default gates c.in-Some.gate c.index-as_slice-gate.result no_gate found.0 in
     let first : Some c.own_literal.result ≡ first_cyclic gates =
     ap Some (c.own_literal.ensures ∙ ap (λ (g : Gate). 2 * g.var) read) ∙ sym found.1 in
-    record { ok = tt; err = inr (ap (option_map Cyclic) (sym first)); few = c.in_ok-found.ensures.few }
+    record {
+      ok = tt;
+      err = inr (ap (option_map cyclic) (sym first) ∙ ap Some (sym c.cyclic.ensures));
+      few = c.in_ok-found.ensures.few;
+    }
 
 pub returns-in-None : goal.returns-in-None
 returns-in-None c = record {

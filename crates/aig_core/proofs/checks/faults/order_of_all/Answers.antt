@@ -3,7 +3,7 @@ use Rattle.std.specs.Option.{option_map}
 use Rattle.std.proofs.lemmas.List.{get_or_default}
 use Rattle.aig_circuit.specs.declared.circuit.Gate.{Gate}
 use Rattle.aig_circuit.specs.declared.circuit.TheConstants.{LARGEST}
-use Rattle.aig_core.specs.declared.fault.CheckFault.TheVariants.{Cyclic}
+use Rattle.aig_core.specs.Fault.{cyclic}
 use Rattle.aig_topo.specs.Order.{first_cyclic}
 use Rattle.aig_topo.proofs.Ordering.Ranked.{no_gate, at}
 use Rattle.aig_topo.proofs.Ordering.Cyclic.{cyclic_where, none_cyclic, in_bounds}
@@ -36,7 +36,7 @@ returns-in-Some c =
     record {
       ok = tt;
       least = tt;
-      err = inr (ap (option_map Cyclic) (sym first));
+      err = inr (ap (option_map cyclic) (sym first) ∙ ap Some (sym c.cyclic.ensures));
       few = c.in_ok-order.ensures.few;
     }
 

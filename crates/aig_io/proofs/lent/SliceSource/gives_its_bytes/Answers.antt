@@ -8,5 +8,5 @@ pub returns : goal.returns
 returns c =
     let s = c.self.inside in
     let is = c.self.invariant in
-    subst (λ (t : Lent). HasGiven t.past) c.self.view_is
+    subst (λ (t : Lent). HasGiven t.history) c.self.view_is
     (has_given s.bytes.now s.at (sum_of s.ends.notes) is.1 is.2)

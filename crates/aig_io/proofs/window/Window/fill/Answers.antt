@@ -17,5 +17,5 @@ returns-clause-ok g c = record {
       (rw c.deref_mut.ensures.value (c.make_room.ensures.same ∙ c.self.view_is))
       (rw c.deref_mut.ensures.value (omega (arith, c.self.invariant, c.make_room.ensures.grown)))
       c.in_ok-count.ensures.within;
-  gave = c.in_ok-count.ensures.past ∙ gave_fetched c.fetch.new.into c.in_ok-count.count _;
+  gave = c.in_ok-count.ensures.history ∙ gave_fetched c.fetch.new.into c.in_ok-count.count _;
 }

@@ -1,18 +1,18 @@
 use Rattle.std.proofs.Common.{◌≡◌, ◌∙◌, ◌++◌, ◌∷◌, List, ℕ, drop, ap, sym, subst, arith, false, true}
-use Rattle.aig_lines.specs.Fed.{Feeder}
+use Rattle.aig_lines.specs.Feeders.{Feeder}
 use Rattle.aig_lines.specs.Keeping.{Keeping, keeping_more}
 use Rattle.aig_lines.specs.Lines.{HasNoLineFeed}
 use Rattle.aig_lines.proofs.Feeds.{flipped, way_begins, way_ends, way_line, way_refused, first_line, no_line}
 use Rattle.aig_lines.proofs.feeder.LineFeeder.feed.Goals as goal
 
-pub returns-then-self-clause-fed : goal.returns-then-self-clause-fed
-returns-then-self-clause-fed g c = λ at stands.
+pub returns-then-self-clause-folded : goal.returns-then-self-clause-folded
+returns-then-self-clause-folded g c = λ at stands.
     let t = g.T.LineTaker in
     way_refused t.step t.IsAt _ _ c.args.chunk.now _ (way_begins t.step t.IsAt _ _ at c.args.chunk.now stands)
     (sym (ap (λ (f : Feeder). f.refused) c.self.view_is) ∙ c.if-self.true)
 
-pub returns-then-not-take_ended-clause-fed : goal.returns-then-not-take_ended-clause-fed
-returns-then-not-take_ended-clause-fed g c = λ place stands.
+pub returns-then-not-take_ended-clause-folded : goal.returns-then-not-take_ended-clause-folded
+returns-then-not-take_ended-clause-folded g c = λ place stands.
     let t = g.T.LineTaker in
     let rest = c.loop-at.rest.now in
     let at = c.in-Some.at in
@@ -24,7 +24,7 @@ returns-then-not-take_ended-clause-fed g c = λ place stands.
     way_refused t.step t.IsAt _ _ (drop 1 (drop at rest)) _
     (way_line t.step t.IsAt c.loop-at.self c.take_ended.new.self c.loop-at.taker c.take_ended.new.taker rest piece
     (drop 1 (drop at rest)) _ (c.loop-at.invariant.way place stands) is c.loop-at.invariant.going none
-    c.take_ended.ensures.fed)
+    c.take_ended.ensures.folded)
     (flipped c.take_ended.new.self.refused c.take_ended.result false c.take_ended.ensures.result
     c.if-not-take_ended.true)
 
@@ -50,11 +50,11 @@ loop-at-preserved g c =
       way = λ place stands.
           way_line t.step t.IsAt c.loop-at.self c.take_ended.new.self c.loop-at.taker c.take_ended.new.taker rest piece
           following _ (c.loop-at.invariant.way place stands) is c.loop-at.invariant.going none
-          c.take_ended.ensures.fed;
+          c.take_ended.ensures.folded;
     }
 
-pub returns-clause-fed : goal.returns-clause-fed
-returns-clause-fed g c = λ at stands.
+pub returns-clause-folded : goal.returns-clause-folded
+returns-clause-folded g c = λ at stands.
     let t = g.T.LineTaker in
     let rest = c.loop-at.rest.now in
     way_ends t.step t.IsAt c.loop-at.self _ c.loop-at.taker rest _ (c.loop-at.invariant.way at stands)

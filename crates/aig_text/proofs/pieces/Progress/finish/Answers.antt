@@ -1,5 +1,5 @@
 use Rattle.std.proofs.Common.{◌∙◌, Err, ap, inr, sym, rules}
-use Rattle.aig_rows.specs.declared.fault.ReadFault.{ReadFault}
+use Rattle.aig_fault.specs.declared.stopped.Stopped.{Stopped}
 use Rattle.aig_text.proofs.Loops.Sections.{alone_done, alone_short, alone_wrong}
 use Rattle.aig_text.proofs.pieces.Progress.finish.Goals as goal
 
@@ -11,7 +11,7 @@ pub returns-then-not-is_done-clause-read : goal.returns-then-not-is_done-clause-
 returns-then-not-is_done-clause-read c =
     inr (alone_short c.args.header.now c.args.self c.read_lines.new.self c.args.at.now c.read_lines.new.at
     c.in_default.ensures.on c.in_default.ensures.all (search rules)
-    ∙ ap (λ (e : ReadFault). Err e) (sym c.missing_line.ensures))
+    ∙ ap (λ (e : Stopped). Err e) (sym c.missing_line.ensures))
 
 pub returns-clause-read : goal.returns-clause-read
 returns-clause-read c =

@@ -6,7 +6,7 @@ use Rattle.aig_trace.specs.declared.taker.Taker.TheVariants as takers
 use Rattle.aig_trace.specs.Parts.Taking.{tracing_in, waiting_in}
 use Rattle.aig_trace.specs.Parts.Tracing.{HasTraced, LineTracing}
 use Rattle.aig_trace.specs.Parts.Waits.{entries_of}
-use Rattle.aig_trace.proofs.Traced.{heard_alone, heard_line}
+use Rattle.aig_trace.proofs.Traced.{accepted_alone, accepted_line}
 use Rattle.aig_trace.proofs.line_tracer.LineTracerLineTaker.take.Goals as goal
 
 abbrev lines_of : {W : Type 0} → Taker → Out W → LineTracing W
@@ -20,8 +20,8 @@ returns-in-InTurn-clause-took g c = λ s stands.
     let took = c.take_line.ensures in
     let at : HasTraced t s = subst (λ (k : Taker). HasTraced (lines_of k i.output) s) c.in-InTurn.is
     (rw c.self.view_is stands) in
-    heard_line t u s at c.args.text.now c.take_line.result
-    (λ is. heard_alone t u c.args.text.now refl refl took.same (took.good is))
+    accepted_line t u s at c.args.text.now c.take_line.result
+    (λ is. accepted_alone t u c.args.text.now refl refl took.same (took.good is))
     (λ is. (took.bad is, took.stays is, refl, took.none is))
 
 pub returns-in-SideBySide-clause-took : goal.returns-in-SideBySide-clause-took
@@ -33,7 +33,7 @@ returns-in-SideBySide-clause-took g c = λ s stands.
     let u = lines_of (takers.SideBySide now.self) now.output in
     let at : HasTraced t s = subst (λ (k : Taker). HasTraced (lines_of k i.output) s) c.in-SideBySide.is
     (rw c.self.view_is stands) in
-    heard_line t u s at c.args.text.now c.take_line-in-SideBySide.result took.good
+    accepted_line t u s at c.args.text.now c.take_line-in-SideBySide.result took.good
     (λ is.
     let same = took.stays is in (
       took.bad is,

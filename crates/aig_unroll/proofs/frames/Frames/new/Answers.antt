@@ -18,9 +18,10 @@ invariant_of-result c =
     let fits = subst (λ (k : Circuit). ¬ IsTooLarge k frames) (sym same) c.requires.fits in
     let reset = λ (l : Latch). l.reset in
     let first = 1 + c.count_uninitialised-uninitialised.result in
-    first_frame circuit frames first (first + frames * c.len-inputs.result) c.in-Ok.standing.items c.in-Ok.next.items
+    first_frame circuit frames first (first + frames * c.len-inputs.result) c.in-Ok.substitution.items
+    c.in-Ok.next.items
     formed ordered fits c.requires.some
     (ap (λ n. 1 + n)
     (c.count_uninitialised-uninitialised.ensures.count
     ∙ ap (λ (ls : List Latch). uninitialised (map reset ls)) c.as_slice.ensures))
-    (ap (λ n. first + frames * n) c.len-inputs.ensures) c.in-Ok.ensures.standing c.in-Ok.ensures.next
+    (ap (λ n. first + frames * n) c.len-inputs.ensures) c.in-Ok.ensures.substitution c.in-Ok.ensures.next

@@ -15,9 +15,9 @@ pub returns : goal.returns
 returns c =
     let f = c.self.inside in
     let is = c.self.invariant in
-    let standing = c.as_slice-standing.result.now in
-    let stands = stands_at f.circuit f.frames f.frame f.first_gate standing is.gate_is
-    (c.as_slice-standing.ensures.value ∙ is.standing_is) in
+    let substitution = c.as_slice-substitution.result.now in
+    let stands = stands_at f.circuit f.frames f.frame f.first_gate substitution is.gate_is
+    (c.as_slice-substitution.ensures.value ∙ is.substitution_is) in
     let chain = c.chain.ensures ∙ sym (ap (λ (k : Frame). chain_at k.circuit k.frames k.frame) c.self.view_is) in
     c.put_behind.ensures
     ∙ ap₂ (λ (g : ℕ → ℕ) n. behind_by g n c.chain.result f.circuit) stands is.gate_is

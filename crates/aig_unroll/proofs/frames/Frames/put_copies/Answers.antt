@@ -5,7 +5,7 @@ use Rattle.aig_circuit.specs.declared.circuit.Gate.{Gate}
 use Rattle.aig_binary.specs.BinaryText.{HasDeltas}
 use Rattle.aig_unroll.specs.Unrolled.{at, copied, first_gate, gates_at}
 use Rattle.aig_unroll.specs.Parts.Frames.{Frame, table_at}
-use Rattle.aig_unroll.specs.Parts.Standing.{GateHasRoom}
+use Rattle.aig_unroll.specs.Parts.Substitution.{GateHasRoom}
 use Rattle.aig_unroll.proofs.InFrame.{gates_fit, gates_have_room, stands_at}
 use Rattle.aig_unroll.proofs.Ordering.Frames.{piece_stands}
 use Rattle.aig_unroll.proofs.Written.{frame_has_deltas}
@@ -17,7 +17,7 @@ put_copies-requires-clause-below c =
     let is = c.self.invariant in
     let has : Gate → Type 0 =
     GateHasRoom (length (table_at f.circuit f.frames f.frame)) (first_gate f.circuit f.frames f.frame) in
-    rw (c.as_slice-standing.ensures.value, is.standing_is, is.gate_is, c.as_slice.ensures)
+    rw (c.as_slice-substitution.ensures.value, is.substitution_is, is.gate_is, c.as_slice.ensures)
     (All-take has (c.args.at + length c.args.out.now - c.args.at) (drop c.args.at f.circuit.gates)
     (All-drop has c.args.at f.circuit.gates
     (gates_have_room f.circuit f.frames f.frame is.formed is.ordered is.fits is.within)))
@@ -39,8 +39,8 @@ returns-clause-gates c =
     let f = c.self.inside in
     let is = c.self.invariant in
     let count = length c.args.out.now in
-    let stands = stands_at f.circuit f.frames f.frame f.first_gate c.as_slice-standing.result.now is.gate_is
-    (c.as_slice-standing.ensures.value ∙ is.standing_is) in
+    let stands = stands_at f.circuit f.frames f.frame f.first_gate c.as_slice-substitution.result.now is.gate_is
+    (c.as_slice-substitution.ensures.value ∙ is.substitution_is) in
     let within = subst (λ (k : Frame). c.args.at + count ≤ length k.circuit.gates) (sym c.self.view_is) c.requires in
     let wide : c.args.at + count - c.args.at ≡ count = omega arith in
     let piece = take (c.args.at + count - c.args.at) (drop c.args.at c.as_slice.result.now) in

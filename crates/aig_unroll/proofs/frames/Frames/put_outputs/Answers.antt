@@ -1,7 +1,7 @@
 use Rattle.std.proofs.Common.{◌∙◌, ap, ap₂, map, rules}
 use Rattle.aig_unroll.specs.Unrolled.{outputs_at}
 use Rattle.aig_unroll.specs.Parts.Frames.{Frame}
-use Rattle.aig_unroll.specs.Parts.Standing.{stood}
+use Rattle.aig_unroll.specs.Parts.Substitution.{substituted}
 use Rattle.aig_unroll.proofs.InFrame.{outputs_have_room, stands_at}
 use Rattle.aig_unroll.proofs.frames.Frames.put_outputs.Goals as goal
 
@@ -14,6 +14,7 @@ returns c =
     let is = c.self.invariant in
     c.put_literals.ensures
     ∙ ap₂ map
-    (ap (λ xs. stood xs f.first_gate) c.as_slice-standing.ensures.value
-    ∙ stands_at f.circuit f.frames f.frame f.first_gate f.standing.items is.gate_is is.standing_is) c.as_slice.ensures
+    (ap (λ xs. substituted xs f.first_gate) c.as_slice-substitution.ensures.value
+    ∙ stands_at f.circuit f.frames f.frame f.first_gate f.substitution.items is.gate_is is.substitution_is)
+    c.as_slice.ensures
     ∙ ap (λ (k : Frame). outputs_at k.circuit k.frames k.frame) c.self.view_is

@@ -12,17 +12,17 @@ invariant_of-self c =
     let is = c.self.invariant in
     let reset = λ (l : Latch). l.reset in
     let first = 1 + c.count_uninitialised.result in
-    let kept = c.put_standing.auto.standing ∙ c.deref_mut.ensures.len in
+    let kept = c.put_substitution.auto.substitution ∙ c.deref_mut.ensures.len in
     first_frame f.circuit f.frames first (first + f.frames * c.len-inputs.result) _ f.next.items
     is.formed is.ordered is.fits (omega (arith, is.within))
     (ap (λ n. 1 + n)
     (c.count_uninitialised.ensures.count
     ∙ ap (λ (ls : List Latch). uninitialised (map reset ls)) c.as_slice-latches.ensures))
     (ap (λ n. first + f.frames * n) c.len-inputs.ensures)
-    (with_items_is f.standing c.put_standing.new.standing kept ∙ c.put_standing.ensures
+    (with_items_is f.substitution c.put_substitution.new.substitution kept ∙ c.put_substitution.ensures
     ∙ ap₂ (λ n (ls : List Latch). table first n (first_latches 1 (map reset ls)))
     c.len-inputs.ensures c.as_slice-latches.ensures)
     is.next_room
 
-pub put_standing-requires-clause-room : goal.put_standing-requires-clause-room
-put_standing-requires-clause-room c = search (rules, places_are)
+pub put_substitution-requires-clause-room : goal.put_substitution-requires-clause-room
+put_substitution-requires-clause-room c = search (rules, places_are)

@@ -1,6 +1,6 @@
 use Rattle.std.proofs.Common.{◌∙◌, ◌≡◌, List, ap, subst, ℕ, flat_map}
 use Rattle.aig_circuit.specs.declared.circuit.Circuit.{Circuit}
-use Rattle.aig_io.specs.Output.{Put}
+use Rattle.aig_io.specs.Output.{Appended}
 use Rattle.aig_io.proofs.Puts.{put_twice}
 use Rattle.aig_binary.specs.BinaryText.{binary_text, gate_text}
 use Rattle.aig_unroll.specs.Unrolled.{unrolled}
@@ -17,13 +17,13 @@ returns g c =
     let once : of behind ≡ of f = same_circuit f behind c.put_section.ensures.kept in
     let twice = same_circuit behind c.put_section-2.new.copies c.put_section-2.ensures.kept ∙ once in
     let bad =
-    subst (λ (d : Circuit). Put c.put_section.new.output c.put_section-2.new.output (literal_lines d.bad)) once
+    subst (λ (d : Circuit). Appended c.put_section.new.output c.put_section-2.new.output (literal_lines d.bad)) once
     c.put_section-2.ensures.put in
     let gates =
     subst
-    (λ (d : Circuit). Put c.put_section-2.new.output c.put_section-3.new.output (flat_map gate_text d.gates)) twice
+    (λ (d : Circuit). Appended c.put_section-2.new.output c.put_section-3.new.output (flat_map gate_text d.gates)) twice
     c.put_section-3.ensures.put in
-    subst (λ (text : List ℕ). Put c.args.output.now c.put_section-3.new.output text)
+    subst (λ (text : List ℕ). Appended c.args.output.now c.put_section-3.new.output text)
     (binary_parts f.circuit f.frames ∙ ap binary_text c.self.view_is)
     (put_twice _ _ _ _ _ (rw c.header_numbers.ensures at c.put_header.ensures)
     (put_twice _ _ _ _ _ c.put_section.ensures.put (put_twice _ _ _ _ _ bad gates)))

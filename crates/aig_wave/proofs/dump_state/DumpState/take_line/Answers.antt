@@ -15,7 +15,7 @@ earlier : (time : ℕ) → time < 2 ^ 64 → (time ≡ 2 ^ 64 - 1 → ⊥) → n
 unfolding most_frames
 earlier time low other = lt-ltb time (2 ^ 64 - 1) (omega (arith, low, other))
 
--- no line has a frame behind the last time
+-- no line has a frame after the last time
 none_framed : (w : Layout) (p : Point) (line : List ℕ) → p.time ≡ 2 ^ 64 - 1 → is_framed w p line ≡ false
 none_framed w p line is = rw (is, last_time) (and_false (is_trace_line w line))
 

@@ -1,0 +1,63 @@
+-- Where the clauses of an unrolled circuit are refuted, nothing is confirmed.
+use Rattle.std.proofs.Common.{◌≡◌, ℕ, List, Result, Ok, Err, refl, subst}
+use Rattle.aig_circuit.specs.declared.circuit.Circuit.{Circuit}
+use Rattle.aig_circuit.specs.Wellformed.{IsWellFormed}
+use Rattle.aig_fault.specs.declared.stopped.Stopped.{Stopped}
+use Rattle.aig_fault.specs.declared.stopped.Stopped.TheVariants as stops
+use Rattle.aig_io.specs.Devices.{History}
+use Rattle.aig_io.specs.Runs.{Ending, Read}
+use Rattle.aig_io.proofs.Runs.{read_weaker}
+use Rattle.aig_refute.specs.Refuted.{RefutationSays}
+use Rattle.aig_replay.proofs.BadAlone.{refuted_means_none}
+use Rattle.aig_unroll.specs.Unrolled.{IsUnrolled}
+use Rattle.aig_witness.specs.declared.verdict.Verdict.TheVariants.{Confirmed}
+use Rattle.aig_witness.specs.Witness.{IsVerdict}
+use Rattle.aig_binary.proofs.Files.{one_circuit}
+use Rattle.aig_command.specs.declared.request.Reach.{Reach}
+use Rattle.aig_commands.specs.File.{IsFileOf}
+use Rattle.aig_commands.specs.Laws.{RefutationsMeanNone}
+use Rattle.aig_commands.specs.Reading.{ReadSays}
+use Rattle.aig_commands.specs.Refuting.{IsNoneText, IsRefutationRefused, IsUnsatisfiable, none_text}
+use Rattle.aig_commands.proofs.Readings.{CameWhole, made_after}
+use Rattle.aig_commands.proofs.TripsExist.{well_formed_file}
+
+-- a refutation was read: it is right, or is refused
+refutation_says : (selected d : Circuit) (frames : ℕ) (r : Result (Unit {0}) Stopped) (bytes : List ℕ) (ending : Ending)
+    → IsWellFormed d → IsUnrolled selected frames d → RefutationSays d r bytes ending
+    → ReadSays {A = Unit {0}} (λ _ _. IsUnsatisfiable selected frames) IsRefutationRefused r bytes ending
+refutation_says selected d frames (Ok done) bytes ending formed is says = (says.0, (d, formed, is, says.1))
+refutation_says selected d frames (Err stops.OutOfMemory) bytes ending formed is says = says
+refutation_says selected d frames (Err stops.ReadFailed) bytes ending formed is says = says
+refutation_says selected d frames (Err stops.WriteFailed) bytes ending formed is says = says
+refutation_says selected d frames (Err (stops.Refused fault)) bytes ending formed is says = says
+
+pub refutation_read : (selected d : Circuit) (frames : ℕ) (r : Result (Unit {0}) Stopped) (before after : History)
+    → IsWellFormed d → IsUnrolled selected frames d → Read (RefutationSays d r) before after
+    → Read (ReadSays {A = Unit {0}} (λ _ _. IsUnsatisfiable selected frames) IsRefutationRefused r) before after
+refutation_read selected d frames r before after formed is =
+    read_weaker _ _ before after (λ bytes ending. refutation_says selected d frames r bytes ending formed is)
+
+-- where no assignment lets a bad state be 1, no claim is confirmed
+is_none : (request : Reach) (selected : Circuit) → IsUnsatisfiable selected request.frames
+    → IsNoneText request selected (none_text request.frames)
+is_none request selected (d, formed, is, none) = record {
+  none = λ c good there same.
+      refuted_means_none c d request.bad request.frames good there formed
+      (subst (λ (k : Circuit). IsUnrolled k request.frames d) same is) none;
+  written_as = refl;
+}
+
+pub none_read : (request : Reach) (selected : Circuit) (before after : History)
+    → Read (CameWhole (λ _. IsUnsatisfiable selected request.frames)) before after
+    → Read (CameWhole (λ _. IsNoneText request selected (none_text request.frames))) before after
+none_read request selected before after = made_after _ before after _ (λ _ none. is_none request selected none)
+
+pub refutations_mean_none : RefutationsMeanNone
+refutations_mean_none request judging selected model text witness step limit of_model is low confirmed of_selected =
+    let p = of_model.has_clauses in
+    let good = well_formed_file model request.max_var p.found p.read in
+    let read : IsFileOf model request.max_var confirmed.found =
+    subst (λ n. IsFileOf model n confirmed.found) limit confirmed.read in
+    let same = one_circuit model request.max_var confirmed.found p.found read p.read in
+    is.none p.found good p.is_unrolled.has_bad of_model.selected_is confirmed.claim step low of_selected
+    (subst (λ (k : Circuit). IsVerdict k confirmed.claim (Confirmed step)) same confirmed.is_verdict)

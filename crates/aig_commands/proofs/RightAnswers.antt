@@ -1,0 +1,81 @@
+-- An answer whose values satisfy the clauses that are written of a model has a witness.
+use Rattle.std.proofs.Common.{◌≡◌, ◌≤◌, ◌∙◌, ℕ, List, Option, Some, Ok, ap, refl, replicate, subst, sym}
+use Rattle.aig_circuit.specs.declared.circuit.Circuit.{Circuit}
+use Rattle.aig_circuit.specs.Wellformed.{IsWellFormed}
+use Rattle.aig_answer.specs.declared.reader.Status.TheVariants.{Satisfiable}
+use Rattle.aig_answer.specs.AnswerText.{all_values, answer_text}
+use Rattle.aig_answer.proofs.Answers.{answers_are_read}
+use Rattle.aig_meaning.specs.Trace.{IsTrace}
+use Rattle.aig_reach.proofs.Whole.{cut_trace}
+use Rattle.aig_reach.specs.Cut.{cut_claim}
+use Rattle.aig_replay.specs.declared.search.Hit.{Hit}
+use Rattle.aig_replay.specs.Alone.{HasSelected, selected_of}
+use Rattle.aig_replay.specs.Laws.{claim_of}
+use Rattle.aig_replay.specs.Reached.{HasFound, ReachedBy, claim_selected, read_over, run_by, said_in}
+use Rattle.aig_replay.specs.Starting.{assigned}
+use Rattle.aig_replay.specs.WitnessLines.{witness_text}
+use Rattle.aig_replay.proofs.BadAlone.{selected_is_well_formed}
+use Rattle.aig_replay.proofs.ByAnswer.{reached}
+use Rattle.aig_replay.proofs.Claimed.{answers_are_found}
+use Rattle.aig_unroll.proofs.Ordering.Ordered.{unrolled_is_ordered}
+use Rattle.aig_unroll.specs.Unrolled.{IsTooLarge, IsUnrolled, all_inputs}
+use Rattle.aig_witness.specs.Witness.{Claim}
+use Rattle.aig_commands.specs.Laws.{RightAnswersHaveWitnesses}
+use Rattle.aig_commands.proofs.Cuts.{one_cut}
+use Rattle.aig_commands.proofs.TripsExist.{well_formed_file}
+use Rattle.aig_commands.proofs.Values.{values_read}
+
+-- what an answer on the clauses of this circuit claims that it reaches
+abbrev claim_by : Option ℕ → ℕ → Circuit → List ℕ → Hit → Claim
+claim_by bad frames selected answer hit =
+    claim_selected bad (claim_of (run_by selected frames answer).first (run_by selected frames answer).steps hit)
+
+reached_by : (c selected : Circuit) (bad : Option ℕ) (frames : ℕ) (answer : List ℕ) (hit : Hit) → IsWellFormed c
+    → HasSelected bad c → selected ≡ selected_of bad c → said_in selected frames answer ≡ Ok Satisfiable
+    → HasFound selected frames (read_over selected frames answer).bits (Some hit)
+    → ReachedBy c bad frames answer (claim_by bad frames selected answer hit)
+reached_by c selected bad frames answer hit formed has same said found =
+    subst (λ (k : Circuit). ReachedBy c bad frames answer (claim_by bad frames k answer hit)) (sym same)
+    (reached c bad frames answer hit formed has
+    (subst (λ (k : Circuit). said_in k frames answer ≡ Ok Satisfiable) same said)
+    (subst (λ (k : Circuit). HasFound k frames (read_over k frames answer).bits (Some hit)) same found))
+
+pub right_answers_have_witnesses : RightAnswersHaveWitnesses
+right_answers_have_witnesses request selected model a before lines last behind of_model satisfied are are_lines are_last
+    are_behind values =
+    let answer = answer_text before lines last behind in
+    let frames = request.frames in
+    let inputs = all_inputs selected frames in
+    let p = of_model.has_clauses in
+    let same = sym of_model.selected_is in
+    let good : IsWellFormed selected =
+    subst IsWellFormed same
+    (selected_is_well_formed request.bad p.found p.is_unrolled.has_bad
+    (well_formed_file model request.max_var p.found p.read)) in
+    let unrolled : IsUnrolled selected frames p.unrolled =
+    subst (λ (k : Circuit). IsUnrolled k frames p.unrolled) same p.is_unrolled.is_unrolled in
+    let fits : ¬ IsTooLarge selected frames = subst (λ (k : Circuit). ¬ IsTooLarge k frames) same p.is_unrolled.fits in
+    let ordered = unrolled_is_ordered selected p.unrolled frames good unrolled fits in
+    let read = answers_are_read (replicate inputs 48) before lines last behind are are_lines are_last are_behind in
+    let agree : (v : ℕ) → 1 ≤ v → v ≤ inputs → assigned (read_over selected frames answer).bits v ≡ a v =
+    λ v some within.
+    ap (λ bits. assigned bits v) read.values_are
+    ∙ values_read a inputs (all_values lines last) values v some within in
+    let cut : run_by selected frames answer ≡ cut_claim selected frames a 0 =
+    one_cut selected frames (assigned (read_over selected frames answer).bits) a agree in
+    let trace = cut_trace selected frames a good in
+    let hit = answers_are_found selected p.unrolled frames a trace.0 good ordered.0 unrolled satisfied trace.1.0 in
+    let found : HasFound selected frames (read_over selected frames answer).bits (Some hit.0) = record {
+      rows = trace.0;
+      trace = subst (λ (k : Claim). IsTrace selected k.first k.steps trace.0) (sym cut) trace.1.0;
+      is_found = hit.1;
+    } in
+    let claim = claim_by request.bad frames selected answer hit.0 in (
+      witness_text claim,
+      record {
+        claim = claim;
+        reached = λ c formed has is.
+            reached_by c selected request.bad frames answer hit.0 formed has is read.status_is found;
+        written_as = refl;
+      },
+    )

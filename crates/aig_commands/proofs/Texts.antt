@@ -1,0 +1,20 @@
+-- A text that is written is not empty.
+use Rattle.std.proofs.Common.{◌<◌, Result, Ok, Err, IfOk, length, arith}
+use Rattle.aig_circuit.specs.declared.circuit.Circuit.{Circuit}
+use Rattle.aig_text.specs.AsciiText.{ascii_text}
+use Rattle.aig_binary.specs.BinaryText.{binary_text}
+use Rattle.aig_cnf.specs.ClauseText.{cnf_text}
+use Rattle.aig_command.specs.declared.request.UnrolledForm.{UnrolledForm}
+use Rattle.aig_command.specs.declared.request.UnrolledForm.TheVariants as forms
+use Rattle.aig_commands.specs.Unrolling.{unrolled_text}
+
+pub unrolled_begins : (form : UnrolledForm) (c : Circuit) → 0 < length (unrolled_text form c)
+unfolding ascii_text binary_text cnf_text
+unrolled_begins forms.Binary c = omega arith
+unrolled_begins forms.Ascii c = omega arith
+unrolled_begins (forms.Clauses bad) c = omega arith
+
+pub what_is_unrolled_begins : {E : Type 0} (form : UnrolledForm) (r : Result Circuit E)
+    → IfOk r (λ d. 0 < length (unrolled_text form d))
+what_is_unrolled_begins form (Ok d) = unrolled_begins form d
+what_is_unrolled_begins form (Err fault) = tt

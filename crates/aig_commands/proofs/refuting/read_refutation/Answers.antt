@@ -1,0 +1,13 @@
+use Rattle.std.proofs.Common.{rules}
+use Rattle.aig_io.proofs.Runs.{read_none}
+use Rattle.aig_commands.proofs.Refutings.{refutation_read}
+use Rattle.aig_commands.proofs.refuting.read_refutation.Goals as goal
+
+pub returns-in_err-unrolled : goal.returns-in_err-unrolled
+returns-in_err-unrolled g c = search (rules, read_none)
+
+pub returns : goal.returns
+returns g c =
+    let same = c.as_checked.ensures.value in
+    refutation_read _ _ _ c.check_refutation-checked.result _ _ (rw same at c.circuit.ensures.well_formed)
+    c.in_ok-unrolled.ensures.ok (rw (c.circuit.ensures.value, same) at c.check_refutation-checked.ensures)

@@ -1,0 +1,16 @@
+pub use Rattle.aig_binary.specs.File
+pub mod OutputsAsBad
+pub mod Conversion
+pub mod Simulation
+pub mod Unrolling
+pub mod Reaching
+pub mod Refuting
+pub mod Proving
+pub mod Reading
+pub mod Outcome
+pub mod WitnessOutcome
+pub mod WitnessDump
+pub mod Jobs
+pub mod Laws
+pub mod DumpLaws
+pub mod WitnessDumpLaws

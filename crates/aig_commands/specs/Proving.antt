@@ -1,0 +1,72 @@
+-- Which texts are written for an invariant (this project's profile): a model is read, and then the invariant, and the
+-- clauses are written in which it is to be shown; or they are refuted, and so no run ever reaches a bad state.
+use Rattle.std.specs.Prelude.{◌≡◌, ◌⊎◌, ℕ, List, None, codes}
+use Rattle.aig_circuit.specs.declared.circuit.Circuit.{Circuit}
+use Rattle.aig_circuit.specs.Wellformed.{IsWellFormed}
+use Rattle.aig_cnf.specs.ClauseText.{cnf_text}
+use Rattle.aig_command.specs.declared.request.Invariant.{Invariant}
+use Rattle.aig_command.specs.declared.request.Reach.{Reach}
+use Rattle.aig_command.specs.declared.request.SolverFile.TheVariants.{Refutation}
+use Rattle.aig_command.specs.declared.request.UnrolledForm.TheVariants.{Clauses}
+use Rattle.aig_invariant.specs.Invariant.{Cube, with_invariant}
+use Rattle.aig_invariant.specs.Laws.{IsNever}
+use Rattle.aig_invariant.specs.Outcome.{HasCubes, IsInvariantRefused}
+use Rattle.aig_replay.specs.Alone.{HasSelected, selected_of}
+use Rattle.aig_unroll.specs.Outcome.{HasClauses}
+use Rattle.aig_fault.specs.declared.fault.Fault.{Fault}
+use Rattle.aig_commands.specs.Reaching.{IsModelRefused, IsSelectedModel}
+use Rattle.aig_commands.specs.Unrolling.{IsUnrolledFor, NotUnrolledAs}
+
+-- the request for a refutation of the clauses of the model alone, over one frame
+abbrev pub over_one_frame : Invariant → Reach
+over_one_frame request = record {
+  frames = 1;
+  bad = request.bad;
+  max_var = request.max_var;
+  wrote = Refutation;
+}
+
+-- The model is the file of a circuit that has clauses over one frame, and this is the circuit, with the selected bad
+-- state alone.
+abbrev pub IsInvariantModel : Invariant → (model : List ℕ) → Circuit → Type 0
+IsInvariantModel request = IsSelectedModel (over_one_frame request)
+
+-- The model has no such clauses, for this reason.
+abbrev pub NotInvariantModel : Invariant → Fault → List ℕ → Type 0
+NotInvariantModel request = IsModelRefused (over_one_frame request)
+
+-- The bytes are an invariant of the circuit with the selected bad state, and this is the circuit in which it is to be
+-- shown. It has clauses over one frame.
+pub record IsStrengthened (selected : Circuit) (invariant : List ℕ) (strengthened : Circuit) : Type 0 where
+  pub cubes : List Cube
+  pub unrolled : Circuit
+  pub has_cubes : HasCubes selected invariant cubes
+  pub strengthened_is : strengthened ≡ with_invariant cubes selected
+  pub is_unrolled : IsUnrolledFor None 1 strengthened unrolled
+  pub has_clauses : HasClauses unrolled
+
+-- The bytes are no invariant of the circuit with the selected bad state, for this reason; or they are one, and the
+-- circuit in which it is to be shown has no clauses.
+abbrev pub NotStrengthened : Circuit → Fault → List ℕ → Type 0
+NotStrengthened selected fault invariant =
+    IsInvariantRefused selected fault invariant
+    ⊎ ((cubes : List Cube) × HasCubes selected invariant cubes
+    × NotUnrolledAs (Clauses None) 1 (with_invariant cubes selected) fault)
+
+-- The text that is written for these bytes of an invariant: the clauses in which it is to be shown.
+pub record IsInvariantText (selected : Circuit) (invariant text : List ℕ) : Type 0 where
+  pub strengthened : Circuit
+  pub is_strengthened : IsStrengthened selected invariant strengthened
+  pub written_as : text ≡ cnf_text is_strengthened.unrolled
+
+-- the line that says that no bad state is ever reached
+abbrev pub never_text : List ℕ
+never_text = codes "never\n"
+
+-- The text that is written for a refutation of the clauses of this circuit: of each circuit of which an invariant is to
+-- be shown in this one, nothing is ever confirmed. Which bytes the refutation has makes no difference.
+pub record IsNeverText (request : Invariant) (strengthened : Circuit) (text : List ℕ) : Type 0 where
+  pub never : (c : Circuit) (invariant : List ℕ) (cubes : List Cube) → IsWellFormed c → HasSelected request.bad c
+      → HasCubes (selected_of request.bad c) invariant cubes
+      → strengthened ≡ with_invariant cubes (selected_of request.bad c) → IsNever c request.bad
+  pub written_as : text ≡ never_text

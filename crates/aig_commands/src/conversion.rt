@@ -1,0 +1,135 @@
+//! `aigtoaig`: conversion of AIGER files.
+ghost use Rattle.std.specs.Prelude.{◌≡◌, ◌≢◌, ◌<◌, [], true, IfErr, IfOk, length, OnOk};
+ghost use Rattle.aig_fault.specs.declared.fault.Place.TheVariants.{Whole};
+ghost use Rattle.aig_fault.specs.declared.kind.Kind.TheVariants.{HasBad};
+ghost use Rattle.aig_fault.specs.Stopping.{fault_at, StopsFor};
+ghost use Rattle.aig_io.specs.Runs.{Read, Transferred};
+ghost use Rattle.aig_map.specs.Undone.{IsMapFault};
+ghost use Rattle.aig_command.specs.Answer.{IsKeptAlone};
+ghost use Rattle.aig_commands.specs.Conversion.{CanTurn, IsConversionRefused, IsConversionText};
+ghost use Rattle.aig_commands.specs.Conversion.{IsSource, IsTextAs};
+ghost use Rattle.aig_commands.specs.Conversion.{stripped_if_asked, turned_if_asked};
+ghost use Rattle.aig_commands.specs.Jobs.{text_of};
+ghost use Rattle.aig_commands.specs.Outcome.{Says};
+ghost use Rattle.aig_commands.specs.Reading.{AtItsEnd, ReadSays};
+
+use crate::answer::Answer;
+use crate::file::read_circuit;
+use crate::outputs_as_bad::{symbols_if_free, with_outputs_as_bad};
+use aig_command::ToAig;
+use aig_convert::{into_binary, into_binary_with_map, undo};
+use aig_core::{Checked, Circuit, Keep, OutOfMemory, Sink, Source, Steps, Symbols};
+use aig_fault::Stopped;
+use std::alloc::Global;
+
+/// What is wanted of the check later: a binary image of the circuit that is read needs an order of
+/// its gates. ASCII needs none, and a circuit that is undone comes from gates in order.
+fn what_to_keep(request: &ToAig) -> Keep {
+    if request.ascii || request.undo_map {
+        Keep::Circuit
+    } else {
+        Keep::Order
+    }
+}
+
+/// The circuit without its symbols and its comment, where the request asks for that.
+fn strip_if_asked(alloc: Global, request: &ToAig, circuit: Checked) -> Checked
+    ensures { result ≡ stripped_if_asked request.now circuit }
+{
+    if !request.strip {
+        return circuit;
+    }
+    let found = circuit.into_circuit();
+    Checked::from_well_formed(Circuit {
+        symbols: Symbols::new(alloc),
+        comment: None,
+        ..found
+    })
+}
+
+/// The circuit with its outputs as bad states, where the request asks for that.
+fn turn_if_asked(alloc: Global, request: &ToAig, circuit: Checked) -> Result<Checked, Stopped>
+    ensures can { OnOk result (CanTurn request.now circuit) }
+    ensures ok { IfOk result (λ turned. turned ≡ turned_if_asked request.now circuit) }
+    ensures err { IfErr result (StopsFor (λ fault. (fault ≡ fault_at HasBad Whole 0)
+        × (request.now.outputs_as_bad ≡ true) × (circuit.bad ≢ []))) }
+{
+    if !request.outputs_as_bad {
+        return Ok(circuit);
+    }
+    match symbols_if_free(alloc, circuit.circuit()) {
+        Ok(symbols) => Ok(with_outputs_as_bad(circuit, symbols)),
+        Err(fault) => {
+            drop(circuit);
+            Err(fault)
+        }
+    }
+}
+
+/// The circuit whose mapped image was read, where the request asks to undo the map.
+fn undo_if_asked(alloc: Global, request: &ToAig, found: Checked) -> Result<Checked, Stopped>
+    ensures ok { IfOk result (λ source. IsSource request.now.undo_map found source) }
+    ensures err { IfErr result (λ stopped. (request.now.undo_map ≡ true)
+        × StopsFor (IsMapFault found) stopped) }
+{
+    if !request.undo_map {
+        return Ok(found);
+    }
+    undo(alloc, found)
+}
+
+/// The circuit in the form that the request asks for.
+fn convert_as_asked(alloc: Global, request: &ToAig, circuit: Checked) -> Result<Answer, OutOfMemory>
+    ensures text { IfOk result (λ answer.
+        IsTextAs request.now.ascii request.now.keep_map circuit (text_of answer)) }
+    ensures some { IfOk result (λ answer. 0 < length (text_of answer)) }
+{
+    if request.ascii {
+        return Ok(Answer::Ascii(circuit));
+    }
+    let steps = &mut Steps::new();
+    if request.keep_map {
+        return Ok(Answer::Mapped(into_binary_with_map(alloc, circuit, steps)?));
+    }
+    Ok(Answer::Binary(into_binary(alloc, circuit, steps)?))
+}
+
+/// Reads the source of a conversion to its end, and makes of it what is to be written. It fails if
+/// the source or an allocation fails, if the bytes are no file of a circuit, or if a map is to be
+/// undone and cannot be.
+pub(crate) fn read_conversion<R: Source>(
+    alloc: Global,
+    request: &ToAig,
+    source: &mut R,
+) -> Result<Answer, Stopped>
+    requires kept_alone { IsKeptAlone request.now }
+    ensures read { Read (ReadSays (λ answer bytes.
+        IsConversionText request.now bytes (text_of answer))
+        (AtItsEnd (IsConversionRefused request.now)) result)
+        (R.history source.old) (R.history source.new) }
+    ensures some { IfOk result (λ answer. 0 < length (text_of answer)) }
+{
+    let found = read_circuit(alloc, source, request.max_var, what_to_keep(request))?;
+    let source_circuit = undo_if_asked(alloc, request, found)?;
+    let turned_circuit = turn_if_asked(alloc, request, source_circuit)?;
+    let circuit = strip_if_asked(alloc, request, turned_circuit);
+    Ok(convert_as_asked(alloc, request, circuit)?)
+}
+
+/// Reads the source to its end, and writes what the request asks for. Nothing is sent before the
+/// whole source was read and found right. It fails if a device or an allocation fails, if the bytes
+/// are no file of a circuit, or if a map is to be undone and cannot be. Only a sink that fails may
+/// have taken a beginning of what is written.
+pub fn run_toaig<R: Source, W: Sink>(
+    alloc: Global,
+    request: &ToAig,
+    source: &mut R,
+    sink: &mut W,
+) -> Result<(), Stopped>
+    requires kept_alone { IsKeptAlone request.now }
+    ensures transferred { Transferred (Says (IsConversionText request.now)
+        (IsConversionRefused request.now) result)
+        (R.history source.old) (R.history source.new) (W.history sink.old) (W.history sink.new) }
+{
+    read_conversion(alloc, request, source)?.write(sink)
+}

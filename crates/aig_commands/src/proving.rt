@@ -1,0 +1,89 @@
+//! `aigunroll --invariant`: an invariant, and a solver's proof that no bad state is ever reached.
+ghost use Rattle.std.specs.Prelude.{◌<◌, IfOk, length};
+ghost use Rattle.aig_io.specs.Runs.{Read};
+ghost use Rattle.aig_commands.specs.Proving.{IsInvariantModel, IsInvariantText, NotInvariantModel};
+ghost use Rattle.aig_commands.specs.Proving.{IsNeverText, IsStrengthened, NotStrengthened};
+ghost use Rattle.aig_commands.specs.Proving.{never_text};
+ghost use Rattle.aig_commands.specs.Jobs.{text_of};
+ghost use Rattle.aig_commands.specs.Reading.{AtItsEnd, ReadSays};
+ghost use Rattle.aig_commands.specs.Refuting.{CanUnroll, IsRefutationRefused};
+
+use crate::answer::Answer;
+use crate::file::read_circuit;
+use crate::reaching::selected_with_clauses;
+use crate::refuting::read_refutation;
+use crate::unrolling::unroll_as;
+use aig_command::{Invariant, UnrolledForm};
+use aig_core::{Checked, Keep, Source};
+use aig_fault::Stopped;
+use aig_invariant::with_invariant;
+use std::alloc::Global;
+
+/// Reads the model to its end, as a file of either kind, and takes the selected bad state alone. It
+/// fails where its own clauses over one frame could not be written, if an allocation fails, or if
+/// the source does. The invariant is not needed for that.
+pub(crate) fn read_proving_model<R: Source>(
+    alloc: Global,
+    request: &Invariant,
+    model: &mut R,
+) -> Result<Checked, Stopped>
+    ensures { Read (ReadSays (λ selected bytes. IsInvariantModel request.now bytes selected)
+        (AtItsEnd (NotInvariantModel request.now)) result) (R.history model.old)
+        (R.history model.new) }
+{
+    let found = read_circuit(alloc, model, request.max_var, Keep::Order)?;
+    selected_with_clauses(alloc, found, request.bad, 1)
+}
+
+/// Reads an invariant to its end, of the circuit with the selected bad state, and makes the circuit
+/// in which it is to be shown. It fails where that has no clauses over one frame, if an allocation
+/// fails, or if the source does.
+pub(crate) fn read_strengthened<R: Source>(
+    alloc: Global,
+    selected: Checked,
+    source: &mut R,
+) -> Result<Checked, Stopped>
+    ensures read { Read (ReadSays (λ strengthened bytes. IsStrengthened selected bytes strengthened)
+        (AtItsEnd (NotStrengthened selected)) result) (R.history source.old)
+        (R.history source.new) }
+    ensures can_unroll { IfOk result (λ strengthened. CanUnroll strengthened 1) }
+{
+    let strengthened = with_invariant(alloc, selected, source)?;
+    selected_with_clauses(alloc, strengthened, None, 1)
+}
+
+/// Reads an invariant to its end, of the circuit with the selected bad state, and makes the clauses
+/// in which it is to be shown.
+pub(crate) fn read_clauses<R: Source>(
+    alloc: Global,
+    selected: Checked,
+    source: &mut R,
+) -> Result<Answer, Stopped>
+    ensures read { Read (ReadSays (λ answer bytes. IsInvariantText selected bytes (text_of answer))
+        (AtItsEnd (NotStrengthened selected)) result) (R.history source.old)
+        (R.history source.new) }
+    ensures some { IfOk result (λ answer. 0 < length (text_of answer)) }
+{
+    let form = UnrolledForm::Clauses { bad: None };
+    let strengthened = with_invariant(alloc, selected, source)?;
+    let circuit = unroll_as(alloc, form, 1, strengthened)?;
+    Ok(Answer::Unrolled(form, circuit))
+}
+
+/// Reads a refutation of the clauses of this circuit, in which an invariant is to be shown: by it no
+/// run ever reaches a bad state.
+pub(crate) fn read_never<R: Source>(
+    alloc: Global,
+    _request: &Invariant,
+    strengthened: Checked,
+    source: &mut R,
+) -> Result<(), Stopped>
+    requires can_unroll { CanUnroll strengthened 1 }
+    ensures { Read (ReadSays (λ _ _. IsNeverText _request.now strengthened never_text)
+        IsRefutationRefused result) (R.history source.old) (R.history source.new) }
+{
+    let _circuit = strengthened.circuit(); // for the proof
+    let checked = read_refutation(alloc, &strengthened, 1, source);
+    drop(strengthened); // for the proof
+    checked
+}

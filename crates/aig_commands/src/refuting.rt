@@ -1,0 +1,64 @@
+//! A solver's proof that the clauses of a circuit cannot be satisfied.
+ghost use Rattle.std.specs.Prelude.{◌≡◌, ◌<◌, IfErr, IfOk, length};
+ghost use Rattle.aig_fault.specs.declared.stopped.Stopped.TheVariants.{OutOfMemory};
+ghost use Rattle.aig_io.specs.Runs.{Read};
+ghost use Rattle.aig_unroll.specs.Unrolled.{IsUnrolled};
+ghost use Rattle.aig_commands.specs.Jobs.{text_of};
+ghost use Rattle.aig_commands.specs.Reading.{ReadSays};
+ghost use Rattle.aig_commands.specs.Refuting.{CanUnroll, IsNoneText, IsRefutationRefused};
+ghost use Rattle.aig_commands.specs.Refuting.{IsUnsatisfiable};
+
+use crate::answer::Answer;
+use aig_command::Reach;
+use aig_core::{Checked, Ordered, Source};
+use aig_fault::Stopped;
+use aig_refute::check_refutation;
+use aig_unroll::unroll;
+use std::alloc::Global;
+
+/// The unrolled circuit, whose clauses a refutation is of.
+fn unrolled_of(alloc: Global, selected: &Checked, frames: u32) -> Result<Ordered, Stopped>
+    requires { CanUnroll selected.now frames }
+    ensures ok { IfOk result (λ d. IsUnrolled selected.now frames d) }
+    ensures err { IfErr result (λ stopped. stopped ≡ OutOfMemory) }
+{
+    match unroll(alloc, selected, frames) {
+        Ok(unrolled) => Ok(unrolled),
+        Err(_) => Err(Stopped::OutOfMemory),
+    }
+}
+
+/// Reads a solver's refutation of the clauses of this circuit over so many frames, and checks it.
+pub(crate) fn read_refutation<R: Source>(
+    alloc: Global,
+    selected: &Checked,
+    frames: u32,
+    source: &mut R,
+) -> Result<(), Stopped>
+    requires can_unroll { CanUnroll selected.now frames }
+    ensures { Read (ReadSays (λ _ _. IsUnsatisfiable selected.now frames) IsRefutationRefused
+        result)
+        (R.history source.old) (R.history source.new) }
+{
+    let unrolled = unrolled_of(alloc, selected, frames)?;
+    let checked = check_refutation(alloc, unrolled.as_checked().circuit(), source);
+    drop(unrolled); // for the proof
+    checked
+}
+
+/// Reads a solver's refutation of the clauses of this circuit, by which no run of so many steps
+/// reaches a bad state.
+pub(crate) fn read_none_within<R: Source>(
+    alloc: Global,
+    request: &Reach,
+    selected: &Checked,
+    source: &mut R,
+) -> Result<Answer, Stopped>
+    requires can_unroll { CanUnroll selected.now request.now.frames }
+    ensures read { Read (ReadSays (λ answer _. IsNoneText request.now selected.now (text_of answer))
+        IsRefutationRefused result) (R.history source.old) (R.history source.new) }
+    ensures some { IfOk result (λ answer. 0 < length (text_of answer)) }
+{
+    read_refutation(alloc, selected, request.frames, source)?;
+    Ok(Answer::NoneWithin(request.frames))
+}

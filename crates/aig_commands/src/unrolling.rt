@@ -1,0 +1,105 @@
+//! `aigunroll`: copies of a circuit in time, as one circuit or as clauses.
+ghost use Rattle.std.specs.Prelude.{◌≡◌, ◌<◌, ◌≤◌, IfErr, IfOk, length, OnOk};
+ghost use Rattle.aig_fault.specs.Stopping.{StopsFor};
+ghost use Rattle.aig_io.specs.Runs.{Read, Transferred};
+ghost use Rattle.aig_command.specs.Answer.{HasFrames};
+ghost use Rattle.aig_replay.specs.Alone.{HasSelected, NotSelected, selected_of};
+ghost use Rattle.aig_commands.specs.Jobs.{text_of};
+ghost use Rattle.aig_commands.specs.Outcome.{Says};
+ghost use Rattle.aig_commands.specs.Reading.{AtItsEnd, ReadSays};
+ghost use Rattle.aig_commands.specs.Unrolling.{bad_of, IsUnrolledFor, IsUnrollingRefused};
+ghost use Rattle.aig_commands.specs.Unrolling.{IsUnrollingText, IsWritable, NotUnrolledAs};
+ghost use Rattle.aig_commands.specs.Unrolling.{NotWritable};
+
+use crate::answer::Answer;
+use crate::file::read_circuit;
+use aig_command::{Unroll, UnrolledForm};
+use aig_core::{Checked, Keep, Sink, Source};
+use aig_fault::Stopped;
+use aig_replay::with_selected_bad;
+use aig_unroll::Unrolling;
+use std::alloc::Global;
+
+/// The circuit with the bad state alone that its clauses are to speak of, if one is selected.
+fn selected_of(alloc: Global, form: UnrolledForm, found: Checked) -> Result<Checked, Stopped>
+    ensures ok { IfOk result (λ selected. selected ≡ selected_of (bad_of form) found) }
+    ensures there { OnOk result (HasSelected (bad_of form) found) }
+    ensures err { IfErr result (NotSelected (bad_of form) found) }
+{
+    match form {
+        UnrolledForm::Clauses { bad } => with_selected_bad(alloc, found, bad),
+        UnrolledForm::Binary | UnrolledForm::Ascii => Ok(found),
+    }
+}
+
+/// Whether an unrolled circuit can be written as it is asked for.
+fn check_form(form: UnrolledForm, circuit: &Unrolling) -> Result<(), Stopped>
+    ensures ok { OnOk result (IsWritable form circuit.now) }
+    ensures err { IfErr result (NotWritable form circuit.now) }
+{
+    match form {
+        UnrolledForm::Clauses { bad: _ } => circuit.check_clauses(),
+        UnrolledForm::Binary | UnrolledForm::Ascii => Ok(()),
+    }
+}
+
+/// The circuit unrolled over so many frames, ready to be written as it is asked for.
+pub(crate) fn unroll_as(
+    alloc: Global,
+    form: UnrolledForm,
+    frames: u32,
+    found: Checked,
+) -> Result<Unrolling, Stopped>
+    requires { (1 ≤ frames) × (frames ≤ 1000000) }
+    ensures ok { IfOk result (λ d. IsUnrolledFor (bad_of form) frames found d × IsWritable form d) }
+    ensures err { IfErr result (StopsFor (NotUnrolledAs form frames found)) }
+{
+    let selected = selected_of(alloc, form, found)?;
+    let circuit = Unrolling::new(alloc, selected, frames)?;
+    match check_form(form, &circuit) {
+        Ok(()) => Ok(circuit),
+        Err(fault) => {
+            drop(circuit); // for the proof
+            Err(fault)
+        }
+    }
+}
+
+/// Reads a source to its end, and unrolls its circuit as the request asks. It fails if the source
+/// or an allocation fails, if the bytes are no file of a circuit, if that has not the selected bad
+/// state or cannot be unrolled, or if no clauses can be made of it.
+pub(crate) fn read_unrolling<R: Source>(
+    alloc: Global,
+    request: &Unroll,
+    source: &mut R,
+) -> Result<Answer, Stopped>
+    requires frames { HasFrames request.now }
+    ensures read { Read (ReadSays (λ answer bytes.
+        IsUnrollingText request.now bytes (text_of answer))
+        (AtItsEnd (IsUnrollingRefused request.now)) result)
+        (R.history source.old) (R.history source.new) }
+    ensures some { IfOk result (λ answer. 0 < length (text_of answer)) }
+{
+    let found = read_circuit(alloc, source, request.max_var, Keep::Order)?;
+    let circuit = unroll_as(alloc, request.form, request.frames, found)?;
+    Ok(Answer::Unrolled(request.form, circuit))
+}
+
+/// Reads the source to its end, and writes the circuit unrolled as the request asks. Nothing is
+/// sent before it is known that only the sink can fail. It fails if a device or an allocation
+/// fails, if the bytes are no file of a circuit, if that has not the selected bad state or cannot
+/// be unrolled, or if no clauses can be made of it. Only a sink that fails may have taken a
+/// beginning of what is written.
+pub fn run_unroll<R: Source, W: Sink>(
+    alloc: Global,
+    request: &Unroll,
+    source: &mut R,
+    sink: &mut W,
+) -> Result<(), Stopped>
+    requires frames { HasFrames request.now }
+    ensures transferred { Transferred (Says (IsUnrollingText request.now)
+        (IsUnrollingRefused request.now) result)
+        (R.history source.old) (R.history source.new) (W.history sink.old) (W.history sink.new) }
+{
+    read_unrolling(alloc, request, source)?.write(sink)
+}

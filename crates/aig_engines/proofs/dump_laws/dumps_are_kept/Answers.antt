@@ -1,5 +1,0 @@
-use Rattle.aig_engines.proofs.Dumps.{dumps_are_kept}
-use Rattle.aig_engines.proofs.dump_laws.dumps_are_kept.Goals as goal
-
-pub returns : goal.returns
-returns c = dumps_are_kept

@@ -1,5 +1,0 @@
-use Rattle.aig_engines.proofs.Dumps.{dumps_tell_traces}
-use Rattle.aig_engines.proofs.dump_laws.dumps_tell_traces.Goals as goal
-
-pub returns : goal.returns
-returns c = dumps_tell_traces

@@ -1,5 +1,0 @@
-use Rattle.aig_engines.proofs.WitnessDumps.{verdicts_have_dumps}
-use Rattle.aig_engines.proofs.dump_laws.verdicts_have_dumps.Goals as goal
-
-pub returns : goal.returns
-returns c = verdicts_have_dumps

@@ -1,5 +1,0 @@
-use Rattle.aig_engines.proofs.WitnessDumps.{one_witness_dump}
-use Rattle.aig_engines.proofs.dump_laws.witness_dumps_are_unambiguous.Goals as goal
-
-pub returns : goal.returns
-returns c = one_witness_dump

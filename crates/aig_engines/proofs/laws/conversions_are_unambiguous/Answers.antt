@@ -1,5 +1,0 @@
-use Rattle.aig_engines.proofs.Trips.{one_conversion}
-use Rattle.aig_engines.proofs.laws.conversions_are_unambiguous.Goals as goal
-
-pub returns : goal.returns
-returns c = one_conversion

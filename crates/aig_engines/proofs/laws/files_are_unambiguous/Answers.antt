@@ -1,5 +1,0 @@
-use Rattle.aig_binary.proofs.Files.{one_circuit}
-use Rattle.aig_engines.proofs.laws.files_are_unambiguous.Goals as goal
-
-pub returns : goal.returns
-returns c = one_circuit

@@ -1,5 +1,0 @@
-use Rattle.aig_engines.proofs.TripsExist.{there_and_back}
-use Rattle.aig_engines.proofs.laws.files_convert_there_and_back.Goals as goal
-
-pub returns : goal.returns
-returns c = there_and_back

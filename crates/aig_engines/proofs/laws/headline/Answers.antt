@@ -1,7 +1,0 @@
-use Rattle.std.proofs.Common.{rules}
-use Rattle.aig_engines.proofs.Traces.{traces_are_kept}
-use Rattle.aig_engines.proofs.Trips.{through_ascii, through_binary}
-use Rattle.aig_engines.proofs.laws.headline.Goals as goal
-
-pub returns : goal.returns
-returns c = search (rules, through_binary, through_ascii, traces_are_kept)

@@ -1,5 +1,0 @@
-use Rattle.aig_engines.proofs.Provings.{invariant_texts_are_unambiguous}
-use Rattle.aig_engines.proofs.laws.invariant_texts_are_unambiguous.Goals as goal
-
-pub returns : goal.returns
-returns c = invariant_texts_are_unambiguous

@@ -1,5 +1,0 @@
-use Rattle.aig_engines.proofs.Reachings.{reach_texts_are_unambiguous}
-use Rattle.aig_engines.proofs.laws.reach_texts_are_unambiguous.Goals as goal
-
-pub returns : goal.returns
-returns c = reach_texts_are_unambiguous

@@ -1,5 +1,0 @@
-use Rattle.aig_engines.proofs.Refutings.{refutations_mean_none}
-use Rattle.aig_engines.proofs.laws.refutations_mean_none.Goals as goal
-
-pub returns : goal.returns
-returns c = refutations_mean_none

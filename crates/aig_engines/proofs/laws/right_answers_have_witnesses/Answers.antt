@@ -1,5 +1,0 @@
-use Rattle.aig_engines.proofs.RightAnswers.{right_answers_have_witnesses}
-use Rattle.aig_engines.proofs.laws.right_answers_have_witnesses.Goals as goal
-
-pub returns : goal.returns
-returns c = right_answers_have_witnesses

@@ -1,5 +1,0 @@
-use Rattle.aig_engines.proofs.Verdicts.{verdicts_are_kept}
-use Rattle.aig_engines.proofs.laws.verdicts_are_kept.Goals as goal
-
-pub returns : goal.returns
-returns c = verdicts_are_kept

@@ -1,4 +1,0 @@
-use Rattle.aig_order.proofs.undoing.confirm_source.Given as goal
-
-abbrev pub ghost-has_image : goal.ghost-has_image
-ghost-has_image g a = g.mapped

@@ -1,4 +1,0 @@
-use Rattle.aig_order.proofs.undoing.source_by_block.Given as goal
-
-abbrev pub ghost-source_by_places : goal.ghost-source_by_places
-ghost-source_by_places g a = g.mapped

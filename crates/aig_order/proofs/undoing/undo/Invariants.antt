@@ -1,4 +1,0 @@
-use Rattle.aig_order.proofs.undoing.undo.Given as goal
-
-abbrev pub ghost-recover : goal.ghost-recover
-ghost-recover a = a.image

@@ -1,5 +1,0 @@
-use Rattle.aig_search.proofs.Claimed.{answers_are_found}
-use Rattle.aig_search.proofs.laws.answers_are_found.Goals as goal
-
-pub returns : goal.returns
-returns c = answers_are_found

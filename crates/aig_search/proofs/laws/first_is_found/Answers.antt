@@ -1,5 +1,0 @@
-use Rattle.aig_search.proofs.FirstFound.{first_is_found}
-use Rattle.aig_search.proofs.laws.first_is_found.Goals as goal
-
-pub returns : goal.returns
-returns c = first_is_found

@@ -1,5 +1,0 @@
-use Rattle.aig_search.proofs.Claimed.{found_runs_are_confirmed}
-use Rattle.aig_search.proofs.laws.found_runs_are_confirmed.Goals as goal
-
-pub returns : goal.returns
-returns c = found_runs_are_confirmed

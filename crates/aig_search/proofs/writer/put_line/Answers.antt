@@ -1,5 +1,0 @@
-use Rattle.aig_io.proofs.Puts.{put_twice}
-use Rattle.aig_search.proofs.writer.put_line.Goals as goal
-
-pub returns : goal.returns
-returns g c = put_twice _ _ _ _ _ c.put.ensures.put c.put-2.ensures.put

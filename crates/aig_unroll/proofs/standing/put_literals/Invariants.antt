@@ -1,8 +1,0 @@
-use Rattle.std.specs.Prelude.{◌≡◌, length, map, take}
-use Rattle.aig_unroll.specs.Parts.Standing.{stood}
-use Rattle.aig_unroll.proofs.standing.put_literals.Given as goal
-
-abbrev pub invariant-loop-i : goal.invariant-loop-i
-invariant-loop-i l =
-    (take l.i l.out ≡ map (stood l.standing l.first_gate) (take l.i l.literals))
-    × (length l.out ≡ length l.literals)

@@ -1,0 +1,1805 @@
+#!/usr/bin/env python3
+"""aiger-check: from Verilog, or from an AIGER model, to an answer for each assertion.
+
+Yosys writes the design as an AIGER model. For each assertion ABC looks for an invariant, and a SAT solver for a run
+that breaks it. What they say is not believed: each answer that is printed is one that the program ``aiger`` gave of
+the model, by a witness, a refutation or an invariant.
+"""
+
+import argparse
+import contextlib
+import enum
+import errno
+import functools
+import hashlib
+import importlib
+import json
+import os
+import re
+import secrets
+import shutil
+import signal
+import subprocess
+import sys
+import tempfile
+import threading
+import time
+from array import array
+from concurrent.futures import Future, ThreadPoolExecutor, wait
+from dataclasses import dataclass
+from pathlib import Path
+from typing import Any, Dict, Iterable, Iterator, List, NamedTuple, Optional, Sequence, Set, Tuple
+
+VERSION = "1.2.0"
+PROGRAM = "aiger-check"
+
+HELP = """\
+Check each assertion of a design: is it kept for ever, for some steps, or broken?
+
+Usage: aiger-check [OPTION].. --top NAME FILE.sv..    Verilog or SystemVerilog
+       aiger-check [OPTION].. MODEL                   an AIGER file
+
+Options:
+      --top <NAME>         The top module of the Verilog files
+  -D <NAME[=VALUE]>        Define a macro; may be given many times
+  -I <DIR>                 Look for included files there; many times too
+      --frames <K>         Search runs of at most K steps (default: 50)
+      --time <SECONDS>     Limit of ABC's pdr for one assertion (default: 30)
+      --limit <SECONDS>    Limit of the SAT solver for one assertion
+                           (default: 300)
+      --jobs <N>           How many assertions side by side (default: one for
+                           each core)
+  -s, --solver <SOLVER>    cadical (the default), kissat, cryptominisat5,
+                           minisat or picosat, or the path of one
+      --keep <DIR>         Keep witnesses, waveforms, the model and what proves
+                           the answers there
+      --json               Write one JSON object in the place of lines
+      --quiet              No progress and no notes
+  -h, --help               Print help
+  -V, --version            Print version
+
+The answer for an assertion is one of these.
+  never             no run, of any length, breaks it
+  none within K     no run of at most K steps breaks it
+  reached at N      a run breaks it at step N, the least, counted from 0; with
+                    --keep its witness follows
+  unknown           neither was shown; the reason follows
+
+The assertions of an AIGER file are its bad states, by symbol, or as b0, b1, ..
+
+What is trusted: that Yosys translates the Verilog as it is meant is not proved.
+All behind it is: each answer is one that aiger, a proved program, gave of the
+model that Yosys wrote. What ABC and the solver say is checked.
+
+With --keep a script NAME.check.sh checks a never or a none within K again, by
+aiger alone.
+
+Of a design with one clock, which rises, a step is one of that clock. Else it is
+one of a global clock, and a note says so. An assertion in a clocked block
+counts in the step after.
+
+minisat and picosat write no refutation that is read here, so with these there
+is no never and no none within K.
+
+The variables AIGER, YOSYS, ABC and SOLVER name other programs than aiger,
+yosys, berkeley-abc and cadical.
+
+Exit status:
+  0  each answer is never or none within K
+  1  an assertion is broken: reached at N
+  2  anything else: an answer is unknown, there is no assertion, a tool or a
+     file is missing, or the command line was refused
+  130, 143  ended by an interrupt, or by a signal to end
+
+Examples:
+  aiger-check --top queue queue.sv arbiter.sv
+  aiger-check --top queue -D DEPTH=8 -I include --keep out queue.sv
+  aiger-check --frames 100 model.aig
+"""
+
+
+class Trouble(Exception):
+    """What ends the run with status 2, in words for the user."""
+
+
+class Stopped(Exception):
+    """The run was asked to end."""
+
+
+@functools.lru_cache(maxsize=None)
+def aigtools() -> Any:
+    """The module of circuits as arrays, which is loaded where it is needed: --help does not want its library."""
+    sys.dont_write_bytecode = True
+    try:
+        return importlib.import_module("aigtools")
+    except (ImportError, OSError) as why:
+        raise Trouble(f"aigtools cannot be loaded: {why}") from why
+
+
+class Answer(enum.Enum):
+    """What is said of an assertion."""
+
+    NEVER = "never"
+    NONE_WITHIN = "none within"
+    REACHED = "reached"
+    UNKNOWN = "unknown"
+
+
+def visible(text: str) -> str:
+    """The text on one line: what cannot be printed is escaped."""
+    return "".join(c if c.isprintable() else c.encode("unicode_escape").decode() for c in text)
+
+
+@dataclass(frozen=True)
+class Assertion:
+    """An assertion, which is a bad state of the model."""
+
+    name: str
+    place: str
+    bad: int
+    cell: str = ""
+
+    def __str__(self) -> str:
+        return f"{visible(self.name)} ({visible(self.place)})"
+
+
+@dataclass
+class Verdict:
+    """An answer, with what shows it: files of the folder in which it was found."""
+
+    answer: Answer
+    steps: Optional[int] = None
+    reason: Optional[str] = None
+    witness: Optional[Path] = None
+    refutation: Optional[Path] = None
+    invariant: Optional[Path] = None
+    kept: Optional[Path] = None
+
+    def __str__(self) -> str:
+        if self.answer is Answer.REACHED:
+            return f"reached at {self.steps}" + (f", {visible(str(self.kept))}" if self.kept else "")
+        if self.answer is Answer.NONE_WITHIN:
+            return f"none within {self.steps}"
+        return self.answer.value + (f": {visible(self.reason)}" if self.reason else "")
+
+
+# ---------------------------------------------------------------- programs
+
+
+@dataclass(frozen=True)
+class Finished:
+    """How a program ended."""
+
+    status: int
+    output: str
+    errors: str
+    seconds: float
+    late: bool
+
+
+class Children:
+    """The programs that run. Each leads a group of processes, which is ended as a whole."""
+
+    def __init__(self) -> None:
+        self.lock = threading.Lock()
+        self.running: Set[subprocess.Popen] = set()
+        self.stopped = False
+
+    def start(self, arguments: Sequence[str], **others: Any) -> subprocess.Popen:
+        with self.lock:
+            if self.stopped:
+                raise Stopped
+            try:
+                child = subprocess.Popen(arguments, start_new_session=True, **others)
+            except OSError as why:
+                raise Trouble(f"cannot run {arguments[0]}: {why.strerror}") from why
+            self.running.add(child)
+            return child
+
+    def end(self, child: subprocess.Popen) -> None:
+        """Ends the group of a program, and waits for it."""
+        with contextlib.suppress(ProcessLookupError, PermissionError):
+            os.killpg(child.pid, signal.SIGKILL)
+        child.wait()
+        with self.lock:
+            self.running.discard(child)
+
+    def stop(self) -> None:
+        """Ends all, and lets none start."""
+        with self.lock:
+            self.stopped = True
+            for child in self.running:
+                with contextlib.suppress(ProcessLookupError, PermissionError):
+                    os.killpg(child.pid, signal.SIGKILL)
+
+    def run(
+        self, arguments: Sequence[str], folder: Path, limit: Optional[float] = None, output: Optional[Path] = None
+    ) -> Finished:
+        """Runs a program in a folder, for so many seconds at most; its standard output may go to a file."""
+        begun = time.monotonic()
+        with contextlib.ExitStack() as stack:
+            sink = stack.enter_context(open(output, "wb")) if output else subprocess.PIPE
+            try:
+                child = self.start(
+                    arguments, cwd=folder, stdin=subprocess.DEVNULL, stdout=sink, stderr=subprocess.PIPE
+                )
+            except Trouble as why:
+                return Finished(127, "", str(why), 0.0, False)
+            late = False
+            try:
+                told, errors = child.communicate(timeout=limit)
+            except subprocess.TimeoutExpired:
+                late, told, errors = True, b"", b""
+            finally:
+                self.end(child)
+                for pipe in (child.stdout, child.stderr):
+                    if pipe:
+                        pipe.close()
+        if self.stopped:
+            raise Stopped
+        words = [(text or b"").decode(errors="replace") for text in (told, errors)]
+        return Finished(child.returncode, *words, time.monotonic() - begun, late)
+
+
+def path_of(*names: str) -> Optional[str]:
+    """The path of the first of these programs that there is."""
+    for name in names:
+        path = shutil.which(name)
+        if path:
+            return os.path.abspath(path)
+    return None
+
+
+# ---------------------------------------------------------------- aiger
+
+
+class Aiger:
+    """The program aiger. What it says alone makes an answer."""
+
+    def __init__(self, program: str, children: Children, limit: float) -> None:
+        self.program, self.children, self.limit = program, children, limit
+
+    def run(self, command: str, *arguments: Any, folder: Path, output: Optional[Path] = None) -> Finished:
+        words = [self.program, command, *map(str, arguments)]
+        return self.children.run(words, folder, self.limit, output)
+
+    def to_binary(self, source: Path, destination: Path) -> Optional[str]:
+        """Writes a model in binary, or tells why not."""
+        told = self.run("aigtoaig", source, destination, folder=destination.parent)
+        if told.status == 0:
+            return None
+        words = told.errors.strip() or f"{self.program} ended with status {told.status}"
+        return words.replace(f"aiger: {source}: ", "")
+
+    def confirmed(self, model: Path, witness: Path) -> Optional[int]:
+        """The step at which a witness reaches its bad state."""
+        told = self.run("aigsim", "--witness", model, witness, folder=witness.parent)
+        match = re.fullmatch(r"confirmed (\d+)\n", told.output)
+        return int(match[1]) if told.status == 0 and match else None
+
+
+# ---------------------------------------------------------------- solvers
+
+
+class Said(enum.Enum):
+    """What a solver says of clauses."""
+
+    SATISFIABLE = 10
+    UNSATISFIABLE = 20
+    NOTHING = 0
+
+
+SOLVERS = ("cadical", "kissat", "cryptominisat5", "minisat", "picosat")
+NO_REFUTATION = ("minisat", "picosat")
+
+
+def solver_kind(program: str) -> Optional[str]:
+    """Which solver a program is, by the last part of its path."""
+    name = os.path.basename(program)
+    return next((kind for kind in SOLVERS if re.fullmatch(rf"{kind}([^a-z0-9].*)?", name)), None)
+
+
+@dataclass(frozen=True)
+class Solver:
+    """A SAT solver."""
+
+    kind: str
+    program: str
+    children: Children
+
+    @property
+    def refutes(self) -> bool:
+        """Whether it writes a refutation that is read here."""
+        return self.kind not in NO_REFUTATION
+
+    def solve(self, clauses: Path, limit: float) -> Tuple[Said, Finished]:
+        """Asks for an answer to clauses: it comes beside them, in .answer, and a refutation in .drat."""
+        answer, proof = clauses.with_suffix(".answer"), clauses.with_suffix(".drat")
+        for path in (answer, proof):
+            discard(path)
+        arguments = {
+            "cadical": ["-q", clauses.name, proof.name],
+            "kissat": ["-q", clauses.name, proof.name],
+            "cryptominisat5": ["--verb", "0", "--bva", "0", "--xor", "0", clauses.name, "proof.frat"],
+            "minisat": ["-verb=0", clauses.name, "result"],
+            "picosat": [clauses.name],
+        }[self.kind]
+        told = self.children.run([self.program, *arguments], clauses.parent, limit, answer)
+        if self.kind == "minisat":
+            answer.write_bytes(minisat_answer(clauses.with_name("result")))
+        if self.kind == "cryptominisat5" and told.status == 20:
+            drat_of_frat(clauses.with_name("proof.frat"), proof)
+        said = next((said for said in Said if said.value == told.status), Said.NOTHING)
+        return (Said.NOTHING if told.late else said), told
+
+
+def discard(path: Path) -> None:
+    """Removes what a program has made there, whatever it is."""
+    if path.is_dir() and not path.is_symlink():
+        shutil.rmtree(path, ignore_errors=True)
+    else:
+        path.unlink(missing_ok=True)
+
+
+def minisat_answer(result: Path) -> bytes:
+    """MiniSat's result in the form of the SAT competitions."""
+    try:
+        lines = result.read_bytes().split(b"\n")
+    except FileNotFoundError:
+        return b""
+    word = {b"SAT": b"SATISFIABLE", b"UNSAT": b"UNSATISFIABLE"}.get(lines[0], b"UNKNOWN")
+    values = [b"v " + line for line in lines[1:2] if line]
+    return b"\n".join([b"s " + word, *values, b""])
+
+
+def drat_of_frat(frat: Path, drat: Path) -> None:
+    """CryptoMiniSat's FRAT in text as DRAT: what it adds and what it deletes, without numbers and hints."""
+    begins = {b"a": b"", b"d": b"d "}
+    with contextlib.suppress(FileNotFoundError), open(frat, "rb") as lines, open(drat, "wb") as file:
+        for line in lines:
+            words = line.split()
+            if len(words) > 2 and words[0] in begins:
+                literals = words[2 : words.index(b"0", 2) + 1] if b"0" in words[2:] else words[2:]
+                file.write(begins[words[0]] + b" ".join(literals) + b"\n")
+
+
+# ---------------------------------------------------------------- the model for ABC
+
+
+class Model:
+    """An AIGER model: its binary file, where inputs are numbered first, then latches, then gates; and its circuit."""
+
+    def __init__(self, path: Path) -> None:
+        self.path = path
+        self.circuit = aigtools().read(path.read_bytes())
+        self.latches = list(self.circuit.latches)
+
+    def cone(self, roots: Iterable[int]) -> bytearray:
+        """A mark for each variable on which these literals depend, over any number of steps."""
+        inputs, words = len(self.circuit.inputs), self.circuit.gates.words
+        before_gates = inputs + len(self.latches)
+        needed, waiting = bytearray(self.circuit.max_var + 1), [root >> 1 for root in roots]
+        while waiting:
+            variable = waiting.pop()
+            if needed[variable]:
+                continue
+            needed[variable] = 1
+            if variable > before_gates:
+                at = 3 * (variable - before_gates)
+                waiting += (words[at - 2] >> 1, words[at - 1] >> 1)
+            elif variable > inputs:
+                waiting.append(self.latches[variable - inputs - 1].next >> 1)
+        return needed
+
+
+class Gates:
+    """AND gates, whose variables are numbered as they are made."""
+
+    def __init__(self, variable: int) -> None:
+        self.variable, self.words = variable, array("I")
+
+    def both(self, left: int, right: int) -> int:
+        if left == right or right == 1:
+            return left
+        if left == 1:
+            return right
+        if left ^ right == 1 or not left or not right:
+            return 0
+        self.words.extend((2 * self.variable, max(left, right), min(left, right)))
+        self.variable += 1
+        return 2 * self.variable - 2
+
+    def either(self, left: int, right: int) -> int:
+        return self.both(left ^ 1, right ^ 1) ^ 1
+
+
+class Column(NamedTuple):
+    """What a latch for ABC is: a latch of the model, perhaps negated, or one that was added and is to have a value."""
+
+    latch: Optional[int]
+    negated: int = 0
+    wanted: int = 0
+
+
+class Part:
+    """A bad state of a model with what it depends on, over any number of steps, and with the constraints."""
+
+    def __init__(self, model: Model, bad: int) -> None:
+        self.model, self.bad, circuit = model, bad, model.circuit
+        self.needed = model.cone([circuit.bad[bad], *circuit.constraints])
+        self.inputs = [at for at, literal in enumerate(circuit.inputs) if self.needed[literal >> 1]]
+        self.latches = [at for at, latch in enumerate(model.latches) if self.needed[latch.literal >> 1]]
+
+    def circuit(self) -> Any:
+        """It as a model of its own."""
+        circuit, now, variable, gates = self.model.circuit, array("I", bytes(4 * len(self.needed))), 1, array("I")
+        literals = [circuit.inputs[at] for at in self.inputs]
+        literals += [self.model.latches[at].literal for at in self.latches]
+        for variable, literal in enumerate(literals, 1):
+            now[literal >> 1] = 2 * variable
+        variable = len(literals)
+        for literal, left, right in circuit.gates:
+            if self.needed[literal >> 1]:
+                variable += 1
+                now[literal >> 1] = 2 * variable
+                gates.extend((2 * variable, now[left >> 1] ^ left & 1, now[right >> 1] ^ right & 1))
+        latches = []
+        for literal, later, reset in (self.model.latches[at] for at in self.latches):
+            here = now[literal >> 1]
+            latches.append((here, now[later >> 1] ^ later & 1, reset if reset < 2 else here))
+        bad, *constraints = (now[it >> 1] ^ it & 1 for it in (circuit.bad[self.bad], *circuit.constraints))
+        return aigtools().Circuit(
+            max_var=variable,
+            inputs=range(2, 2 * len(self.inputs) + 2, 2),
+            latches=latches,
+            bad=[bad],
+            constraints=constraints,
+            gates=aigtools().Entries(aigtools().Gate, gates),
+        )
+
+    def witness(self, state: Dict[int, str], steps: Iterable[str]) -> str:
+        """A witness for the model, by first values of latches, and by the inputs of the part in each step."""
+        resets = (str(latch.reset) if latch.reset < 2 else "0" for latch in self.model.latches)
+        lines = ["1", f"b{self.bad}", "".join(state.get(at, reset) for at, reset in enumerate(resets))]
+        for step in steps:
+            line = ["0"] * len(self.model.circuit.inputs)
+            for at, value in zip(self.inputs, step):
+                line[at] = value
+            lines.append("".join(line))
+        return "\n".join([*lines, ".", ""])
+
+    def widened(self, text: str) -> str:
+        """A witness for the model, by one for the part."""
+        _, _, state, *steps = text.split("\n")
+        return self.witness(dict(zip(self.latches, state)), steps[: steps.index(".")])
+
+
+BEGUN = Column(None, wanted=1)
+FAILED = Column(None, wanted=0)
+
+
+class ForAbc:
+    """A part of a model as a circuit for ABC: with one output, without constraints, and with latches that all start at
+    0.
+
+    A latch that starts at 1 is stored negated. If one is uninitialised, a latch is added that is 1 behind the first
+    step, and this step gives all others what they start at, by an input more where that is open. Constraints are
+    folded into the output, by a latch that is 1 once one of them has failed.
+    """
+
+    def __init__(self, part: Part) -> None:
+        self.part, self.model, self.inputs = part, part.model, part.inputs
+        resets = [part.model.latches[at].reset for at in part.latches]
+        self.open = [at for at, reset in zip(part.latches, resets) if reset > 1]
+        # ABC takes no circuit without latches
+        self.begins = bool(self.open) or not part.latches
+        self.columns = [BEGUN] * self.begins + [FAILED] * bool(part.model.circuit.constraints)
+        self.columns += [Column(at, int(reset == 1 and not self.begins)) for at, reset in zip(part.latches, resets)]
+        self.circuit = self.make(part.needed, part.bad)
+
+    def make(self, needed: bytearray, bad: int) -> Any:
+        circuit = self.model.circuit
+        now = array("I", bytes(4 * len(needed)))
+        for variable, at in enumerate(self.inputs, 1):
+            now[circuit.inputs[at] >> 1] = 2 * variable
+        inputs = len(self.inputs) + len(self.open)
+        for variable, column in enumerate(self.columns, inputs + 1):
+            if column.latch is not None:
+                now[self.model.latches[column.latch].literal >> 1] = 2 * variable ^ column.negated
+        gates = Gates(inputs + len(self.columns) + 1)
+        for literal, left, right in circuit.gates:
+            if needed[literal >> 1]:
+                now[literal >> 1] = gates.both(now[left >> 1] ^ left & 1, now[right >> 1] ^ right & 1)
+        output, latches = self.states(now, gates, circuit.bad[bad], 2 * inputs + 2)
+        return aigtools().Circuit(
+            max_var=gates.variable - 1,
+            inputs=range(2, 2 * inputs + 2, 2),
+            latches=latches,
+            outputs=[output],
+            gates=aigtools().Entries(aigtools().Gate, gates.words),
+        )
+
+    def states(self, now: array, gates: Gates, bad: int, first: int) -> Tuple[int, List[Tuple[int, int, int]]]:
+        """The output and the latches, by the literal that each variable has now."""
+        begun = first if self.begins else 1
+        failed = first + 2 * self.columns.index(FAILED) if FAILED in self.columns else 0
+        held = 1
+        for literal in self.model.circuit.constraints:
+            held = gates.both(held, now[literal >> 1] ^ literal & 1)
+        output = gates.both(now[bad >> 1] ^ bad & 1, gates.both(begun, gates.both(held, failed ^ 1)))
+        latches = []
+        for at, column in enumerate(self.columns):
+            if column is BEGUN:
+                later = 1
+            elif column is FAILED:
+                later = gates.either(failed, gates.both(begun, held ^ 1))
+            else:
+                literal = self.model.latches[column.latch].next
+                later = now[literal >> 1] ^ literal & 1 ^ column.negated
+                if self.begins:
+                    start = gates.both(begun ^ 1, self.start(column.latch))
+                    later = gates.either(gates.both(begun, later), start)
+            latches.append((first + 2 * at, later, 0))
+        return output, latches
+
+    def start(self, latch: int) -> int:
+        """The literal of what a latch starts at."""
+        reset = self.model.latches[latch].reset
+        return reset if reset < 2 else 2 * (len(self.inputs) + self.open.index(latch) + 1)
+
+    def invariant(self, rows: Iterable[str]) -> List[str]:
+        """Rows for the model: those are left out that ask for the first step, or for a constraint that has failed,
+        since then nothing is asked of the model."""
+        made = []
+        for row in rows:
+            line = ["-"] * len(self.model.latches)
+            for value, column in zip(row, self.columns):
+                if column.latch is not None:
+                    line[column.latch] = value if value == "-" else str(int(value) ^ column.negated)
+                elif value not in ("-", str(column.wanted)):
+                    break
+            else:
+                made.append("".join(line))
+        return made
+
+    def witness(self, lines: Sequence[str]) -> Optional[str]:
+        """A witness for the model, by a counterexample of ABC: a line for the first state, and one for each step."""
+        steps, width = lines[1:], len(self.circuit.inputs)
+        if not steps or any(len(step) != width or set(step) - set("01") for step in steps):
+            return None
+        state = dict(zip(self.open, steps[0][len(self.inputs) :]))
+        return self.part.witness(state, steps[1:] if self.begins else steps)
+
+
+class Shown(NamedTuple):
+    """What ABC shows: rows of an invariant, or the text of a witness; or the reason why it shows nothing."""
+
+    rows: Optional[List[str]] = None
+    witness: Optional[str] = None
+    reason: str = ""
+
+
+@dataclass(frozen=True)
+class Abc:
+    """The program ABC."""
+
+    program: str
+    children: Children
+
+    def run(self, command: str, circuit: ForAbc, folder: Path, seconds: float) -> Finished:
+        """Reads the circuit, gives a command, and writes the counterexample if there is one."""
+        (folder / "abc.aig").write_bytes(circuit.circuit.write())
+        for name in ("abc.pla", "abc.cex"):
+            discard(folder / name)
+        commands = f"read_aiger abc.aig; {command} -T {max(1, round(seconds))}; write_cex -a abc.cex"
+        return self.children.run([self.program, "-q", commands], folder, seconds + 1)
+
+    def pdr(self, circuit: ForAbc, folder: Path, seconds: float) -> Shown:
+        """An invariant, or a run of any length."""
+        told = self.run("pdr -d -e -I abc.pla", circuit, folder, seconds)
+        if re.search(r"^Property proved", told.output, re.MULTILINE):
+            rows = read_rows(folder / "abc.pla", len(circuit.columns))
+            return Shown(reason="ABC's invariant cannot be read") if rows is None else Shown(circuit.invariant(rows))
+        if self.is_broken(told):
+            witness = circuit.witness(read_counterexample(folder / "abc.cex"))
+            return Shown(witness=witness, reason="ABC's counterexample cannot be read")
+        if told.late or told.status == 0 and told.seconds >= seconds - 1:
+            return Shown(reason=f"no invariant in {seconds:g} s")
+        return Shown(reason="ABC finds no invariant" if told.status == 0 else "ABC failed")
+
+    def shortest(self, circuit: ForAbc, folder: Path, seconds: float, frames: int) -> Optional[str]:
+        """A witness that is the shortest, of so many steps at most."""
+        told = self.run(f"bmc3 -F {frames + circuit.begins}", circuit, folder, seconds)
+        return circuit.witness(read_counterexample(folder / "abc.cex")) if self.is_broken(told) else None
+
+    def is_broken(self, told: Finished) -> bool:
+        return bool(re.search(r"^Output 0 of miter .* was asserted in frame \d+", told.output, re.MULTILINE))
+
+
+def read_rows(path: Path, width: int) -> Optional[List[str]]:
+    """The rows of an invariant that ABC wrote."""
+    try:
+        lines = path.read_text(errors="replace").splitlines()
+    except OSError:
+        return None
+    rows = [line for line in lines if line[:1] in ("0", "1", "-")]
+    right = all(re.fullmatch(f"[01-]{{{width}}} 1", row) for row in rows)
+    return [row[:width] for row in rows] if right else None
+
+
+def read_counterexample(path: Path) -> List[str]:
+    """The lines of a counterexample that ABC wrote."""
+    try:
+        return path.read_text(errors="replace").partition("#")[0].split("\n")
+    except OSError:
+        return []
+
+
+# ---------------------------------------------------------------- one assertion
+
+
+@dataclass(frozen=True)
+class Limits:
+    """What is asked for: steps of the bounded search, and seconds for an assertion."""
+
+    frames: int
+    time: float
+    limit: float
+
+
+@dataclass(frozen=True)
+class Tools:
+    """The programs that answer, and what they are asked for."""
+
+    aiger: Aiger
+    solver: Optional[Solver]
+    abc: Optional[Abc]
+    limits: Limits
+
+
+def steps_up_to(most: int) -> List[int]:
+    """1, 2, 4, .. and at last the most."""
+    steps = [1]
+    while steps[-1] < most:
+        steps.append(min(2 * steps[-1], most))
+    return steps
+
+
+#: So many steps are searched before ABC is asked, since many bugs are near.
+FEW = 4
+
+
+class Target(NamedTuple):
+    """A bad state of a file, of which something is asked."""
+
+    path: Path
+    bad: int
+
+
+class Search:
+    """Finds the answer for one assertion, in a folder of its own.
+
+    Runs are looked for in what the assertion depends on, which may be far less than the model; but what is answered is
+    shown of the model.
+    """
+
+    def __init__(self, assertion: Assertion, model: Model, tools: Tools, folder: Path, progress: "Progress") -> None:
+        self.assertion, self.tools, self.folder, self.progress = assertion, tools, folder, progress
+        self.model, self.whole = model, Target(model.path, assertion.bad)
+        self.left = tools.limits.limit
+        self.refuted = 0
+        self.reasons: List[str] = []
+        self.notes: List[str] = []
+
+    def verdict(self) -> Verdict:
+        self.folder.mkdir()
+        self.part = Part(self.model, self.assertion.bad)
+        self.smaller = Target(self.folder / "part.aig", 0)
+        self.smaller.path.write_bytes(self.part.circuit().write())
+        steps = steps_up_to(self.tools.limits.frames)
+        few = sum(count <= FEW for count in steps)
+        return (
+            self.without_latches()
+            or self.bounded(steps[:few])
+            or self.by_abc()
+            or self.bounded(steps[few:])
+            or self.none_within()
+            or Verdict(Answer.UNKNOWN, reason=", ".join(self.reasons))
+        )
+
+    def fails(self, reason: str) -> None:
+        """Notes why there is no answer."""
+        if reason not in self.reasons:
+            self.reasons.append(reason)
+
+    def unroll(self, target: Target, *options: Any) -> Finished:
+        return self.tools.aiger.run("aigunroll", "--bad", target.bad, *options, folder=self.folder)
+
+    def ask(self, target: Target, name: str, what: str, *options: Any) -> Said:
+        """What the solver says of the clauses that aiger writes by these options; if nothing, the reason is noted."""
+        solver, limit, clauses = self.tools.solver, self.tools.limits.limit, self.folder / f"{name}.cnf"
+        if self.left <= 0:
+            self.fails(f"no answer for {what} in {limit:g} s")
+            return Said.NOTHING
+        told = self.unroll(target, *options, "--cnf", target.path, clauses)
+        if told.status != 0:
+            self.fails(aiger_failure(told).replace(f"{self.folder}/", ""))
+            return Said.NOTHING
+        said, told = solver.solve(clauses, self.left)
+        self.left -= told.seconds
+        clauses.unlink(missing_ok=True)
+        if said is Said.NOTHING:
+            self.fails(f"no answer for {what} in {limit:g} s" if told.late else f"{solver.kind} failed for {what}")
+        return said
+
+    def is_shown(self, claim: str, name: str, *options: Any) -> bool:
+        """Whether aiger says this of the model by the solver's refutation; if not, the reason is noted."""
+        solver = self.tools.solver
+        if not solver.refutes:
+            self.fails(f"{solver.kind} writes no refutation, as cadical does")
+            return False
+        told = self.unroll(self.whole, *options, "--refutation", self.folder / f"{name}.drat", self.whole.path)
+        if told.status == 0 and told.output == f"{claim}\n":
+            return True
+        late = f"the refutation of {solver.kind} was not checked in {told.seconds:.0f} s"
+        self.fails(late if told.late else f"the refutation of {solver.kind} is not right")
+        return False
+
+    # Runs of a bounded length
+
+    def bounded(self, steps: Sequence[int]) -> Optional[Verdict]:
+        """Looks for a run that breaks the assertion, of at most so many steps, then of more."""
+        for count in steps if self.tools.solver else ():
+            said, witness = self.within(count)
+            if witness:
+                return self.shortest(witness)
+            if said is not Said.UNSATISFIABLE:
+                break
+        return None
+
+    def within(self, count: int) -> Tuple[Said, Optional[Path]]:
+        """What the solver says of runs of at most so many steps, and the witness that follows from its answer."""
+        self.progress.tell(self.assertion, f"{count} steps")
+        name, what = f"part{count}", f"{count} steps"
+        said = self.ask(self.smaller, name, what, "--frames", count)
+        discard(self.folder / f"{name}.drat")
+        if said is Said.UNSATISFIABLE:
+            self.refuted = count
+        if said is not Said.SATISFIABLE:
+            return said, None
+        answer, smaller = self.folder / f"{name}.answer", self.folder / f"{name}.aiw"
+        told = self.unroll(self.smaller, "--frames", count, "--answer", answer, self.smaller.path, smaller)
+        witness = self.written(self.part.widened(smaller.read_text())) if told.status == 0 else None
+        if not witness:
+            self.fails(f"the answer of {self.tools.solver.kind} for {what} is wrong")
+            return Said.NOTHING, None
+        return said, witness
+
+    def written(self, text: Optional[str]) -> Optional[Path]:
+        """The file of a witness, if it is one."""
+        if not text:
+            return None
+        path = self.folder / f"run{secrets.token_hex(4)}.aiw"
+        path.write_text(text)
+        return path if self.step(path) is not None else None
+
+    def step(self, witness: Path) -> Optional[int]:
+        return self.tools.aiger.confirmed(self.model.path, witness)
+
+    def shortest(self, witness: Path) -> Verdict:
+        """The shortest run that breaks the assertion, by a witness of one that does."""
+        step = self.step(witness)
+        self.left = min(self.left, self.tools.limits.time)
+        while self.tools.solver and self.refuted < step:
+            said, shorter = self.within((self.refuted + step) // 2 + 1)
+            if shorter:
+                witness, step = shorter, self.step(shorter)
+            elif said is not Said.UNSATISFIABLE:
+                break
+        if step and not (self.refuted == step and self.is_none_within(step)):
+            self.notes.append(f"{self.assertion}: that no shorter run breaks it is not proved")
+        return Verdict(Answer.REACHED, steps=step, witness=witness)
+
+    def is_none_within(self, count: int) -> bool:
+        """Whether there is no run of at most so many steps: that is shown of the model."""
+        name, options = f"within{count}", ("--frames", count)
+        if self.tools.solver.refutes:
+            if self.ask(self.whole, name, f"{count} steps", *options) is not Said.UNSATISFIABLE:
+                return False
+        return self.is_shown(f"none within {count}", name, *options)
+
+    def none_within(self) -> Optional[Verdict]:
+        count = self.tools.limits.frames
+        if self.refuted == count and self.is_none_within(count):
+            return Verdict(Answer.NONE_WITHIN, steps=count, refutation=self.folder / f"within{count}.drat")
+        return None
+
+    # Runs of any length
+
+    def without_latches(self) -> Optional[Verdict]:
+        """An assertion that depends on no latch never fails if no step breaks it, which needs no invariant."""
+        return self.by_invariant([]) if self.tools.solver and not self.part.latches else None
+
+    def by_abc(self) -> Optional[Verdict]:
+        """What ABC's pdr shows: an invariant, or a run."""
+        abc, limits = self.tools.abc, self.tools.limits
+        if not abc:
+            return None
+        self.progress.tell(self.assertion, "pdr")
+        circuit = ForAbc(self.part)
+        shown = abc.pdr(circuit, self.folder, limits.time)
+        if shown.rows is not None:
+            reasons = len(self.reasons)
+            verdict = self.by_invariant(shown.rows)
+            if not verdict and len(self.reasons) == reasons:
+                self.fails("ABC's invariant is not right")
+            return verdict
+        witness = self.written(shown.witness)
+        if not witness:
+            self.fails("ABC's counterexample is wrong" if shown.witness else shown.reason)
+            return None
+        if not self.tools.solver:
+            shorter = abc.shortest(circuit, self.folder, limits.time, self.step(witness) + 1)
+            witness = self.written(shorter) or witness
+        return self.shortest(witness)
+
+    def by_invariant(self, rows: Sequence[str]) -> Optional[Verdict]:
+        """Whether the invariant, which is not believed, shows that no run breaks the assertion."""
+        if not self.tools.solver:
+            self.fails("there is no SAT solver to prove an invariant")
+            return None
+        invariant = self.folder / "never.pla"
+        invariant.write_text("".join(f"{row} 1\n" for row in rows))
+        options = ("--invariant", invariant)
+        if self.ask(self.whole, "never", "an invariant", *options) is not Said.UNSATISFIABLE:
+            return None
+        if not self.is_shown("never", "never", *options):
+            return None
+        return Verdict(Answer.NEVER, refutation=self.folder / "never.drat", invariant=invariant)
+
+
+def aiger_failure(told: Finished) -> str:
+    """Why aiger gave no answer."""
+    if told.late:
+        return f"aiger gave no answer in {told.seconds:.0f} s"
+    words = told.errors.strip().splitlines()
+    return words[-1] if words else f"aiger ended with status {told.status}"
+
+
+class Progress:
+    """Which assertion is looked at, and how: on standard error, where that is a terminal."""
+
+    def __init__(self, shown: bool) -> None:
+        self.shown, self.lock, self.begun, self.width = shown, threading.Lock(), time.monotonic(), 0
+
+    def tell(self, assertion: Assertion, what: str) -> None:
+        if self.shown:
+            self.put(f"{assertion}: {what}, {time.monotonic() - self.begun:.0f} s")
+
+    def put(self, line: str) -> None:
+        with self.lock:
+            line = line[: shutil.get_terminal_size().columns - 1]
+            sys.stderr.write("\r" + line.ljust(self.width))
+            sys.stderr.flush()
+            self.width = len(line)
+
+    def clear(self) -> None:
+        if self.width:
+            self.put("")
+            self.put("")
+
+
+# ---------------------------------------------------------------- Yosys
+
+
+PLAIN = re.compile(r"[A-Za-z0-9_.+][A-Za-z0-9_.+-]*")
+
+
+class Sources:
+    """The user's files as Yosys sees them: below one folder, by plain names, so that no name needs quotes.
+
+    The folder is that of a descriptor, as the path of a temporary folder may be odd too.
+    """
+
+    def __init__(self, files: Sequence[str], include: Sequence[str], defines: Sequence[str], folder: Path) -> None:
+        self.folder = folder
+        self.descriptor = os.open(folder, os.O_RDONLY | os.O_DIRECTORY)
+        self.alias = f"/proc/self/fd/{self.descriptor}"
+        self.given = list(files)
+        self.folders: Dict[str, str] = {}
+        self.names: Dict[str, str] = {}
+        self.files = [self.plain(at, name) for at, name in enumerate(files)]
+        self.include = [self.link(f"include{at}", name) for at, name in enumerate(include)]
+        if defines:
+            self.files.insert(0, self.define(defines))
+
+    def close(self) -> None:
+        os.close(self.descriptor)
+
+    def define(self, defines: Sequence[str]) -> str:
+        """A file of macros, since a value may have what a command of Yosys cannot."""
+        path = f"{self.alias}/defines.vh"
+        lines = [f"`define {name} {value}\n" for name, _, value in (define.partition("=") for define in defines)]
+        (self.folder / "defines.vh").write_bytes("".join(lines).encode(errors="surrogateescape"))
+        self.names[path] = "-D"
+        return path
+
+    def link(self, name: str, folder: str) -> str:
+        """A plain path of the user's folder."""
+        (self.folder / name).symlink_to(os.path.abspath(folder or "."))
+        self.folders[f"{self.alias}/{name}"] = folder
+        return f"{self.alias}/{name}"
+
+    def plain(self, at: int, name: str) -> str:
+        """A plain path of the user's file, in a folder where those are that it includes."""
+        folder, base = os.path.split(name)
+        place = self.link(f"folder{at}", folder)
+        if PLAIN.fullmatch(base):
+            path = f"{place}/{base}"
+        else:
+            path = f"{self.alias}/file{at}.sv"
+            (self.folder / f"file{at}.sv").symlink_to(os.path.abspath(name))
+        self.names[path] = name
+        return path
+
+    def users_name(self, path: str) -> str:
+        if path in self.names:
+            return self.names[path]
+        for place, folder in self.folders.items():
+            if path.startswith(f"{place}/"):
+                return os.path.join(folder, path[len(place) + 1 :])
+        return path
+
+    def with_users_names(self, text: str) -> str:
+        return re.sub(rf"{re.escape(self.alias)}/[^\s:'`\"]+", lambda match: self.users_name(match[0]), text)
+
+    def order(self, path: str) -> Tuple[int, str]:
+        """Where a file stands among those that were given; others follow."""
+        name = self.users_name(path)
+        return (self.given.index(name) if name in self.given else len(self.given), name)
+
+    def lines(self, path: str) -> List[str]:
+        """The lines of a file, of which Yosys told."""
+        place = self.folder / path[len(self.alias) + 1 :] if path.startswith(f"{self.alias}/") else Path(path)
+        try:
+            return place.read_text(errors="replace").split("\n")
+        except OSError:
+            return []
+
+
+class Yosys:
+    """A Yosys that runs, and is told what to do bit by bit."""
+
+    def __init__(self, program: str, children: Children, sources: Sources) -> None:
+        self.children, self.sources = children, sources
+        self.said: List[str] = []
+        self.child = children.start(
+            [program, "-q", "-s", "-"],
+            stdin=subprocess.PIPE,
+            stdout=subprocess.DEVNULL,
+            stderr=subprocess.PIPE,
+            pass_fds=(sources.descriptor,),
+            # Yosys would take ABC for the path of its own ABC
+            env={name: value for name, value in os.environ.items() if name != "ABC"},
+        )
+
+    def __enter__(self) -> "Yosys":
+        return self
+
+    def __exit__(self, *_: Any) -> None:
+        self.children.end(self.child)
+        for pipe in (self.child.stdin, self.child.stderr):
+            with contextlib.suppress(OSError):
+                pipe.close()
+
+    def do(self, *commands: str) -> List[str]:
+        """Gives commands, and waits until they are done. What Yosys says of them is returned."""
+        mark = f"done-{secrets.token_hex(8)}"
+        text = "\n".join([*commands, f"log -stderr -nolog {mark}", ""])
+        with contextlib.suppress(BrokenPipeError):
+            self.child.stdin.write(text.encode(errors="surrogateescape"))
+            self.child.stdin.flush()
+        said: List[str] = []
+        for line in self.child.stderr:
+            words = line.decode(errors="replace").rstrip("\n")
+            if words == mark:
+                self.said += said
+                return said
+            said.append(words)
+        if self.children.stopped:
+            raise Stopped
+        raise Trouble(visible(self.failure(said)))
+
+    def failure(self, said: Sequence[str]) -> str:
+        """Why Yosys ended."""
+        for line in said:
+            match = re.match(r"(?:(.*?):(\d+): )?ERROR: (.*)", line)
+            if match:
+                place = f"{self.sources.users_name(match[1])}:{match[2]}: " if match[1] else ""
+                return place + self.sources.with_users_names(match[3])
+        self.child.wait()
+        last = f": {said[-1]}" if said else ""
+        return f"Yosys ended with status {self.child.returncode}{last}"
+
+    def warnings(self) -> List[str]:
+        """What Yosys warned of, with the user's names."""
+        kept = (line.partition("Warning: ")[2] for line in self.said if "logic loop" not in line)
+        return [visible(self.sources.with_users_names(line)) for line in kept if line]
+
+    def netlist(self, name: str) -> Dict[str, Any]:
+        """The modules of the design as it is now."""
+        self.do(f"write_json {self.sources.alias}/{name}.json")
+        with open(self.sources.folder / f"{name}.json", encoding="utf-8", errors="replace") as file:
+            return json.load(file)["modules"]
+
+
+def bare(name: str) -> str:
+    """A name of Yosys without the backslash that it has where it could be one of Yosys's own."""
+    return name[1:] if name.startswith("\\") else name
+
+
+def quoted(name: str) -> str:
+    """A name of a netlist as a word of a command."""
+    return name if name[:1] in "\\$" else f"\\{name}"
+
+
+class Property(NamedTuple):
+    """A property of the Verilog: the names on the way to its cell, what it is, and where its name and its text are."""
+
+    path: Tuple[str, ...]
+    kind: str
+    name: str
+    file: str
+    line: int
+    column: int
+
+    @property
+    def cell(self) -> str:
+        """The name of its cell once the design is flat."""
+        return ".".join(self.path)
+
+
+UNNAMED = "aiger_check_unnamed_"
+PROPERTIES = ("$assert", "$assume", "$cover", "$live", "$fair")
+LEFT_OUT = {"$cover": "a cover", "$live": "liveness", "$fair": "fairness"}
+
+
+def properties(modules: Dict[str, Any], top: str, sources: Sources) -> Iterator[Property]:
+    """All properties of a design before it is flattened, instance by instance."""
+    waiting: List[Tuple[str, Tuple[str, ...]]] = [(top, ())]
+    while waiting:
+        module, path = waiting.pop()
+        inside = []
+        for name, cell in modules[module]["cells"].items():
+            kind, here = cell["type"], (*path, bare(name))
+            if kind in PROPERTIES:
+                labelled = not name.startswith((UNNAMED, "$"))
+                shown = ".".join(here if labelled else (*path, kind[1:]))
+                yield Property(here, kind, shown, *place_of(cell, labelled, sources))
+            elif kind in modules:
+                inside.append((kind, here))
+        waiting.extend(reversed(inside))
+
+
+KEYWORD = re.compile(r"\b(assert|assume|cover|restrict)\b")
+
+
+def place_of(cell: Dict[str, Any], labelled: bool, sources: Sources) -> Tuple[str, int, int]:
+    """File, line and column of a property. Without a label Yosys has it begin where the statement before it ends."""
+    source = cell.get("attributes", {}).get("src", "").split("|")[0]
+    match = re.fullmatch(r"(.*):(\d+)\.(\d+)-(\d+)\.(\d+)", source)
+    if not match:
+        return source, 0, 0
+    file, first, column, last = match[1], int(match[2]), int(match[3]), int(match[4])
+    if labelled or first == last:
+        return file, first, column
+    lines = sources.lines(file)[first - 1 : last]
+    for at, line in enumerate(lines):
+        if KEYWORD.search((line if at else line[column - 1 :]).partition("//")[0]):
+            return file, first + at, 0 if at else column
+    return file, last, 0
+
+
+def top_of(modules: Dict[str, Any]) -> str:
+    return next(name for name, module in modules.items() if int(module["attributes"].get("top", "0"), 2))
+
+
+REGISTERS = {"$dff", "$dffe", "$adff", "$adffe", "$aldff", "$aldffe", "$dffsr", "$dffsre", "$sdff", "$sdffe", "$sdffce"}
+ASYNCHRONOUS = re.compile(r"\$(?:adffe?|aldffe?|dffsre?)|\$_(?:DFFE?_[NP][NP][01][NP]?_|ALDFFE?_.*|DFFSRE?_.*)")
+REGISTER_GATE = re.compile(r"\$_(?:DFF|DFFE|SDFF|SDFFE|SDFFCE|ALDFF|ALDFFE|DFFSR|DFFSRE)_([NP]).*")
+LATCH = re.compile(r"\$(?:a?dlatch|dlatchsr|sr)|\$_(?:DLATCH|DLATCHSR|SR)_.*")
+
+
+class Clocks:
+    """By what the registers of a flat design are clocked, and whether its steps can be those of one clock."""
+
+    def __init__(self, module: Dict[str, Any]) -> None:
+        self.module = module
+        self.edges: Set[Tuple[Any, bool]] = set()
+        self.data: Set[Any] = set()
+        self.latches = self.free = self.asynchronous = False
+        for cell in module["cells"].values():
+            self.look_at(cell)
+
+    def look_at(self, cell: Dict[str, Any]) -> None:
+        kind, bits_of, clock_ports = cell["type"], cell["connections"], set()
+        gate = REGISTER_GATE.fullmatch(kind)
+        if kind in REGISTERS:
+            clock_ports = {"CLK"}
+            self.edges.update((bit, cell["parameters"]["CLK_POLARITY"][-1:] == "1") for bit in bits_of["CLK"])
+        elif gate:
+            clock_ports = {"C"}
+            self.edges.update((bit, gate[1] == "P") for bit in bits_of["C"])
+        elif kind.startswith("$mem"):
+            clock_ports = {"WR_CLK", "RD_CLK"}
+            self.look_at_memory(cell)
+        self.free = self.free or kind in ("$ff", "$_FF_")
+        self.latches = self.latches or bool(LATCH.fullmatch(kind))
+        self.asynchronous = self.asynchronous or bool(ASYNCHRONOUS.fullmatch(kind))
+        for port, bits in bits_of.items():
+            if port not in clock_ports and cell.get("port_directions", {}).get(port) != "output":
+                self.data.update(bits)
+
+    def look_at_memory(self, cell: Dict[str, Any]) -> None:
+        for port in ("WR", "RD"):
+            names = (f"{port}_CLK_ENABLE", f"{port}_CLK_POLARITY")
+            enabled, rising = (cell["parameters"].get(name, "")[::-1] for name in names)
+            for bit, is_enabled, rises in zip(cell["connections"].get(f"{port}_CLK", []), enabled, rising):
+                if is_enabled == "1":
+                    self.edges.add((bit, rises == "1"))
+
+    def name(self, bit: Any) -> str:
+        """The shortest name of a bit."""
+        names = []
+        for name, net in self.module["netnames"].items():
+            if bit in net["bits"] and not net.get("hide_name"):
+                names.append(bare(name) if len(net["bits"]) == 1 else f"{bare(name)}[{net['bits'].index(bit)}]")
+        return min(names, key=lambda name: (name.count("."), len(name), name), default="a constant or an inner net")
+
+    def port(self) -> Optional[str]:
+        """The input that is the clock, by itself."""
+        ports = self.module["ports"].items()
+        clocks = [[bit] for bit, _ in self.edges]
+        return next((name for name, port in ports if port["direction"] == "input" and port["bits"] in clocks), None)
+
+    def reason(self) -> Optional[str]:
+        """Why the steps are not those of one clock."""
+        bits = {bit for bit, _ in self.edges}
+        names = ", ".join(sorted({self.name(bit) for bit in bits}))
+        inputs = {bit for port in self.module["ports"].values() if port["direction"] == "input" for bit in port["bits"]}
+        if self.latches:
+            return "there are latches"
+        if self.free:
+            return f"the global clock is used beside {names}" if bits else "the global clock is used"
+        if len(bits) > 1:
+            return f"there are several clocks ({names})"
+        if len(self.edges) > 1:
+            return f"both edges of {names} are used"
+        if not all(rising for _, rising in self.edges):
+            return f"the falling edge of {names} is used"
+        if bits & self.data:
+            return f"the clock {names} is used as data"
+        if bits - inputs:
+            return f"the clock {names} is no input"
+        return None
+
+
+class Front:
+    """Writes a Verilog design as an AIGER model by Yosys, and tells which bad state is which assertion."""
+
+    #: Without -keepdc Yosys might choose first values of uninitialised registers.
+    FLAT = (
+        "setattr -mod -unset keep_hierarchy",
+        "flatten",
+        "opt_expr -keepdc",
+        "opt_clean",
+        "check",
+        "delete -output",
+        "tribuf -logic",
+        "opt -noff -keepdc",
+        "memory_collect",
+        "opt -noff -keepdc -fast",
+    )
+    ONE_CLOCK = ("memory_map -keepdc", "async2sync")
+    GLOBAL_CLOCK = ("memory_map -keepdc", "clk2fflogic", "memory_map -formal")
+    GATES = (
+        "techmap",
+        "opt -noff -keepdc -fast",
+        "dffunmap",
+        "simplemap",
+        "setundef -undriven -anyseq",
+        "opt_clean",
+        "aigmap",
+        "opt_clean",
+    )
+
+    def __init__(self, yosys: Yosys, top: str) -> None:
+        self.yosys, self.top, self.sources = yosys, top, yosys.sources
+        self.notes: List[str] = []
+        self.clock: Optional[str] = None
+        self.replays = False
+
+    def translate(self) -> List[Assertion]:
+        """Writes model.aig into the folder of the sources, and gives its assertions."""
+        yosys, alias = self.yosys, self.sources.alias
+        self.read()
+        self.refuse_conflicts(yosys.do("check"))
+        self.refuse_conflicts(yosys.do(*self.FLAT))
+        flat = yosys.netlist("flat")
+        clocks = Clocks(flat[top_of(flat)])
+        reason = clocks.reason()
+        if reason:
+            self.notes.append(f"{reason}: a step is one of a global clock, by Yosys's clk2fflogic")
+        else:
+            self.clock = clocks.port()
+            if clocks.asynchronous:
+                self.notes.append("asynchronous sets and resets change with the clock alone, by Yosys's async2sync")
+        kinds = {cell["type"] for cell in flat[top_of(flat)]["cells"].values()}
+        self.replays = self.clock is not None and "$initstate" not in kinds
+        yosys.do(*(self.GLOBAL_CLOCK if reason else self.ONE_CLOCK))
+        yosys.do("setundef -undriven -anyseq", "opt -noff -keepdc -fast", f"write_rtlil {alias}/prepared.il")
+        yosys.do(*self.GATES)
+        self.refuse_loops(yosys.do("check"))
+        yosys.do(f"write_aiger -symbols -map {alias}/model.map {alias}/model.aig")
+        return self.assertions()
+
+    def read(self) -> None:
+        """Reads the files, and looks at the properties before they are flattened."""
+        include = [f"-I{folder}" for folder in self.sources.include]
+        self.yosys.do(
+            " ".join(["read_verilog -sv -formal", *include, *self.sources.files]),
+            f"hierarchy -check -top {quoted(self.top)}",
+            "proc",
+            f"rename -enumerate -pattern {UNNAMED}% {' '.join(f't:{kind}' for kind in PROPERTIES)}",
+            # Yosys would merge what is equal
+            "setattr -set keep 1 t:$assert t:$assume",
+        )
+        modules = self.yosys.netlist("read")
+        self.properties = list(properties(modules, top_of(modules), self.sources))
+        for it in self.properties:
+            if it.kind in LEFT_OUT:
+                named = visible(f"{self.top}.{it.name} ({self.place(it)})")
+                self.notes.append(f"{named} is left out: it is {LEFT_OUT[it.kind]}")
+        self.yosys.do("delete t:$cover t:$live t:$fair")
+
+    def refuse_conflicts(self, said: Sequence[str]) -> None:
+        for line in said:
+            match = re.search(r"multiple conflicting drivers for (.*):", line)
+            if match:
+                raise Trouble(f"{visible(match[1].replace('.' + chr(92), '.'))} has several drivers")
+
+    def refuse_loops(self, said: Sequence[str]) -> None:
+        self.refuse_conflicts(said)
+        if any("found logic loop" in line for line in said):
+            wires = sorted({match[1] for match in (re.match(r"\s+wire \\(.*)", line) for line in said) if match})
+            raise Trouble(visible(f"there is a loop of gates without a register: {', '.join(wires) or self.top}"))
+
+    def place(self, property: Property) -> str:
+        return f"{self.sources.users_name(property.file)}:{property.line}"
+
+    def assertions(self) -> List[Assertion]:
+        """The assertions in the order of the source, each with its bad state."""
+        bad = self.bad_states()
+        asked = [it for it in self.properties if it.kind == "$assert"]
+        if sorted(bad) != sorted(it.cell for it in asked):
+            raise Trouble("which bad state is which assertion cannot be told")
+        # a stable sort: instances stay as they stand in the design
+        asked.sort(key=lambda it: (self.sources.order(it.file), it.line, it.column))
+        return [Assertion(f"{self.top}.{it.name}", self.place(it), bad[it.cell], it.cell) for it in asked]
+
+    def bad_states(self) -> Dict[str, int]:
+        """The bad state of each assertion, by the name of its cell: in a second model of the same netlist the value of
+        each is an input by a name of its own, so nothing depends on Yosys's order."""
+        modules = self.yosys.netlist("final")
+        top = top_of(modules)
+        cells = [name for name, cell in modules[top]["cells"].items() if cell["type"] == "$assert"]
+        if not cells:
+            return {}
+        value = f"aiger_check_{secrets.token_hex(4)}_"
+        commands = [f"cd {quoted(top)}"]
+        for at, name in enumerate(cells):
+            commands.append(f"add -input {value}{at} 1")
+            commands += [f"connect -nomap -port {quoted(name)} {port}" for port in (f"A {value}{at}", "EN 1'1")]
+        self.yosys.do(*commands, f"write_aiger -symbols {self.sources.alias}/told.aig")
+        told, model = (aigtools().read((self.sources.folder / name).read_bytes()) for name in ("told.aig", "model.aig"))
+        which = [told_input(told, literal) for literal in told.bad]
+        wanted = {f"{value}{at}".encode(): bare(name) for at, name in enumerate(cells)}
+        if sorted(which) != sorted(wanted) or len(model.bad) != len(cells):
+            raise Trouble("which bad state is which assertion cannot be told")
+        return {wanted[name]: position for position, name in enumerate(which)}
+
+
+def told_input(circuit: Any, literal: int) -> bytes:
+    """The name of the input whose negation a literal is, or nothing."""
+    gates = {gate.literal: {gate.left, gate.right} - {1} for gate in circuit.gates}
+    names = {circuit.inputs[it.position]: it.name for it in circuit.symbols if it.kind == "i"}
+    operands = gates.get(literal, {literal})
+    return names.get(min(operands) ^ 1, b"") if len(operands) == 1 else b""
+
+
+@dataclass(frozen=True)
+class Replay:
+    """Replays a counterexample on the design by Yosys's own simulator, as a check of the way from it to the model.
+
+    Of the global clock and of the first step the simulator knows less than the model, so that an assertion does not
+    fail there says something only where neither is used.
+    """
+
+    program: str
+    children: Children
+    folder: Path
+    top: str
+    clock: Optional[str]
+    is_sure: bool
+
+    def shows(self, assertion: Assertion, witness: Path) -> Optional[bool]:
+        """Whether the assertion fails there, or None where this cannot be replayed."""
+        path = witness.with_name("replay.aiw")
+        path.write_text(re.sub(r"(?m)^$", "0", witness.read_text().rstrip("\n")) + "\n")
+        clock = f"-clock {quoted(self.clock)[1:]}" if self.clock else "-multiclock"
+        place = os.path.relpath(path, self.folder)
+        commands = f"read_rtlil prepared.il; sim -q -r {place} -map model.map {clock}"
+        told = self.children.run([self.program, "-q", "-p", commands], self.folder, 60)
+        fails = f"Warning: Assert {self.top}.{assertion.cell} ("
+        if any(line.startswith(fails) for line in told.errors.splitlines()):
+            return True
+        is_plain = re.fullmatch(r"[\w.\[\]]+", assertion.cell)
+        return False if told.status == 0 and self.is_sure and is_plain else None
+
+
+# ---------------------------------------------------------------- what is given
+
+
+class Usage(Exception):
+    """The command line is refused."""
+
+
+class Parser(argparse.ArgumentParser):
+    def error(self, message: str) -> None:
+        raise Usage(visible(message))
+
+
+def at_least(least: int, most: int = 1000000) -> Any:
+    def number(text: str) -> int:
+        if not re.fullmatch(r"[0-9]{1,9}", text) or not least <= int(text) <= most:
+            raise argparse.ArgumentTypeError(f"not a number from {least} to {most}: {text!r}")
+        return int(text)
+
+    return number
+
+
+def seconds(text: str) -> float:
+    if not re.fullmatch(r"[0-9]{1,9}(\.[0-9]+)?", text) or float(text) <= 0:
+        raise argparse.ArgumentTypeError(f"not a number of seconds: {text!r}")
+    return float(text)
+
+
+def parse_arguments(arguments: Sequence[str]) -> argparse.Namespace:
+    parser = Parser(prog=PROGRAM, add_help=False, allow_abbrev=False)
+    parser.add_argument("--top")
+    parser.add_argument("-D", dest="defines", action="append", default=[], metavar="NAME[=VALUE]")
+    parser.add_argument("-I", dest="include", action="append", default=[], metavar="DIR")
+    parser.add_argument("--frames", type=at_least(1), default=50)
+    parser.add_argument("--time", type=seconds, default=30.0)
+    parser.add_argument("--limit", type=seconds, default=300.0)
+    parser.add_argument("--jobs", type=at_least(1, 1000), default=len(os.sched_getaffinity(0)))
+    parser.add_argument("-s", "--solver")
+    parser.add_argument("--keep")
+    for name in ("--json", "--quiet"):
+        parser.add_argument(name, action="store_true")
+    parser.add_argument("-h", "--help", action="store_true")
+    parser.add_argument("-V", "--version", action="store_true")
+    parser.add_argument("files", nargs="*")
+    # argparse would take what follows -- for options too
+    end = arguments.index("--") if "--" in arguments else len(arguments)
+    given = parser.parse_intermixed_args(arguments[:end])
+    given.files += arguments[end + 1 :]
+    return given
+
+
+SUFFIXES = (".v", ".sv", ".vh", ".svh")
+
+
+def is_verilog(name: str) -> bool:
+    return name.lower().endswith(SUFFIXES)
+
+
+def check_arguments(given: argparse.Namespace) -> argparse.Namespace:
+    """The command line, where it can be meant."""
+    if not given.files:
+        raise Usage("no file is given")
+    if given.keep == "":
+        raise Usage("--keep needs the name of a folder")
+    given.verilog = any(is_verilog(name) for name in given.files)
+    if given.verilog:
+        check_verilog_arguments(given)
+    elif len(given.files) > 1:
+        raise Usage("one AIGER model at a time; Verilog files end in .v, .sv, .vh or .svh")
+    elif given.top is not None or given.defines or given.include:
+        raise Usage("--top, -D and -I are for Verilog files: .v, .sv, .vh or .svh")
+    return given
+
+
+def check_verilog_arguments(given: argparse.Namespace) -> None:
+    if given.top is None:
+        raise Usage("--top NAME is needed with Verilog files")
+    other = next((name for name in given.files if not is_verilog(name)), None)
+    if other is not None:
+        raise Usage(f"not a Verilog file (.v, .sv, .vh or .svh): {visible(other)}")
+    if not re.fullmatch(r"[^\s;\"'#\\$][^\s;\"#]*", given.top):
+        raise Usage(f"not the name of a module: {visible(given.top)}")
+    for define in given.defines:
+        if not re.fullmatch(r"[A-Za-z_][A-Za-z0-9_$]*(=[^\n\r]*)?", define):
+            raise Usage(f"not NAME or NAME=VALUE: -D {visible(define)}")
+    for name in given.files:
+        with open(name, "rb") as file:
+            file.read(1)
+
+
+# ---------------------------------------------------------------- what is kept
+
+
+class Keeper:
+    """Puts what shows the answers into the user's folder, each file at once."""
+
+    def __init__(self, folder: Path, model: Path, aiger: Aiger) -> None:
+        self.folder, self.path, self.aiger = folder, model, aiger
+        self.names: Set[str] = set()
+        folder.mkdir(parents=True, exist_ok=True)
+        self.digest = hashlib.sha256(model.read_bytes()).hexdigest()
+        self.model = f"model-{self.digest[:16]}.aig"
+        self.put(self.model, model.read_bytes())
+
+    def put(self, name: str, data: bytes, mode: int = 0o666) -> Path:
+        """Writes a file beside its place, and renames it into that."""
+        place, fresh = self.folder / name, self.folder / f".{PROGRAM}-{secrets.token_hex(8)}"
+        try:
+            try:
+                with open(os.open(fresh, os.O_WRONLY | os.O_CREAT | os.O_EXCL, mode), "wb") as file:
+                    file.write(data)
+                os.replace(fresh, place)
+            finally:
+                fresh.unlink(missing_ok=True)
+        except OSError as why:
+            raise Trouble(f"{visible(str(place))}: {why.strerror}") from why
+        return place
+
+    def name(self, assertion: Assertion) -> str:
+        """A name for the files of an assertion, which no other has."""
+        base = re.sub(r"[^A-Za-z0-9_.+-]", "_", assertion.name).lstrip(".-")[:100] or "assertion"
+        name, count = base, 1
+        while name.lower() in self.names:
+            count += 1
+            name = f"{base}-{count}"
+        self.names.add(name.lower())
+        return name
+
+    def keep(self, assertion: Assertion, verdict: Verdict) -> None:
+        name = self.name(assertion)
+        if verdict.witness:
+            waves = verdict.witness.with_suffix(".vcd")
+            words = ("--witness", "--vcd", self.path, verdict.witness)
+            told = self.aiger.run("aigsim", *words, folder=waves.parent, output=waves)
+            if told.status != 0:
+                raise Trouble(aiger_failure(told))
+            self.put(f"{name}.vcd", waves.read_bytes())
+            verdict.kept = self.put(f"{name}.aiw", verdict.witness.read_bytes())
+        if verdict.refutation:
+            self.put(f"{name}.drat", verdict.refutation.read_bytes())
+            if verdict.invariant:
+                self.put(f"{name}.pla", verdict.invariant.read_bytes())
+            self.put(f"{name}.check.sh", self.script(name, assertion, verdict).encode(errors="replace"), 0o777)
+
+    def script(self, name: str, assertion: Assertion, verdict: Verdict) -> str:
+        """Checks the answer again, by aiger alone."""
+        how = f"--invariant {name}.pla" if verdict.invariant else f"--frames {verdict.steps}"
+        options = f"{how} --bad {assertion.bad} --refutation {name}.drat"
+        lines = [
+            "#!/bin/sh",
+            f"# {assertion}: {verdict}",
+            "# Ends with 0 exactly if aiger says so again, of the model with this digest.",
+            'CDPATH= cd -- "$(dirname -- "$0")" || exit 2',
+            f'echo "{self.digest}  {self.model}" | sha256sum --check --quiet || exit 1',
+            f'answer=$("${{AIGER:-aiger}}" aigunroll {options} {self.model}) || exit 1',
+            f'[ "$answer" = "{verdict}" ]',
+        ]
+        return "\n".join([*lines, ""])
+
+
+# ---------------------------------------------------------------- the run
+
+
+class Run:
+    """One run of the program, in a temporary folder."""
+
+    def __init__(self, given: argparse.Namespace, folder: Path, children: Children) -> None:
+        self.given, self.folder, self.children = given, folder, children
+        self.progress = Progress(sys.stderr.isatty() and not given.quiet)
+        self.noted: Set[str] = set()
+        self.replay: Optional[Replay] = None
+        self.verdicts: List[Tuple[Assertion, Verdict]] = []
+
+    def note(self, words: str) -> None:
+        if words not in self.noted and not self.given.quiet:
+            self.noted.add(words)
+            self.progress.clear()
+            say(words)
+
+    def status(self) -> int:
+        """Checks all assertions, and gives the status of the program."""
+        # what is blocked here would be in the programs that are started
+        signal.pthread_sigmask(signal.SIG_UNBLOCK, SIGNALS)
+        tools = self.tools()
+        model, assertions = self.of_verilog() if self.given.verilog else self.of_aiger(tools.aiger)
+        self.note_contradiction(model, tools)
+        keeper = Keeper(Path(self.given.keep), model.path, tools.aiger) if self.given.keep is not None else None
+        searches = [
+            Search(assertion, model, tools, self.folder / str(at), self.progress)
+            for at, assertion in enumerate(assertions)
+        ]
+        with ThreadPoolExecutor(self.given.jobs) as pool:
+            try:
+                for search, verdict in zip(searches, pool.map(self.answer, searches)):
+                    self.tell(search, verdict, keeper)
+            except BaseException:
+                self.children.stop()
+                raise
+        show(json.dumps({"assertions": [*self.records()]}) if self.given.json else self.summary())
+        answers = {verdict.answer for _, verdict in self.verdicts}
+        if Answer.REACHED in answers:
+            return 1
+        return 2 if not answers or Answer.UNKNOWN in answers else 0
+
+    def answer(self, search: Search) -> Verdict:
+        """The answer for an assertion; a counterexample is replayed."""
+        verdict = search.verdict()
+        if verdict.witness and self.replay and not self.given.quiet:
+            shown = self.replay.shows(search.assertion, verdict.witness)
+            if shown is not None:
+                words = "fails in Yosys's replay too" if shown else "does not fail in Yosys's replay"
+                search.notes.append(f"{search.assertion} {words}")
+        return verdict
+
+    def tell(self, search: Search, verdict: Verdict, keeper: Optional[Keeper]) -> None:
+        for words in search.notes:
+            self.note(words)
+        if keeper:
+            keeper.keep(search.assertion, verdict)
+        shutil.rmtree(search.folder, ignore_errors=True)
+        self.verdicts.append((search.assertion, verdict))
+        self.progress.clear()
+        if not self.given.json:
+            show(f"{search.assertion}: {verdict}")
+
+    def tools(self) -> Tools:
+        """The programs; what is missing is told."""
+        given = self.given
+        aiger, solver, abc = self.program("AIGER", "aiger"), self.solver(), self.abc()
+        if not aiger:
+            raise Trouble(f"not found: {visible(os.environ.get('AIGER') or 'aiger')}")
+        if not solver and not abc:
+            raise Trouble("neither a SAT solver nor ABC was found")
+        limits = Limits(given.frames, given.time, given.limit)
+        return Tools(Aiger(aiger, self.children, max(given.limit, 60.0)), solver, abc, limits)
+
+    def program(self, variable: str, *names: str) -> Optional[str]:
+        named = os.environ.get(variable)
+        return path_of(*([named] if named else names))
+
+    def solver(self) -> Optional[Solver]:
+        wanted = self.given.solver or os.environ.get("SOLVER") or "cadical"
+        kind = solver_kind(wanted)
+        if not kind:
+            raise Usage(f"not a solver that is known ({', '.join(SOLVERS)}): {visible(wanted)}")
+        program = path_of(wanted)
+        if not program:
+            self.note(f"not found: {visible(wanted)}; without a SAT solver ABC's counterexamples alone are answers")
+            return None
+        if kind in NO_REFUTATION:
+            self.note(f"{kind} writes no refutation, as cadical does: no answer is never, or none within a bound")
+        return Solver(kind, program, self.children)
+
+    def abc(self) -> Optional[Abc]:
+        program = self.program("ABC", "berkeley-abc", "abc")
+        if not program:
+            wanted = os.environ.get("ABC") or "berkeley-abc"
+            self.note(f"not found: {visible(wanted)}; without ABC there is no invariant, and runs are bounded")
+        return Abc(program, self.children) if program else None
+
+    def of_verilog(self) -> Tuple[Model, List[Assertion]]:
+        """The model that Yosys writes."""
+        program = self.program("YOSYS", "yosys")
+        if not program:
+            raise Trouble(f"not found: {visible(os.environ.get('YOSYS') or 'yosys')}")
+        place = self.folder / "verilog"
+        place.mkdir()
+        sources = Sources(self.given.files, self.given.include, self.given.defines, place)
+        try:
+            with Yosys(program, self.children, sources) as yosys:
+                front = Front(yosys, self.given.top)
+                assertions = front.translate()
+        finally:
+            sources.close()
+        for words in (*(f"Yosys: {line}" for line in yosys.warnings()), *front.notes):
+            self.note(words)
+        if not assertions:
+            self.must_say("there is no assertion")
+        self.replay = Replay(program, self.children, place, self.given.top, front.clock, front.replays)
+        return Model(place / "model.aig"), assertions
+
+    def of_aiger(self, aiger: Aiger) -> Tuple[Model, List[Assertion]]:
+        """The model that is given, in binary and without justice and fairness, of which nothing is said here."""
+        name = self.given.files[0]
+        given, path = self.folder / "given", self.folder / "model.aig"
+        with open(name, "rb") as file:
+            given.write_bytes(file.read())
+        failure = aiger.to_binary(given, path)
+        if failure:
+            line, what = re.fullmatch(r"(?:line (\d+): )?(.*)", failure, re.DOTALL).groups()
+            raise Trouble(visible(f"{name}:{line}: {what}" if line else f"{name}: {what}"))
+        circuit = aigtools().read(path.read_bytes())
+        if circuit.justice_sizes or circuit.fairness:
+            self.note(f"{visible(name)}: justice properties and fairness constraints are left out")
+            path.write_bytes(without_justice(circuit).write())
+        if not circuit.bad:
+            hint = "; of its outputs aiger aigtoaig --outputs-as-bad makes some" if circuit.outputs else ""
+            self.must_say(f"{visible(name)}: there is no bad state{hint}")
+        names = {it.position: it.name.decode(errors="surrogateescape") for it in circuit.symbols if it.kind == "b"}
+        return Model(path), [Assertion(names.get(at, f"b{at}"), name, at) for at in range(len(circuit.bad))]
+
+    def must_say(self, words: str) -> None:
+        """What is told even with --quiet, since the status is 2."""
+        say(words)
+
+    def note_contradiction(self, model: Model, tools: Tools) -> None:
+        """Tells if no first step keeps all constraints: then nothing is ever reached."""
+        circuit = model.circuit
+        if not circuit.constraints or not circuit.bad or not tools.solver or self.given.quiet:
+            return
+        parts = {name: getattr(circuit, name) for name in ("max_var", "inputs", "latches", "constraints", "gates")}
+        path, clauses = self.folder / "first.aig", self.folder / "first.cnf"
+        path.write_bytes(aigtools().Circuit(bad=[1], **parts).write())
+        told = tools.aiger.run("aigunroll", "--frames", 1, "--cnf", path, clauses, folder=self.folder)
+        if told.status == 0 and tools.solver.solve(clauses, tools.limits.time)[0] is Said.UNSATISFIABLE:
+            self.note("the assumptions contradict one another in the first step, so no run breaks anything")
+
+    def records(self) -> Iterator[Dict[str, Any]]:
+        for assertion, verdict in self.verdicts:
+            told = {"name": assertion.name, "source": assertion.place, "answer": verdict.answer.value}
+            more = {"steps": verdict.steps, "witness": verdict.kept and str(verdict.kept), "reason": verdict.reason}
+            yield {**told, **{key: value for key, value in more.items() if value is not None}}
+
+    def summary(self) -> str:
+        answers = [verdict.answer for _, verdict in self.verdicts]
+        counts = []
+        for answer in Answer:
+            if answer in answers:
+                bound = f" {self.given.frames}" if answer is Answer.NONE_WITHIN else ""
+                counts.append(f"{answers.count(answer)} {answer.value}{bound}")
+        head = f"{len(answers)} assertion{'' if len(answers) == 1 else 's'}"
+        return f"{head}: {', '.join(counts)}" if counts else head
+
+
+def without_justice(circuit: Any) -> Any:
+    circuit.justice_sizes = circuit.justice_literals = circuit.fairness = ()
+    circuit.symbols = [it for it in circuit.symbols if it.kind not in "jf"]
+    return circuit
+
+
+def say(words: str) -> None:
+    print(f"{PROGRAM}: {words}", file=sys.stderr, flush=True)
+
+
+def show(line: str) -> None:
+    """Writes a line to the standard output; if that fails, nobody has the answers."""
+    try:
+        if not sys.stdout:
+            raise OSError(errno.EBADF, os.strerror(errno.EBADF))
+        print(line, flush=True)
+    except OSError as why:
+        sys.stdout = open(os.devnull, "w")
+        raise Trouble(f"standard output: {why.strerror}") from why
+
+
+SIGNALS = (signal.SIGINT, signal.SIGTERM, signal.SIGHUP)
+
+
+class Ended(BaseException):
+    """A signal asked the run to end."""
+
+    def __init__(self, number: int) -> None:
+        super().__init__(number)
+        self.number = number
+
+
+def end_by(number: int, _: Any) -> None:
+    raise Ended(number)
+
+
+class Asked:
+    """The signal that asked the run to end, if one did. It is only noted, so that it breaks nothing off where it comes."""
+
+    def __init__(self) -> None:
+        self.number: Optional[int] = None
+
+    def note(self, number: int, _: Any) -> None:
+        self.number = self.number or number
+
+
+def awaited(running: Future, asked: Asked) -> int:
+    """Waits bit by bit, and looks in between whether a signal came."""
+    while not wait([running], timeout=0.1).done:
+        if asked.number:
+            raise Ended(asked.number)
+    return running.result()
+
+
+def remove(folder: Path) -> None:
+    """Removes a folder. A program that was killed may still write as it goes, so it is tried again for a while."""
+    for _ in range(100):
+        shutil.rmtree(folder, ignore_errors=True)
+        if not folder.exists():
+            return
+        time.sleep(0.02)
+
+
+def work(given: argparse.Namespace) -> int:
+    """Runs in a thread of its own, so that a signal ends nothing but the wait for it, and leaves nothing."""
+    children, asked = Children(), Asked()
+    signal.pthread_sigmask(signal.SIG_BLOCK, SIGNALS)
+    for number in SIGNALS:
+        if signal.getsignal(number) is end_by:
+            signal.signal(number, asked.note)
+    folder = Path(tempfile.mkdtemp(prefix=f"{PROGRAM}-")).resolve()
+    with ThreadPoolExecutor(1) as alone:
+        try:
+            running = alone.submit(Run(given, folder, children).status)
+            signal.pthread_sigmask(signal.SIG_UNBLOCK, SIGNALS)
+            return awaited(running, asked)
+        finally:
+            children.stop()
+            alone.shutdown()
+            remove(folder)
+            # as the interpreter ends it lets signals end it, whatever the status is to be
+            signal.pthread_sigmask(signal.SIG_BLOCK, SIGNALS)
+
+
+def open_descriptors() -> None:
+    """Opens the null device for what is closed of the first three, so that no other file takes its place."""
+    while True:
+        descriptor = os.open(os.devnull, os.O_RDWR)
+        if descriptor > 2:
+            os.close(descriptor)
+            return
+
+
+def main(arguments: Sequence[str]) -> int:
+    open_descriptors()
+    sys.stderr = sys.stderr or open(os.devnull, "w")
+    try:
+        for number in SIGNALS:
+            # nohup has the last one ignored; a shell that has none of its jobs interrupted is not asked
+            if number != signal.SIGHUP or signal.getsignal(number) is not signal.SIG_IGN:
+                signal.signal(number, end_by)
+        given = parse_arguments(arguments)
+        if given.help or given.version:
+            show(HELP.rstrip("\n") if given.help else f"{PROGRAM} {VERSION}")
+            return 0
+        return work(check_arguments(given))
+    except Usage as why:
+        say(f"{why}\nTry '{PROGRAM} --help'.")
+    except Trouble as why:
+        say(str(why))
+    except Ended as why:
+        return 128 + why.number
+    except OSError as why:
+        say(f"{visible(os.fsdecode(why.filename))}: {why.strerror}" if why.filename else str(why.strerror))
+    except MemoryError:
+        say("out of memory")
+    except Exception as why:  # whatever it is, status 1 would say that an assertion is broken
+        say(f"internal error: {type(why).__name__}: {visible(str(why))}")
+    return 2
+
+
+if __name__ == "__main__":
+    sys.exit(main(sys.argv[1:]))

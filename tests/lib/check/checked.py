@@ -1,0 +1,268 @@
+"""Runs aiger-check in a folder of its own, and judges what it says, leaves and keeps.
+
+What is so of an assertion is its name, its place and the first step in which it fails, or None. An answer may be wanted
+in one of three ways: exact (`never` where it never fails), bounded (`none within K` will do), and safe, where tools lie
+or are missing: then `unknown` will do too, but nothing that is wrong.
+"""
+import dataclasses
+import itertools
+import json
+import os
+import re
+import shutil
+import subprocess
+import sys
+import tempfile
+from pathlib import Path
+
+TOP = Path(__file__).resolve().parent.parent.parent.parent
+CHECK = os.environ.get("CHECK", str(TOP / "python" / "aiger_check.py"))
+FRAMES = 50
+# what a machine under load may take
+LONGEST = 300
+ANSWERS = "never|none within|reached at|unknown"
+LINE = re.compile(rf"(?P<name>.*) \((?P<source>.*?)\): (?P<answer>{ANSWERS})(?P<rest>.*)", re.DOTALL)
+KINDS = ["never", "none within", "reached", "unknown"]
+SUM = re.compile(r"(\d+) assertions?(?:: (.*))?")
+KEPT = re.compile(r"model-[0-9a-f]+\.aig|.+\.(aiw|vcd|drat|pla|check\.sh)")
+EXACT, BOUNDED, SAFE = "exact", "bounded", "safe"
+
+
+class Wrong(Exception):
+    """What is wrong, in words."""
+
+
+class Skipped(Exception):
+    """Why a row is left out, in words."""
+
+
+@dataclasses.dataclass(frozen=True)
+class Truth:
+    name: str
+    source: str
+    step: int | None
+
+
+@dataclasses.dataclass(frozen=True)
+class Answer:
+    name: str
+    source: str
+    answer: str
+    steps: int | None = None
+    witness: str | None = None
+    reason: str | None = None
+
+
+@dataclasses.dataclass
+class Said:
+    """How a run ended, and what it left."""
+
+    status: int
+    out: str
+    err: str
+    words: tuple
+
+    def __str__(self):
+        return f"{' '.join(self.words)!r} ended with {self.status}, said {self.out[:1500]!r} and {self.err[:1500]!r}"
+
+
+def need(holds, why, said=""):
+    if not holds:
+        raise Wrong(f"{why}: {said}")
+
+
+def ended(run):
+    """What a run says until it ends, which it must."""
+    try:
+        return run.communicate(timeout=LONGEST)
+    except subprocess.TimeoutExpired as why:
+        run.kill()
+        raise Wrong(f"it does not end in {LONGEST} s: {run.args}") from why
+
+
+class Room:
+    """A folder to run in, and one for temporary files, which must be empty behind each run."""
+
+    def __init__(self, program, folder):
+        self.program, self.folder = program, Path(folder)
+        self.here, self.temporary = self.folder / "here", self.folder / "temporary"
+        self.here.mkdir()
+        self.temporary.mkdir()
+        self.may_write = set()
+
+    def settings(self, changes):
+        """The environment, with these changes; None takes a variable out."""
+        found = dict(os.environ, AIGER=self.program, TMPDIR=str(self.temporary), PYTHONDONTWRITEBYTECODE="1")
+        for name in ("ABC", "YOSYS", "SOLVER", "XDG_RUNTIME_DIR"):
+            found.pop(name, None)
+        found.update({name: value for name, value in changes.items() if value is not None})
+        return {name: value for name, value in found.items() if changes.get(name, "") is not None}
+
+    def start(self, *words, changes=None, **more):
+        """A run that goes on."""
+        streams = {"stdin": subprocess.DEVNULL, "stdout": subprocess.PIPE, "stderr": subprocess.PIPE, **more}
+        return subprocess.Popen(
+            [sys.executable, CHECK, *words], cwd=self.here, env=self.settings(changes or {}), **streams
+        )
+
+    def files(self):
+        return {str(it.relative_to(self.here)) for it in self.here.rglob("*") if not it.is_dir()}
+
+    def end(self, run, words, before):
+        """What a run said. It may leave nothing in the folder for temporary files, nor here but where it is told to."""
+        out, err = ended(run)
+        text = [(it or b"").decode("utf-8", "surrogateescape") for it in (out, err)]
+        said = Said(run.returncode, *text, words)
+        need("Traceback" not in said.err, "a traceback", said)
+        need(not any(self.temporary.iterdir()), f"left {[it.name for it in self.temporary.iterdir()]}", said)
+        made = {it for it in self.files() - before if Path(it).parts[0] not in self.may_write}
+        need(not made, f"made {made}", said)
+        need(before <= self.files(), f"lost {before - self.files()}", said)
+        return said
+
+    def run(self, *words, changes=None, **more):
+        before = self.files()
+        return self.end(self.start(*words, changes=changes, **more), words, before)
+
+
+def room(program):
+    """A room for a while."""
+    folder = tempfile.TemporaryDirectory(prefix="check.")
+    return folder, Room(program, folder.name)
+
+
+def of_line(line, said):
+    """The answer in a line."""
+    found = LINE.fullmatch(line)
+    need(found, f"the line {line!r}", said)
+    answer, rest, more = found["answer"], found["rest"], {}
+    if answer == "reached at":
+        spelled = re.fullmatch(r" (\d+)(?:, (.+))?", rest, re.DOTALL)
+        need(spelled, f"the line {line!r}", said)
+        more = {"steps": int(spelled[1]), "witness": spelled[2]}
+    elif answer == "none within":
+        need(re.fullmatch(r" [1-9]\d*", rest), f"the line {line!r}", said)
+        more = {"steps": int(rest)}
+    elif answer == "unknown":
+        need(re.fullmatch(r": .+", rest), f"the line {line!r} without a reason", said)
+        more = {"reason": rest[2:]}
+    else:
+        need(not rest, f"the line {line!r}", said)
+    return Answer(found["name"], found["source"], answer.removesuffix(" at"), **more)
+
+
+def of_lines(said):
+    """The answers of the lines, whose last one must add them up."""
+    need(said.out.endswith("\n"), "the last line does not end", said)
+    *lines, last = said.out.removesuffix("\n").split("\n")
+    found, added = [of_line(it, said) for it in lines], SUM.fullmatch(last)
+    need(added and int(added[1]) == len(found), "another sum", said)
+    counts = {}
+    for part in added[2].split(", ") if added[2] else []:
+        number, _, kind = part.partition(" ")
+        # the bound stands behind its words
+        counts[re.sub(r" \d+$", "", kind)] = counts.get(re.sub(r" \d+$", "", kind), 0) + int(number)
+    wanted = {kind: sum(it.answer == kind for it in found) for kind in KINDS}
+    need(counts == {kind: count for kind, count in wanted.items() if count}, "another sum", said)
+    return found
+
+
+def of_json(said):
+    """The answers of the one object."""
+    try:
+        object_ = json.loads(said.out)
+        return [Answer(**it) for it in object_["assertions"]]
+    except (ValueError, KeyError, TypeError) as why:
+        raise Wrong(f"no such object, {why!r}: {said}") from why
+
+
+def answers_of(said):
+    return of_json(said) if "--json" in said.words else of_lines(said)
+
+
+def status_of(found, frames):
+    """How a run with these answers must end."""
+    if any(it.answer == "reached" for it in found):
+        return 1
+    holds = (it.answer == "never" or it.answer == "none within" and it.steps >= frames for it in found)
+    return 0 if found and all(holds) else 2
+
+
+def is_right(truth, it, way, frames):
+    """Whether an answer may be given of this."""
+    step = truth.step
+    if it.answer == "unknown":
+        return way == SAFE
+    if it.answer == "never":
+        return step is None
+    if it.answer == "none within":
+        is_enough = it.steps >= frames and (step is not None or way == BOUNDED)
+        return (step is None or it.steps <= step) and (way == SAFE or is_enough)
+    if it.answer != "reached" or step is None:
+        return False
+    return it.steps == step or way == SAFE and it.steps > step
+
+
+def judge(said, truths, way=EXACT, frames=FRAMES):
+    """The answers of a run, which must be right, in their order, and its status."""
+    found = answers_of(said)
+    need([it.source for it in found] == [it.source for it in truths], "other assertions", said)
+    # in one place the order is of no matter
+    for source, there in itertools.groupby(truths, lambda it: it.source):
+        wanted = sorted(there, key=lambda it: (it.name, it.step is None, it.step))
+        came = [it for it in found if it.source == source]
+        came.sort(key=lambda it: (it.name, it.answer != "reached", it.steps))
+        need([it.name for it in came] == [it.name for it in wanted], f"other names in {source}", said)
+        for truth, it in zip(wanted, came):
+            need(is_right(truth, it, way, frames), f"{truth} has the answer {it}", said)
+    need(said.status == status_of(found, frames), f"status {status_of(found, frames)} is due", said)
+    return found
+
+
+def refused(said, *words, status=2):
+    """That a run says what is wrong, and no answer that anything holds or fails."""
+    need(said.status == status, f"status {status} is due", said)
+    need(re.search("^aiger-check: .", said.err, re.MULTILINE), "it does not say why", said)
+    need(not re.search(r"never$|none within|reached at", said.out, re.MULTILINE), "an answer", said)
+    for word in words:
+        need(re.search(word, said.err, re.IGNORECASE), f"{word} is not said", said)
+
+
+def succeeds(script, room_, folder):
+    """Whether a kept script ends with 0, in another folder."""
+    settings = room_.settings({"PATH": f"{Path(room_.program).parent}:{os.environ['PATH']}"})
+    ran = subprocess.run(["sh", script], cwd=folder, env=settings, capture_output=True, check=False, timeout=LONGEST)
+    return ran.returncode == 0
+
+
+def model_of(kept):
+    models = list(kept.glob("model-*.aig"))
+    need(len(models) == 1, f"there are {len(models)} models in {sorted(os.listdir(kept))}")
+    return models[0]
+
+
+def judge_kept(room_, kept, found, said):
+    """What is kept of these answers: each witness is confirmed, and each script succeeds."""
+    names = sorted(os.listdir(kept))
+    need(all(map(KEPT.fullmatch, names)), f"kept {names}", said)
+    model = str(model_of(kept))
+    reached = [it for it in found if it.answer == "reached"]
+    need(len({it.witness for it in reached}) == len(reached), "one witness for two", said)
+    for it in reached:
+        file = room_.here / (it.witness or "none")
+        words = [room_.program, "aigsim", "--witness", model, str(file)]
+        ran = subprocess.run(words, capture_output=True, text=True, check=False, timeout=LONGEST)
+        need(ran.stdout == f"confirmed {it.steps}\n", f"{it} has a witness {ran}", said)
+        need("$enddefinitions" in file.with_suffix(".vcd").read_text(encoding="latin-1"), f"{it} has no waveform", said)
+    scripts = sorted(kept.glob("*.check.sh"))
+    shown = [it for it in found if it.answer in ("never", "none within")]
+    need(len(scripts) == len(shown), f"{names} for {len(shown)} certificates", said)
+    for script in scripts:
+        text = script.read_text(encoding="utf-8", errors="surrogateescape")
+        lines = [line for line in text.split("\n") if re.search(r"aigunroll|aigsim|aigtoaig", line)]
+        need(1 <= len(lines) <= 5, f"{script.name} is {text!r}", said)
+        need(succeeds(str(script), room_, room_.folder), f"{script.name} fails: {text!r}", said)
+
+
+def is_there(name):
+    return shutil.which(name) is not None
