@@ -1717,7 +1717,7 @@ def end_by(number: int, _: Any) -> None:
 
 
 class Asked:
-    """The signal that asked the run to end, if one did. It is only noted, so that it breaks nothing off where it comes."""
+    """The signal that asked the run to end, if one did. It is only noted, so that it breaks nothing off."""
 
     def __init__(self) -> None:
         self.number: Optional[int] = None
