@@ -39,6 +39,15 @@ word = 4
 abbrev pub value : ℕ
 value = 5
 
+abbrev pub input : ℕ
+input = 6
+
+abbrev pub output : ℕ
+output = 7
+
+abbrev pub bad : ℕ
+bad = 8
+
 -- the options, a bit each
 abbrev pub ascii : ℕ
 ascii = 1

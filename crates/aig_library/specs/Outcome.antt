@@ -27,6 +27,9 @@ place_numbers (places.Gate number) = (numbers.gate, number)
 place_numbers (places.MapLine number) = (numbers.map_line, number)
 place_numbers (places.Word number) = (numbers.word, number)
 place_numbers (places.Value number) = (numbers.value, number)
+place_numbers (places.Input number) = (numbers.input, number)
+place_numbers (places.Output number) = (numbers.output, number)
+place_numbers (places.Bad number) = (numbers.bad, number)
 
 -- the input is refused with this fault
 abbrev pub fault_outcome : Fault → Outcome

@@ -29,8 +29,8 @@ pub use crate::asked::{
     ALL_BAD, ASCII, KEEP_MAP, ORDERED, OUTPUTS_AS_BAD, PROPERTIES, STRIP, UNDO_MAP, VCD,
 };
 pub use crate::outcome::{
-    BAD_OPTIONS, DONE, GATE, LINE, MAP_LINE, NOT_CONFIRMED, OUT_OF_MEMORY, Outcome, REFUSED,
-    TOO_SHORT, VALUE, WHOLE, WORD,
+    BAD, BAD_OPTIONS, DONE, GATE, INPUT, LINE, MAP_LINE, NOT_CONFIRMED, OUT_OF_MEMORY, OUTPUT,
+    Outcome, REFUSED, TOO_SHORT, VALUE, WHOLE, WORD,
 };
 pub use crate::simulation::simulate;
 pub use crate::solving::{invariant_clauses, never, reach, refute};

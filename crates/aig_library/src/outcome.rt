@@ -42,6 +42,15 @@ pub const WORD: u32 = 4;
 /// The fault is in a value.
 pub const VALUE: u32 = 5;
 
+/// The fault is at an input.
+pub const INPUT: u32 = 6;
+
+/// The fault is at an output.
+pub const OUTPUT: u32 = 7;
+
+/// The fault is at a bad state.
+pub const BAD: u32 = 8;
+
 /// What came of a call.
 #[repr(C)]
 #[derive(Clone, Copy, Debug, PartialEq, Eq)]
@@ -50,7 +59,8 @@ pub struct Outcome {
     pub status: u32,
     /// What is wrong, where the status is `REFUSED`: the number of a `Kind`.
     pub kind: u32,
-    /// Where it is wrong: `WHOLE`, `LINE`, `GATE`, `MAP_LINE`, `WORD` or `VALUE`.
+    /// Where it is wrong: `WHOLE`, `LINE`, `GATE`, `MAP_LINE`, `WORD`, `VALUE`, `INPUT`, `OUTPUT` or
+    /// `BAD`.
     pub place: u32,
     /// The variable, the literal or the bad state that the fault names.
     pub subject: u32,
@@ -87,6 +97,9 @@ fn numbers_of_place(place: Place) -> (u32, u64)
         Place::MapLine(number) => (MAP_LINE, number),
         Place::Word(number) => (WORD, number),
         Place::Value(number) => (VALUE, number),
+        Place::Input(number) => (INPUT, number),
+        Place::Output(number) => (OUTPUT, number),
+        Place::Bad(number) => (BAD, number),
     }
 }
 
