@@ -227,7 +227,13 @@ only_help name e other = true≢false (go (bytes_eq (codes "help") name) refl e)
 each_is_ours : AllByRecursion IsOurs (built aiger).subs
 each_is_ours = (
   λ name words e other. refl,
-  (λ name words e other. refl, (λ name words e other. refl, (λ name words e other. absurd (only_help name e other), tt))),
+  (
+    λ name words e other. refl,
+    (
+      λ name words e other. refl,
+      (λ name words e other. refl, (λ name words e other. absurd (only_help name e other), tt)),
+    ),
+  ),
 )
 
 is_known : (stop : Option (Text × List Text)) → IsNoHelp stop → IsKnownIfMet (entered (built aiger) stop)
