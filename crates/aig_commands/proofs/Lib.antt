@@ -1,3 +1,4 @@
+pub mod Fewer
 pub mod Readings
 pub mod Converting
 pub mod Trips

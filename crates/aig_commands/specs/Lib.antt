@@ -1,5 +1,6 @@
 pub use Rattle.aig_binary.specs.File
 pub mod OutputsAsBad
+pub mod Comparing
 pub mod Conversion
 pub mod Simulation
 pub mod Unrolling

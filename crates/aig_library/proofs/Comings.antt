@@ -29,29 +29,11 @@ use Rattle.aig_library.specs.Asked.{proving, reaching}
 use Rattle.aig_library.specs.Memory.{Comes, HasNoSteps, input_at, is_refused, is_written, makes}
 use Rattle.aig_library.specs.declared.memory.Inputs.{Inputs}
 
--- an invariant is read for what leaves few sources, and no steps
-few : (refuted : Bool) (request : Invariant) (selected : Circuit) → reads_of (read_for refuted request selected) < 3
-few true request selected = omega arith
-few false request selected = omega arith
-
+-- an invariant is read for what leaves no steps
 no_steps : (refuted : Bool) (request : Invariant) (selected : Circuit)
     → HasNoSteps (jobs.Read (read_for refuted request selected))
 no_steps true request selected = tt
 no_steps false request selected = tt
-
--- each reading leaves fewer sources
-pub fewer : (reading : Reading) (bytes : List ℕ) (next : Job) → Makes reading bytes next
-    → sources_left next < reads_of reading
-fewer (readings.Reach request) bytes next (selected, is, then) = rw then (omega arith)
-fewer (readings.Invariant request) bytes next (selected, is, then) =
-    rw then (few request.refuted request selected)
-fewer (readings.Strengthen request selected) bytes next (strengthened, is, then) = rw then (omega arith)
-fewer (readings.ToAig request) bytes next (answer, is, then) = rw then (omega arith)
-fewer (readings.Unroll request) bytes next (answer, is, then) = rw then (omega arith)
-fewer (readings.Solved request selected) bytes next (answer, is, then) = rw then (omega arith)
-fewer (readings.Clauses selected) bytes next (answer, is, then) = rw then (omega arith)
-fewer (readings.Never request strengthened) bytes next (answer, is, then) = rw then (omega arith)
-fewer (readings.Sim request) bytes next (model, is, then) = rw then (omega arith)
 
 -- a reading of no steps leads to none
 pub no_steps_then : (reading : Reading) (bytes : List ℕ) (next : Job) → HasNoSteps (jobs.Read reading)
@@ -65,6 +47,8 @@ no_steps_then (readings.Unroll request) bytes next none (answer, is, then) = rw 
 no_steps_then (readings.Solved request selected) bytes next none (answer, is, then) = rw then tt
 no_steps_then (readings.Clauses selected) bytes next none (answer, is, then) = rw then tt
 no_steps_then (readings.Never request strengthened) bytes next none (answer, is, then) = rw then tt
+no_steps_then (readings.First request) bytes next none (first, is, then) = rw then tt
+no_steps_then (readings.Second request first) bytes next none (answer, is, then) = rw then tt
 no_steps_then (readings.Sim request) bytes next none made = absurd none
 
 module _ (inputs : Inputs) where
