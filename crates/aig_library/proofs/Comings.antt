@@ -3,6 +3,7 @@ use Rattle.std.proofs.Common.{◌≡◌, ◌<◌, ◌⊎◌, List, ℕ, Ok, Err,
 use Rattle.std.proofs.Common.{subst, sym, true}
 use Rattle.aig_circuit.specs.declared.circuit.Circuit.{Circuit}
 use Rattle.aig_command.specs.declared.request.Invariant.{Invariant}
+use Rattle.aig_command.specs.declared.request.Miter.{Miter}
 use Rattle.aig_command.specs.declared.request.SolverFile.TheVariants.{Answer, Refutation}
 use Rattle.aig_command.specs.declared.request.ToAig.{ToAig}
 use Rattle.aig_command.specs.declared.request.Unroll.{Unroll}
@@ -12,6 +13,7 @@ use Rattle.aig_io.specs.Runs.{AtEnd}
 use Rattle.aig_commands.proofs.TripsExist.{well_formed_file}
 use Rattle.aig_commands.specs.Jobs.{Makes, Refuses, WritesText, read_for, reads_of, source_of}
 use Rattle.aig_commands.specs.Jobs.{sources_left, text_of}
+use Rattle.aig_commands.specs.Comparing.{IsMiterText, NotMiter}
 use Rattle.aig_commands.specs.Conversion.{IsConversionRefused, IsConversionText}
 use Rattle.aig_commands.specs.Proving.{IsInvariantModel, IsInvariantText, IsNeverText, IsStrengthened}
 use Rattle.aig_commands.specs.Reaching.{IsReachText}
@@ -111,6 +113,20 @@ module _ (inputs : Inputs) where
       → IsUnrollingRefused request fault inputs.model.now
   unrolling_refused request fault comes =
       let why = last_fault (readings.Unroll request) (IsUnrollingText request inputs.model.now) (λ next made. made) in
+      (why fault comes).1
+
+  pub miter_text : (request : Miter) (first : Circuit) (text : List ℕ)
+      → Comes inputs (jobs.Read (readings.Second request first)) (Ok text)
+      → IsMiterText request first inputs.file.now text
+  miter_text request first =
+      last_text (readings.Second request first) (IsMiterText request first inputs.file.now) (λ next made. made)
+
+  pub miter_refused : (request : Miter) (first : Circuit) (fault : Fault)
+      → Comes inputs (jobs.Read (readings.Second request first)) (Err fault)
+      → NotMiter request first fault inputs.file.now
+  miter_refused request first fault comes =
+      let why =
+      last_fault (readings.Second request first) (IsMiterText request first inputs.file.now) (λ next made. made) in
       (why fault comes).1
 
   module _ (bad frames max_var : ℕ) where

@@ -47,6 +47,11 @@ abbrev pub outcome_of : Stopped → Outcome
 outcome_of (stops.Refused fault) = fault_outcome fault
 outcome_of stopped = out_of_memory
 
+-- the same of a call of two inputs, where it is the second that is refused
+abbrev pub second_outcome : Stopped → Outcome
+second_outcome (stops.Refused fault) = record (fault_outcome fault) { status = numbers.second_refused }
+second_outcome stopped = out_of_memory
+
 -- The text is at the front of the output, and what stood after it is as it was; or it has more bytes than there is
 -- room for, and the output is as it was. The outcome tells how many bytes it has: the first is that of a text that was
 -- placed.
