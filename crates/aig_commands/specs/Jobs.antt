@@ -1,5 +1,5 @@
 -- What each source makes of a job, and what is written in the end (this project's profile).
-use Rattle.std.specs.Prelude.{◌≡◌, ◌<◌, ℕ, List, Bool, Ok, true, false, length, string_bytes, ⊤}
+use Rattle.std.specs.Prelude.{◌≡◌, ◌<◌, ℕ, List, Bool, true, false, length, string_bytes, ⊤}
 use Rattle.aig_binary.specs.BinaryText.{binary_text}
 use Rattle.aig_circuit.specs.declared.circuit.Circuit.{Circuit}
 use Rattle.aig_command.specs.Answer.{CanReach, HasFrames, IsKeptAlone}
@@ -13,7 +13,7 @@ use Rattle.aig_fault.specs.declared.fault.Fault.{Fault}
 use Rattle.aig_io.specs.Runs.{Ending}
 use Rattle.aig_replay.specs.WitnessLines.{witness_text}
 use Rattle.aig_text.specs.AsciiText.{ascii_text}
-use Rattle.aig_commands.specs.Comparing.{IsFirst, IsMiterText, NotFirst, NotMiter, accepted}
+use Rattle.aig_commands.specs.Comparing.{IsAccepted, IsFirst, IsMiterText, NotFirst, NotMiter}
 use Rattle.aig_commands.specs.Conversion.{IsConversionRefused, IsConversionText}
 use Rattle.aig_commands.specs.File.{IsFileOf}
 use Rattle.aig_commands.specs.Proving.{IsInvariantModel, IsInvariantText, IsNeverText, IsStrengthened}
@@ -132,7 +132,7 @@ CanRead (readings.Unroll request) = HasFrames request
 CanRead (readings.Reach request) = CanReach request
 CanRead (readings.Solved request selected) = CanUnroll selected request.frames
 CanRead (readings.Never request strengthened) = CanUnroll strengthened 1
-CanRead (readings.Second request first) = accepted request first ≡ Ok tt
+CanRead (readings.Second request first) = IsAccepted request first
 CanRead reading = ⊤
 
 -- A job can be done: what is written has a byte at least.

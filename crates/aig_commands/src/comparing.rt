@@ -1,12 +1,10 @@
 //! `aigmiter`: one circuit of two, which shows whether they are equal.
-ghost use Rattle.std.specs.Prelude.{◌≡◌, ◌<◌, Err, IfErr, IfOk, length, Ok, OnOk};
-ghost use Rattle.aig_fault.specs.declared.stopped.Stopped.TheVariants.{Refused};
+ghost use Rattle.std.specs.Prelude.{◌≡◌, ◌<◌, Err, IfErr, IfOk, length, OnOk, true};
 ghost use Rattle.aig_fault.specs.Stopping.{StopsFor};
 ghost use Rattle.aig_io.specs.Runs.{Read};
-ghost use Rattle.aig_miter.specs.Outcome.{IsComparable};
-ghost use Rattle.aig_rows.specs.Outcomes.{GivesOrMemory};
-ghost use Rattle.aig_commands.specs.Comparing.{accepted, compared, IsFirst, IsMiterText, NotFirst};
-ghost use Rattle.aig_commands.specs.Comparing.{NotMiter, paired};
+ghost use Rattle.aig_pairing.specs.ByNames.{by_names};
+ghost use Rattle.aig_commands.specs.Comparing.{IsAccepted, IsFirst, IsMadeOf, IsMiterText, IsPaired};
+ghost use Rattle.aig_commands.specs.Comparing.{NotAccepted, NotFirst, NotMadeOf, NotMiter};
 ghost use Rattle.aig_commands.specs.Jobs.{text_of};
 ghost use Rattle.aig_commands.specs.Reading.{AtItsEnd, ReadSays};
 
@@ -22,7 +20,8 @@ use std::alloc::Global;
 
 /// Whether a circuit can be the first of two.
 fn check_first(alloc: Global, request: &Miter, first: &Checked) -> Result<(), Stopped>
-    ensures { GivesOrMemory (λ u. u) result (accepted request.now first.now) }
+    ensures ok { OnOk result (IsAccepted request.now first.now) }
+    ensures err { IfErr result (StopsFor (NotAccepted request.now first.now)) }
 {
     check_comparable(first)?;
     if request.by_name {
@@ -41,7 +40,7 @@ pub(crate) fn read_first<R: Source>(
     ensures read { Read (ReadSays (λ first bytes. IsFirst request.now bytes first)
         (AtItsEnd (NotFirst request.now)) result) (R.history source.old)
         (R.history source.new) }
-    ensures accepted { IfOk result (λ first. accepted request.now first ≡ Ok tt) }
+    ensures accepted { IfOk result (IsAccepted request.now) }
 {
     let first = read_circuit(alloc, source, request.max_var, Keep::Circuit)?;
     match check_first(alloc, request, &first) {
@@ -60,8 +59,10 @@ fn pair(
     first: &Checked,
     second: Checked,
 ) -> Result<Checked, Stopped>
-    requires { accepted request.now first.now ≡ Ok tt }
-    ensures { GivesOrMemory (λ c. c) result (paired request.now first.now second) }
+    requires { IsAccepted request.now first.now }
+    ensures ok { IfOk result (IsPaired request.now.by_name first.now second) }
+    ensures err { IfErr result (StopsFor (λ fault. (request.now.by_name ≡ true)
+        × (by_names first.now second ≡ Err fault))) }
 {
     if request.by_name {
         order_by_names(alloc, first, second)
@@ -77,8 +78,9 @@ fn compare(
     first: Checked,
     second: Checked,
 ) -> Result<Checked, Stopped>
-    requires { accepted request.now first ≡ Ok tt }
-    ensures { GivesOrMemory (λ m. m) result (compared request.now first second) }
+    requires { IsAccepted request.now first }
+    ensures ok { IfOk result (IsMadeOf request.now first second) }
+    ensures err { IfErr result (StopsFor (NotMadeOf request.now first second)) }
 {
     match pair(alloc, request, &first, second) {
         Ok(paired) => miter(alloc, first, paired),
@@ -96,7 +98,7 @@ pub(crate) fn read_second<R: Source>(
     first: Checked,
     source: &mut R,
 ) -> Result<Answer, Stopped>
-    requires { accepted request.now first ≡ Ok tt }
+    requires { IsAccepted request.now first }
     ensures read { Read (ReadSays (λ answer bytes.
         IsMiterText request.now first bytes (text_of answer))
         (AtItsEnd (NotMiter request.now first)) result) (R.history source.old)
