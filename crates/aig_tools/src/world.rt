@@ -93,7 +93,6 @@ impl<A: FileAccess, R: Source, W: Sink, E: Sink> World<A, R, W, E> {
         requires can_read { CanRead reading }
         ensures idle { self.new.files.current ≡ None }
         ensures errors { self.new.errors ≡ self.old.errors }
-        ensures ready { OnOk result (IsIdle self.new) }
         ensures read { ReadIn
             (ReadSays (λ next bytes. Makes reading bytes next) (Refuses reading) result)
             (name_of name.now) self.old self.new }
