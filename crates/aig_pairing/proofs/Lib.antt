@@ -1,0 +1,3 @@
+pub mod Indexing
+pub mod Naming
+pub mod Found
