@@ -91,7 +91,7 @@ right_behind paired before (n ∷ ns) right zero low =
     found_here n before ns (none_mapped _ (wrong_name n (place_named before n)) (first_none _ _ right))
     ∙ ap Some (omega arith)
 right_behind paired before (n ∷ ns) right (suc i) low =
-    ap (λ (names : List Name). place_named names (get_or ns i None)) (sym (append_assoc {x = before} {y = n ∷ []} {z = ns}))
+    ap (λ (names : List Name). place_named names (get_or ns i None)) (sym (append_assoc before (n ∷ []) ns))
     ∙ right_behind paired (before ++ n ∷ []) ns (second_none _ _ right) i (omega (arith, low))
     ∙ ap Some (omega (arith, length-append before (n ∷ [])))
 
