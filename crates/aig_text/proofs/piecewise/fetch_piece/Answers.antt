@@ -1,6 +1,6 @@
 use Rattle.std.proofs.lemmas.Result.{err_from_is_err_and}
 use Rattle.aig_io.proofs.Took.{some_later}
-use Rattle.aig_binary.proofs.piecewise.fetch_piece.Goals as goal
+use Rattle.aig_text.proofs.piecewise.fetch_piece.Goals as goal
 
 pub returns-in_err-fill-clause-err : goal.returns-in_err-fill-clause-err
 returns-in_err-fill-clause-err g c =

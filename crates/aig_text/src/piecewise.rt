@@ -1,25 +1,23 @@
 //! Readers that take a file piece by piece, and the loop by which a source serves them.
-ghost use Rattle.std.specs.Prelude.{◌≡◌, ◌+◌, ◌^◌, ◌<◌, ◌≤◌, ◌++◌, ◌⊎◌, ◌↔◌, ℕ};
-ghost use Rattle.std.specs.Prelude.{List, Result, IfErr, IfOk, IsOk, IsTrue};
+ghost use Rattle.std.specs.Prelude.{◌≡◌, ◌+◌, ◌^◌, ◌<◌, ◌≤◌, ◌++◌, ◌↔◌, ℕ};
+ghost use Rattle.std.specs.Prelude.{List, Result, IfErr, IfOk, IsTrue};
 ghost use Rattle.std.specs.Prelude.{OnOk, drop, false, length, vec_len};
 ghost use Rattle.aig_circuit.specs.declared.circuit.Circuit.{Circuit as CircuitRecord};
 ghost use Rattle.aig_io.specs.Devices.{GaveSome};
 ghost use Rattle.aig_io.specs.Windows.{Filled};
 ghost use Rattle.aig_fault.specs.declared.stopped.Stopped.{Stopped as Fault};
-ghost use Rattle.aig_lines.specs.Lines.{lines_of, HasNoLineFeed};
 ghost use Rattle.aig_rows.specs.Outcomes.{GivesOrMemory};
-ghost use Rattle.aig_text.specs.Begun.{IsDone, IsValid, ReadsOn, rest_of};
+ghost use Rattle.aig_text.specs.Begun.{ReadsOn};
 ghost use Rattle.aig_text.specs.Reading.{HasRoomFor, with_last_comment};
-ghost use Rattle.aig_binary.specs.Sources.{ComesOn, NotAllCame, ReadsAs, ReadsFrom};
+ghost use Rattle.aig_text.specs.Sources.{ComesOn, NotAllCame, ReadsAs, ReadsFrom};
 
+use crate::comment::Uncommented;
 use aig_core::{Circuit, ReadError, Source, Window, read_to_end};
 use aig_fault::Stopped;
-use aig_lines::ended_lines;
-use aig_text::{AsciiReader, Uncommented};
 use std::alloc::Global;
 
 /// A reader that takes the bytes of a file piece by piece.
-pub(crate) trait Pieces: Drop {
+pub trait Pieces: Drop {
     /// The circuit that the other bytes tell to it.
     ghost rest: { Self → List ℕ → Result CircuitRecord Fault };
 
@@ -61,37 +59,8 @@ pub(crate) trait Pieces: Drop {
         ensures within { IfOk result (λ x. HasRoomFor x.comment_len bytes.now) };
 }
 
-impl Pieces for AsciiReader {
-    ghost rest = { λ r bytes. rest_of r (lines_of bytes) };
-
-    ghost next_line = { λ r. r.number };
-
-    ghost is_valid = { λ r. IsValid r.header r.progress };
-
-    ghost has_all = { λ r. IsOk r.header × IsDone r.progress };
-
-    ghost leaves = { λ r bytes. IsDone r.progress ⊎ HasNoLineFeed bytes };
-
-    fn is_piece(came: &[u8]) -> bool {
-        let (lines, _) = ended_lines(came);
-        !lines.is_empty()
-    }
-
-    fn is_done(&self) -> bool {
-        self.is_done()
-    }
-
-    fn advance(&mut self, bytes: &[u8]) -> usize {
-        self.advance(bytes)
-    }
-
-    fn finish(self, alloc: Global, bytes: &[u8]) -> Result<Uncommented, Stopped> {
-        self.finish(alloc, bytes)
-    }
-}
-
 /// Answers whether the source goes on.
-pub(crate) fn fetch_piece<R: Source, P: Pieces>(
+pub fn fetch_piece<R: Source, P: Pieces>(
     source: &mut R,
     window: &mut Window,
     least: usize,
@@ -117,7 +86,7 @@ pub(crate) fn fetch_piece<R: Source, P: Pieces>(
     }
 }
 
-pub(crate) fn fetch_all<R: Source>(
+pub fn fetch_all<R: Source>(
     source: &mut R,
     window: Window,
     more: bool,
@@ -172,7 +141,7 @@ fn finish_with<P: Pieces>(alloc: Global, reader: P, bytes: Vec<u8>) -> Result<Ci
     }
 }
 
-pub(crate) fn read_rest<R: Source, P: Pieces>(
+pub fn read_rest<R: Source, P: Pieces>(
     alloc: Global,
     source: &mut R,
     window: Window,

@@ -1,6 +1,6 @@
 use Rattle.std.proofs.Common.{◌≡◌, ◌+◌, ◌≤◌, length, true}
 use Rattle.aig_io.specs.Windows.{Filled}
-use Rattle.aig_binary.proofs.piecewise.fetch_piece.Given as goal
+use Rattle.aig_text.proofs.piecewise.fetch_piece.Given as goal
 
 -- what came is held after what was held
 abbrev pub invariant-loop-window : goal.invariant-loop-window

@@ -1,5 +1,5 @@
 use Rattle.aig_text.proofs.Loops.Tail.{tail_read}
-use Rattle.aig_text.proofs.pieces.AsciiReader.finish.Goals as goal
+use Rattle.aig_text.proofs.pieces.AsciiReaderPieces.finish.Goals as goal
 
 pub returns-in-Ok-finish-clause-read : goal.returns-in-Ok-finish-clause-read
 returns-in-Ok-finish-clause-read c =

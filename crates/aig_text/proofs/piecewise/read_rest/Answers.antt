@@ -2,8 +2,8 @@ use Rattle.std.proofs.Common.{◌++◌, ℕ, List, Result}
 use Rattle.aig_circuit.specs.declared.circuit.Circuit.{Circuit}
 use Rattle.aig_fault.specs.declared.stopped.Stopped.{Stopped}
 use Rattle.aig_rows.specs.Outcomes.{GivesOrMemory}
-use Rattle.aig_binary.proofs.FileSource.{all_came, rest_read}
-use Rattle.aig_binary.proofs.piecewise.read_rest.Goals as goal
+use Rattle.aig_text.proofs.Sources.{all_came, rest_read}
+use Rattle.aig_text.proofs.piecewise.read_rest.Goals as goal
 
 pub returns : goal.returns
 returns g c =

@@ -1,8 +1,8 @@
 use Rattle.std.proofs.Common.{ap, arith, length, length-drop}
 use Rattle.std.proofs.lemmas.Result.{err_from_is_err_and}
 use Rattle.aig_io.proofs.Took.{some_later}
-use Rattle.aig_binary.proofs.FileSource.{reads_more}
-use Rattle.aig_binary.proofs.piecewise.read_pieces.Goals as goal
+use Rattle.aig_text.proofs.Sources.{reads_more}
+use Rattle.aig_text.proofs.piecewise.read_pieces.Goals as goal
 
 pub returns-in_err-more-clause-err : goal.returns-in_err-more-clause-err
 returns-in_err-more-clause-err g c =

@@ -1,6 +1,6 @@
 use Rattle.std.proofs.Common.{◌+◌, ◌≤◌, ◌^◌, length, if◌then◌else◌}
-use Rattle.aig_binary.specs.Sources.{ReadsFrom}
-use Rattle.aig_binary.proofs.piecewise.read_pieces.Given as goal
+use Rattle.aig_text.specs.Sources.{ReadsFrom}
+use Rattle.aig_text.proofs.piecewise.read_pieces.Given as goal
 
 -- what was to be read is what is to be read
 abbrev pub invariant-loop-more : goal.invariant-loop-more

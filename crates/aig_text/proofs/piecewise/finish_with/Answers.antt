@@ -1,5 +1,5 @@
 use Rattle.aig_text.proofs.LastBytes.{with_its_comment}
-use Rattle.aig_binary.proofs.piecewise.finish_with.Goals as goal
+use Rattle.aig_text.proofs.piecewise.finish_with.Goals as goal
 
 pub with_comment_in-requires : goal.with_comment_in-requires
 with_comment_in-requires g c = rw c.as_slice.ensures.value at c.in-Ok.ensures.within

@@ -6,8 +6,6 @@ use Rattle.aig_io.specs.declared.transfer.ReadError.{ReadError}
 use Rattle.aig_fault.specs.Stopping.{stopped_by}
 use Rattle.aig_fault.specs.declared.stopped.Stopped.{Stopped}
 use Rattle.aig_text.specs.Begun.{ReadsOn}
-use Rattle.aig_text.specs.Reading.{IsFirstFault}
-use Rattle.aig_binary.specs.File.{IsFileOf, first_fault}
 
 -- the source gave all its bytes, and this holds of them
 pub record HasRead (Holds : List ℕ → Type 0) (source source_now : History) : Type 0 where
@@ -28,11 +26,6 @@ abbrev pub ReadsAs : {A : Type 0} → (Result A Stopped → List ℕ → Type 0)
 ReadsAs Holds (Ok x) source source_now = HasRead (λ bytes. Holds (Ok x) bytes) source source_now
 ReadsAs Holds (Err stopped) source source_now =
     HasRead (λ bytes. Holds (Err stopped) bytes) source source_now ⊎ HasFailed stopped source source_now
-
--- bytes are the file of this circuit within the limit, or this is their first fault, unless memory was refused
-abbrev pub AnswersFile : ℕ → Result Circuit Stopped → List ℕ → Type 0
-AnswersFile limit (Ok c) bytes = IsFileOf bytes limit c
-AnswersFile limit (Err fault) bytes = IsFirstFault fault (first_fault limit bytes)
 
 -- More bytes came, and are held after the others: whatever the source gave before, it gave them too; and it goes on or
 -- is at its end, as it was before or since.
