@@ -1,5 +1,5 @@
 -- What the miter says of its circuits.
-use Rattle.std.specs.Prelude.{◌≡◌, ◌↔◌, ℕ, List, Bool}
+use Rattle.std.specs.Prelude.{◌≡◌, ◌↔◌, ℕ, List, [], Bool}
 use Rattle.aig_circuit.specs.declared.circuit.Circuit.{Circuit}
 use Rattle.aig_circuit.specs.declared.value.Val.{Val}
 use Rattle.aig_circuit.specs.Wellformed.{IsWellFormed}
@@ -32,3 +32,7 @@ InvariantMeansAlike = (a b m d : Circuit) (bytes : List ℕ) (cubes : List Cube)
 abbrev pub AllStartAlikeWithoutPairs : Type 0
 AllStartAlikeWithoutPairs = (a b : Circuit) (first second : List Val) → pairs a b ≡ 0
     → IsFirstState a first → IsFirstState b second → StartAlike a b first second
+
+-- Where circuits have no latches, one step says all.
+abbrev pub OneStepSaysAll : Type 0
+OneStepSaysAll = (a b : Circuit) → a.latches ≡ [] → b.latches ≡ [] → AreAlikeFor 1 a b → AreAlike a b

@@ -1,6 +1,7 @@
 //! Laws: facts about the definitions alone, each the contract of a function with an empty body.
 ghost use Rattle.aig_equal.specs.Laws.{AlikeExactlyWhereUnreached, InvariantMeansAlike};
-ghost use Rattle.aig_equal.specs.Laws.{AllStartAlikeWithoutPairs, RefutedMeansAlike};
+ghost use Rattle.aig_equal.specs.Laws.{AllStartAlikeWithoutPairs, OneStepSaysAll};
+ghost use Rattle.aig_equal.specs.Laws.{RefutedMeansAlike};
 
 /// Two circuits are alike for so many steps exactly where no bad state of their miter is reached in
 /// these.
@@ -21,4 +22,9 @@ pub fn invariant_means_alike()
 /// Where not both have an uninitialised latch, nothing is asked of the states they start in.
 pub fn all_start_alike_without_pairs()
     ensures { AllStartAlikeWithoutPairs }
+{}
+
+/// Where circuits have no latches, one step says all.
+pub fn one_step_says_all()
+    ensures { OneStepSaysAll }
 {}
