@@ -1,17 +1,14 @@
 -- Names that are right, and where they are found.
-use Rattle.std.proofs.Common.{◌≡◌, ◌+◌, ◌<◌, ◌∙◌, ◌++◌, ◌∷◌, ◌≢◌, ℕ, Bool, List, [], None, Option, Some, true, false, arith, cond}
+use Rattle.std.proofs.Common.{◌≡◌, ◌+◌, ◌<◌, ◌∙◌, ◌++◌, ◌∷◌, ℕ, Bool, List, [], None, Option, Some, true, false, arith, cond}
 use Rattle.std.proofs.Common.{length, refl, sym, ap, get_or, append_assoc, suc, zero, is_some, length-append, if◌then◌else◌}
 use Rattle.std.specs.Cmp.Lexicographic.{bytes_decides, nat_list_eq_equiv}
 use Rattle.std.specs.List.{position, position_from}
 use Rattle.std.specs.Option.{option_map, option_or}
 use Rattle.std.proofs.lemmas.Iterator.Adapters.{position_from-zero}
 use Rattle.std.proofs.lemmas.List.Quantifiers.{position-Some}
-use Rattle.aig_fault.specs.Stopping.{fault_at}
 use Rattle.aig_fault.specs.declared.fault.Fault.{Fault}
-use Rattle.aig_fault.specs.declared.kind.Kind.{Kind}
-use Rattle.aig_fault.specs.declared.kind.Kind.TheVariants.{NoSuchName}
 use Rattle.aig_pairing.specs.declared.paired.Paired.{Paired}
-use Rattle.aig_pairing.specs.NameFaults.{missing_fault, name_fault, place_of, wrong_name}
+use Rattle.aig_pairing.specs.NameFaults.{missing_fault, name_fault, wrong_name}
 use Rattle.aig_pairing.specs.Names.{Name, has_name, place_named}
 use Rattle.aig_pairing.proofs.Indexing.{not_before}
 

@@ -1,5 +1,5 @@
 -- Names as symbols give them: as many as the things that they are for.
-use Rattle.std.proofs.Common.{◌≡◌, ◌∙◌, ◌∷◌, ℕ, List, [], None, Option, Some, ap, fold, length, length-set, refl, slice_set, sym}
+use Rattle.std.proofs.Common.{◌≡◌, ◌∙◌, ◌∷◌, ℕ, List, [], None, Option, Some, fold, length, length-set, refl, slice_set}
 use Rattle.std.specs.Option.{option_map_or}
 use Rattle.std.proofs.lemmas.List.{length-replicate}
 use Rattle.aig_circuit.specs.declared.circuit.Circuit.{Circuit}

@@ -1,5 +1,5 @@
 -- What it means that a circuit is ordered by the names of another.
-use Rattle.std.specs.Prelude.{◌≡◌, ◌↔◌, ◌++◌, ◌<◌, ℕ, List, None, Ok, Some, drop, get_or, length, slice_get, take}
+use Rattle.std.specs.Prelude.{◌≡◌, ◌↔◌, ◌++◌, ◌<◌, ℕ, List, None, Ok, get_or, length, map, slice_get}
 use Rattle.aig_circuit.specs.declared.circuit.Circuit.{Circuit}
 use Rattle.aig_circuit.specs.declared.value.Val.{Val}
 use Rattle.aig_circuit.specs.Wellformed.{IsWellFormed}
@@ -45,3 +45,17 @@ row_in_order a b row = record row {
 abbrev pub RowsAreOrdered : Type 0
 RowsAreOrdered = (a b c : Circuit) → by_names a b ≡ Ok c → (row : Row)
     → IsRow c row ↔ ((before : Row) × IsRow b before × (row ≡ row_in_order a b before))
+
+-- a trace of the second circuit, in the order of the first
+pub record IsTraceInOrder (a b : Circuit) (first : List Val) (vectors : List (List Val)) (rows : List Row) : Type 0 where
+  pub given : List (List Val)
+  pub before : List Row
+  pub trace : IsTrace b first given before
+  pub vectors_are : vectors ≡ map (in_order_of (input_names a) (input_names b)) given
+  pub rows_are : rows ≡ map (row_in_order a b) before
+
+-- and so are the traces
+abbrev pub TracesAreOrdered : Type 0
+TracesAreOrdered = (a b c : Circuit) → by_names a b ≡ Ok c
+    → (first : List Val) (vectors : List (List Val)) (rows : List Row)
+    → IsTrace c first vectors rows ↔ IsTraceInOrder a b first vectors rows

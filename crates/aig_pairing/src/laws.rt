@@ -1,5 +1,6 @@
 //! Laws: facts about the definitions alone, each the contract of a function with an empty body.
-ghost use Rattle.aig_pairing.specs.Laws.{OrderedIsWellFormed, OrderedCounts, RowsAreOrdered};
+ghost use Rattle.aig_pairing.specs.Laws.{OrderedCounts, OrderedIsWellFormed, RowsAreOrdered};
+ghost use Rattle.aig_pairing.specs.Laws.{TracesAreOrdered};
 
 /// A well-formed circuit that is ordered by names is well formed.
 pub fn ordered_is_well_formed()
@@ -16,4 +17,9 @@ pub fn ordered_counts()
 /// other order.
 pub fn rows_are_ordered()
     ensures { RowsAreOrdered }
+{}
+
+/// And so its traces.
+pub fn traces_are_ordered()
+    ensures { TracesAreOrdered }
 {}
