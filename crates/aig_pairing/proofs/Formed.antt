@@ -174,7 +174,8 @@ module _ (a b : Circuit) (good : IsWellFormed a) (own : IsWellFormed b) (can : C
   pub ordered_is_formed : IsWellFormed (in_order a b)
   ordered_is_formed = record {
     limits = limits;
-    in_range = all_swapped (inputs ++ latches) (b.inputs ++ latches) gates latch_was (IsVariableUpTo b.max_var) own.in_range;
+    in_range = all_swapped (inputs ++ latches) (b.inputs ++ latches) gates latch_was (IsVariableUpTo b.max_var)
+        own.in_range;
     once = once;
     known = known;
     symbols = record { positions = tt; apart = tt; lines = tt };

@@ -1,5 +1,6 @@
 -- Names in a search tree, one after the other.
-use Rattle.std.proofs.Common.{◌≡◌, ◌+◌, ◌<◌, ◌∙◌, ◌++◌, ◌∷◌, ℕ, Bool, List, [], None, Option, Some, true, false, arith, cond}
+use Rattle.std.proofs.Common.{◌≡◌, ◌+◌, ◌<◌, ◌∙◌, ◌++◌, ◌∷◌, ℕ, Bool, List, [], None, Option, Some, true, false}
+use Rattle.std.proofs.Common.{arith, cond}
 use Rattle.std.proofs.Common.{length, refl, sym, ap, ap₂, subst, drop, get_or, take, bytes_eq, drop-cons, add-one}
 use Rattle.std.proofs.Common.{length-take}
 use Rattle.std.specs.BTreeMap.{BTreeMap}

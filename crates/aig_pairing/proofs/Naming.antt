@@ -19,7 +19,8 @@ named_all paired names [] = refl
 named_all paired names (s ∷ ss) =
     named_all paired (named paired names s) ss ∙ named_once (place_among paired s.kind s.position) names s.name
 
-pub length-names_by : (paired : Paired) (count : ℕ) (symbols : List Symbol) → length (names_by paired count symbols) ≡ count
+pub length-names_by : (paired : Paired) (count : ℕ) (symbols : List Symbol)
+    → length (names_by paired count symbols) ≡ count
 length-names_by paired count symbols = named_all paired _ symbols ∙ length-replicate count None
 
 pub length-input_names : (c : Circuit) → length (input_names c) ≡ length c.inputs

@@ -42,7 +42,8 @@ module _ (h : Name → Option ℕ) where
 
   taken_among : (xs : List Name) (i v : ℕ) → i < length xs → h (get_or xs i None) ≡ Some v → IsAmong v (filter_map h xs)
   taken_among [] i v low is = absurd (omega (arith, low))
-  taken_among (x ∷ xs) zero v low is = subst (λ (o : Option ℕ). IsAmong v (cons_option o (filter_map h xs))) (sym is) (inl refl)
+  taken_among (x ∷ xs) zero v low is =
+      subst (λ (o : Option ℕ). IsAmong v (cons_option o (filter_map h xs))) (sym is) (inl refl)
   taken_among (x ∷ xs) (suc i) v low is =
       cons_keeps (h x) (filter_map h xs) v (taken_among xs i v (omega (arith, low)) is)
 
@@ -60,30 +61,30 @@ module _ (h : Name → Option ℕ) where
   taken_short (x ∷ xs) = cons_short (h x) (filter_map h xs) (length xs) (taken_short xs)
 
 -- where each name gives one, there are as many, place by place
-abbrev pub GivesEach : (Name → Option ℕ) → List Name → Type 0
-GivesEach h xs = (i : ℕ) → i < length xs → (v : ℕ) × (h (get_or xs i None) ≡ Some v)
+abbrev pub GivesEach : {A : Type 0} → (Name → Option A) → List Name → Type 0
+GivesEach {A} h xs = (i : ℕ) → i < length xs → (v : A) × (h (get_or xs i None) ≡ Some v)
 
-gives_later : (h : Name → Option ℕ) (x : Name) (xs : List Name) → GivesEach h (x ∷ xs) → GivesEach h xs
+gives_later : {A : Type 0} (h : Name → Option A) (x : Name) (xs : List Name) → GivesEach h (x ∷ xs) → GivesEach h xs
 gives_later h x xs gives i low = gives (suc i) (omega (arith, low))
 
-cons_long : (o : Option ℕ) (vs : List ℕ) (v : ℕ) → o ≡ Some v → cons_option o vs ≡ v ∷ vs
-cons_long o vs v is = ap (λ (p : Option ℕ). cons_option p vs) is
+cons_long : {A : Type 0} (o : Option A) (vs : List A) (v : A) → o ≡ Some v → cons_option o vs ≡ v ∷ vs
+cons_long {A} o vs v is = ap (λ (p : Option A). cons_option p vs) is
 
-pub taken_long : (h : Name → Option ℕ) (xs : List Name) → GivesEach h xs → length (filter_map h xs) ≡ length xs
+pub taken_long : {A : Type 0} (h : Name → Option A) (xs : List Name) → GivesEach h xs → length (filter_map h xs) ≡ length xs
 taken_long h [] gives = refl
 taken_long h (x ∷ xs) gives =
     let r = gives zero (omega arith) in
     ap length (cons_long (h x) (filter_map h xs) r.0 r.1) ∙ ap suc (taken_long h xs (gives_later h x xs gives))
 
-pub taken_at : (h : Name → Option ℕ) (xs : List Name) → GivesEach h xs → (i : ℕ) → i < length xs
+pub taken_at : {A : Type 0} (h : Name → Option A) (xs : List Name) → GivesEach h xs → (i : ℕ) → i < length xs
     → slice_get (filter_map h xs) i ≡ h (get_or xs i None)
-taken_at h [] gives i low = absurd (omega (arith, low))
-taken_at h (x ∷ xs) gives zero low =
+taken_at {A} h [] gives i low = absurd (omega (arith, low))
+taken_at {A} h (x ∷ xs) gives zero low =
     let r = gives zero (omega arith) in
-    ap (λ (vs : List ℕ). slice_get vs zero) (cons_long (h x) (filter_map h xs) r.0 r.1) ∙ sym r.1
-taken_at h (x ∷ xs) gives (suc i) low =
+    ap (λ (vs : List A). slice_get vs zero) (cons_long (h x) (filter_map h xs) r.0 r.1) ∙ sym r.1
+taken_at {A} h (x ∷ xs) gives (suc i) low =
     let r = gives zero (omega arith) in
-    ap (λ (vs : List ℕ). slice_get vs (suc i)) (cons_long (h x) (filter_map h xs) r.0 r.1)
+    ap (λ (vs : List A). slice_get vs (suc i)) (cons_long (h x) (filter_map h xs) r.0 r.1)
     ∙ taken_at h xs (gives_later h x xs gives) i (omega (arith, low))
 
 -- where a value stands in a list
@@ -187,11 +188,12 @@ module _ (wanted names : List Name) (right_wanted : AreRight wanted) (right : Ar
       (among_or_not k places)
 
   -- so each name has a value
-  pub gives_each : (values : List ℕ) → length values ≡ length names → GivesEach (value_named names values) wanted
-  gives_each values long k low =
+  pub gives_each : {A : Type 0} (d : A) (values : List A) → length values ≡ length names
+      → GivesEach (value_named names values) wanted
+  gives_each d values long k low =
       let r = wanted_found k low in
       let n = get_or wanted k None in
       let inside : r.0 < length values = omega (arith, found_within names n r.0 r.1, long) in (
-        get_or values r.0 0,
-        ap (option_and_then (slice_get values)) r.1 ∙ slice_get-get_or values r.0 0 inside,
+        get_or values r.0 d,
+        ap (option_and_then (slice_get values)) r.1 ∙ slice_get-get_or values r.0 d inside,
       )
