@@ -70,7 +70,8 @@ gives_later h x xs gives i low = gives (suc i) (omega (arith, low))
 cons_long : {A : Type 0} (o : Option A) (vs : List A) (v : A) → o ≡ Some v → cons_option o vs ≡ v ∷ vs
 cons_long {A} o vs v is = ap (λ (p : Option A). cons_option p vs) is
 
-pub taken_long : {A : Type 0} (h : Name → Option A) (xs : List Name) → GivesEach h xs → length (filter_map h xs) ≡ length xs
+pub taken_long : {A : Type 0} (h : Name → Option A) (xs : List Name) → GivesEach h xs
+    → length (filter_map h xs) ≡ length xs
 taken_long h [] gives = refl
 taken_long h (x ∷ xs) gives =
     let r = gives zero (omega arith) in
