@@ -264,13 +264,13 @@ rows_incomparable() {
 
 # as many variables as there may be, and one more; gates and latches for what is compared count too
 rows_too_large_to_compare() {
-    local large='too large to compare' empty='aag 0 0 0 0 0\n' most='aag 2147483647 0 0 0 0\n' last='aag 1 0 1 0 0\n2 2 2\n'
-    no_miter 'two circuits of the most variables' "$most" "$most" "$large"
-    miters 'the most variables, and none' "$most" "$empty" "$most"
-    miters 'no variables, and the most' "$empty" "$most" "$most"
-    miters_to_binary 'the most variables, and none, to binary' "$most" "$empty" 'aig 0 0 0 0 0\n'
-    no_miter 'one variable too many for both' "$most" 'aag 1 0 0 0 0\n' "$large"
-    no_miter 'one variable too many for both, by name' "$most" 'aag 1 0 0 0 0\n' "$large" --by-name
+    local large='too large to compare' empty='aag 0 0 0 0 0\n' all='aag 2147483647 0 0 0 0\n' last='aag 1 0 1 0 0\n2 2 2\n'
+    no_miter 'two circuits of the most variables' "$all" "$all" "$large"
+    miters 'the most variables, and none' "$all" "$empty" "$all"
+    miters 'no variables, and the most' "$empty" "$all" "$all"
+    miters_to_binary 'the most variables, and none, to binary' "$all" "$empty" 'aig 0 0 0 0 0\n'
+    no_miter 'one variable too many for both' "$all" 'aag 1 0 0 0 0\n' "$large"
+    no_miter 'one variable too many for both, by name' "$all" 'aag 1 0 0 0 0\n' "$large" --by-name
     miters 'the largest gates' 'aag 2147483643 0 0 1 0\n0\n' 'aag 1 0 0 1 0\n0\n' \
         'aag 2147483647 0 0 0 3 1\n4294967294\n4294967290 0 0\n4294967292 1 1\n4294967294 4294967293 4294967291\n'
     no_miter 'a gate too many' 'aag 2147483644 0 0 1 0\n0\n' 'aag 1 0 0 1 0\n0\n' "$large"
@@ -278,9 +278,9 @@ rows_too_large_to_compare() {
         "aag 2147483647 0 3 0 4 0 1\n2 2 2\n4294967284 4294967284 4294967284\n4294967286 1\n4294967295\n$(
         )4294967288 4294967284 2\n4294967290 4294967285 3\n4294967292 4294967291 4294967289\n4294967294 4294967292 4294967287\n"
     no_miter 'a pair too many' 'aag 2147483642 0 1 0 0\n2 2 2\n' "$last" "$large"
-    no_miter 'more inputs, and too large' "$most" 'aag 1 1 0 0 0\n2\n' 'not as many inputs'
-    no_miter 'more outputs, and too large' "$most" 'aag 1 0 0 1 0\n0\n' 'not as many outputs and bad states'
-    no_miter 'justice, and too large to compare' "$most" 'aag 1 0 0 0 0 0 0 1\n0\n' 'justice or fairness cannot be compared'
+    no_miter 'more inputs, and too large' "$all" 'aag 1 1 0 0 0\n2\n' 'not as many inputs'
+    no_miter 'more outputs, and too large' "$all" 'aag 1 0 0 1 0\n0\n' 'not as many outputs and bad states'
+    no_miter 'justice, and too large to compare' "$all" 'aag 1 0 0 0 0 0 0 1\n0\n' 'justice or fairness cannot be compared'
 }
 
 # errors of the first circuit come first, those of the second are told by its own name, and a limit is one on each of them
