@@ -10,9 +10,10 @@ show where the two differ, as it comes from their own equations, side by side.
 import collections
 import dataclasses
 import random
+import re
 from pathlib import Path
 
-from lib import images, traces, unrolled
+from lib import images, traces, unrolled, waves
 
 PAIRS = 1000
 LARGEST = 2147483647
@@ -23,8 +24,10 @@ ENOUGH = 3
 LIVENESS, INPUTS = "justice or fairness cannot be compared", "not as many inputs"
 OUTPUTS, TOO_LARGE = "not as many outputs and bad states", "too large to compare"
 NO_NAME, TWICE, MISSING = "no name", "name given twice", "no such name in the other file"
-REASONS = [LIVENESS, INPUTS, OUTPUTS, TOO_LARGE, *(f"{it}: {why}" for it in "iob" for why in (NO_NAME, TWICE, MISSING))]
 KINDS = {"i": "input", "o": "output", "b": "bad state"}
+REASONS = [LIVENESS, INPUTS, OUTPUTS, TOO_LARGE]
+REASONS += [f"{it} N: {why}" for it in KINDS.values() for why in (NO_NAME, TWICE, MISSING)]
+NUMBER = re.compile(r" \d+:")
 # what stands before the number of a name
 WORDS = ["", "a", "a ", "a b", "\u00fc", "i0 "]
 
@@ -143,7 +146,7 @@ def shuffled(chance, made, called):
 
 
 def pair(chance):
-    """Two circuits, and whether they are paired by name."""
+    """Two circuits, and the words by which they are compared."""
     first = unrolled.circuit(chance)
     second = unrolled.circuit(chance) if not chance.randrange(8) else first
     first, second = (it if not chance.randrange(12) else unrolled.without_liveness(chance, it) for it in (first, second))
@@ -155,10 +158,10 @@ def pair(chance):
     second = spread(chance, second, chance.choice(ends(second) if chance.randrange(8) else [fitting(chance, first, second)]))
     if chance.randrange(2):
         first, second = (split(chance, it) if chance.randrange(2) else it for it in (first, second))
-        return *(dataclasses.replace(it, symbols=images.symbols(chance, it)) for it in (first, second)), False
+        return *(dataclasses.replace(it, symbols=images.symbols(chance, it)) for it in (first, second)), ["aigmiter"]
     called = [[f"{chance.choice(WORDS)}{at}" for at in range(NAMES)] for _ in places(first)]
     second, others = shuffled(chance, second, called)
-    return named(chance, first, called), named(chance, second, others), True
+    return named(chance, first, called), named(chance, second, others), ["aigmiter", "--by-name"]
 
 
 def ends(made):
@@ -172,8 +175,8 @@ def ends(made):
 
 def names(made):
     """The names of inputs, and of what is compared, or None."""
-    called = dict(line.split(" ", 1) for line in made.symbols.split("\n") if line)
-    return [[called.get(f"{letter}{at}") for letter, at in of] for of in places(made)]
+    called = waves.names_of(made.symbols.encode())
+    return [[called.get(place) for place in of] for of in places(made)]
 
 
 def told(place, why):
@@ -209,8 +212,9 @@ def is_live(made):
     return bool(made.justice or made.fairness)
 
 
-def fault(first, second, by_name):
+def fault(first, second, words):
     """Which of the two is refused, and why, or nothing."""
+    by_name = "--by-name" in words
     why = LIVENESS if is_live(first) else by_name and name_fault(first)
     if why:
         return 0, why
@@ -220,8 +224,10 @@ def fault(first, second, by_name):
     return (1, why) if why else None
 
 
-def in_order(first, second):
-    """The second with its inputs, and what is compared, in the order in which the first has their names."""
+def paired(first, second, words):
+    """The second with its inputs, and what is compared, in the order in which the first has their names, if that is asked."""
+    if "--by-name" not in words:
+        return second
     (inputs, compared), (own_inputs, own_compared), count = names(first), names(second), len(first.outputs)
     literals = [seen(second)[own_compared.index(name)] for name in compared]
     given = [second.inputs[own_inputs.index(name)] for name in inputs]
@@ -265,6 +271,16 @@ def miter(first, second):
     return images.Circuit(**made, symbols="", comment=None)
 
 
+def wanted(first, second, words, files):
+    """Standard output, standard error and the status, where circuits of files of these names are compared with these words."""
+    why = fault(first, second, words)
+    if why:
+        at, said = why
+        return b"", f"aiger: {files[at]}: {said}\n".encode(), 1
+    made = miter(first, paired(first, second, words))
+    return (images.ascii_text if "--ascii" in words else images.image)(made), b"", 0
+
+
 # ---- what they do
 
 
@@ -287,8 +303,9 @@ def line_of(first, second, lines, later):
     return f"{state}{other}{now} {given}  {following}{other_following}{then} {differ} {constraints}\n"
 
 
-def trace(first, second, runs):
+def trace(first, second, words, runs):
     """The trace of the miter over the steps of these runs, by the equations of both circuits."""
+    second = paired(first, second, words)
     circuits = [(it, images.placed(it.gates), "".join(it.resets)) for it in (first, second)]
     for run in runs:
         states, later = [reset for *_, reset in circuits], "0"
@@ -308,48 +325,34 @@ def runs_of(chance, inputs):
 # ---- the program
 
 
-def wrong(program, given, words, wanted):
+def wrong(program, given, words, come):
     """What is wrong with the answer to these words, if anything is."""
-    came = traces.ran(program, given, *map(str, words))
-    return None if came == wanted else f"{words} of {given!r}: wanted {wanted!r}, came {came!r}"
+    came = traces.ran(program, given, *words)
+    return None if came == come else f"{words} of {given!r}: wanted {come!r}, came {came!r}"
 
 
-def asked(first, second, by_name, files):
-    """The words and the standard input of each question, and what is to come: each text as it is, and as binary."""
-    words = ["aigmiter", *["--by-name"] * by_name]
-    why, texts = fault(first, second, by_name), [images.ascii_text(it) for it in (first, second)]
-    if why:
-        at, said = why
-        for names_of, given in ((["-", files[1]], texts[0]), ([files[0], "-"], texts[1]), (files, b"")):
-            yield given, [*words, *names_of], (b"", f"aiger: {names_of[at]}: {said}\n".encode(), 1)
-        return
-    made = miter(first, in_order(first, second) if by_name else second)
-    yield texts[1], [*words, "--ascii", files[0], "-"], (images.ascii_text(made), b"", 0)
-    yield texts[0], [*words, "-", files[1]], (images.image(made), b"", 0)
-    yield texts[0], [*words, "--ascii", files[0], files[1], "-"], (images.ascii_text(made), b"", 0)
-    image = images.renumbered(first), images.renumbered(second)
-    made = miter(image[0], in_order(*image) if by_name else image[1])
-    yield images.image(second), [*words, "--ascii", f"{files[0]}.aig", "-"], (images.ascii_text(made), b"", 0)
-
-
-def judge(program, folder, number, first, second, by_name, runs):
-    """What is wrong with the miter of these two, if anything is."""
-    files = [Path(folder) / f"{it}.{number}" for it in ("first", "second")]
-    steps, image = Path(folder) / f"steps.{number}", Path(folder) / f"first.{number}.aig"
-    for file, it in zip(files, (first, second)):
-        file.write_bytes(images.ascii_text(it))
-    image.write_bytes(images.image(first))
-    questions = list(asked(first, second, by_name, files))
-    steps.write_text("".join("".join(f"{it}\n" for it in run) + ".\n" for run in runs), encoding="ascii")
-    if not fault(first, second, by_name):
-        paired = in_order(first, second) if by_name else second
-        wanted = "".join(trace(first, paired, runs)).encode(), b"", 0
-        miters = [questions[at][2][0] for at in (0, 1)]
-        questions += [(it, ["aigsim", "--properties", "-", steps], wanted) for it in miters]
-    found = next(filter(None, (wrong(program, *it) for it in questions)), None)
-    for file in (*files, image, steps):
-        file.unlink()
-    return found and f"{images.ascii_text(first)!r} and {images.ascii_text(second)!r}: {found}"
+def judge(program, folder, number, first, second, words, runs):
+    """What is wrong with the miter of these two, if anything is: from ASCII and from binary, from files and from a stream."""
+    one, other, image, steps = files = [f"{folder}/{it}.{number}" for it in ("first", "second", "image", "steps")]
+    stimulus = "".join("".join(f"{it}\n" for it in run) + ".\n" for run in runs).encode()
+    texts = images.ascii_text(first), images.ascii_text(second), images.image(first), stimulus
+    for name, text in zip(files, texts):
+        Path(name).write_bytes(text)
+    both, of_images = (first, second), (images.renumbered(first), images.renumbered(second))
+    asked = [
+        (texts[1], [*words, "--ascii"], (one, "-"), both),
+        (texts[0], words, ("-", other), both),
+        (b"", [*words, "--ascii"], (one, other), both),
+        (images.image(second), [*words, "--ascii"], (image, "-"), of_images),
+    ]
+    asked = [(given, [*options, *names], wanted(*of, options, names)) for given, options, names, of in asked]
+    if not asked[0][2][2]:
+        come = "".join(trace(*both, words, runs)).encode(), b"", 0
+        asked += [(miter, ["aigsim", "--properties", "-", steps], come) for _, _, (miter, *_) in asked[:2]]
+    found = next(filter(None, (wrong(program, *it) for it in asked)), None)
+    for name in files:
+        Path(name).unlink()
+    return found and f"{texts[0]!r} and {texts[1]!r}: {found}"
 
 
 def all_met(count):
@@ -361,8 +364,8 @@ def all_met(count):
 def cases(program, folder):
     chance, count = random.Random(31), collections.Counter()
     for number in range(PAIRS):
-        first, second, by_name = pair(chance)
-        _, why = fault(first, second, by_name) or (None, None)
-        count[why and (f"{why[0]}: {why.rpartition(': ')[2]}" if ": " in why else why)] += 1
-        yield judge, program, folder, number, first, second, by_name, runs_of(chance, len(first.inputs))
+        first, second, words = pair(chance)
+        _, why = fault(first, second, words) or (None, None)
+        count[why and NUMBER.sub(" N:", why)] += 1
+        yield judge, program, folder, number, first, second, words, runs_of(chance, len(first.inputs))
     yield all_met, count
