@@ -30,7 +30,7 @@ from dataclasses import dataclass
 from pathlib import Path
 from typing import Any, Dict, Iterable, Iterator, List, NamedTuple, Optional, Sequence, Set, Tuple
 
-VERSION = "1.2.0"
+VERSION = "1.3.0"
 PROGRAM = "aiger-check"
 
 HELP = """\

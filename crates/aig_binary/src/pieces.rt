@@ -9,12 +9,11 @@ ghost use Rattle.aig_binary.specs.Begun.{AllIsTaken, FitsHeader, HasAllGates};
 ghost use Rattle.aig_binary.specs.Begun.{front_at, gates_then, rest_of};
 
 use crate::gates::{read_first_gates, read_gates};
-use crate::piecewise::Pieces;
 use crate::reader::{add_definitions, read_front};
 use aig_core::{Circuit, Gate, Listing};
 use aig_fault::Stopped;
 use aig_lines::Cursor;
-use aig_text::{Header, Limits, Uncommented, tail};
+use aig_text::{Header, Limits, Pieces, Uncommented, tail};
 use std::alloc::Global;
 
 /// Takes gates of a binary file piece by piece. After a fault it holds that, and takes all bytes.

@@ -19,13 +19,12 @@ ghost use Rattle.aig_binary.specs.Begun.{front_at};
 ghost use Rattle.aig_binary.specs.Parts.NextStates.{latches_by};
 
 use crate::pieces::BinaryReader;
-use crate::piecewise::Pieces;
 use aig_core::{Checked, Circuit, Gate, Latch, Listing, Ordered, Var};
 use aig_fault::{Kind, Stopped, refused_at};
 use aig_lines::Cursor;
 use aig_text::{
-    Header, Limits, NextState, SECTIONS, Section, empty_circuit, header, next_states, read_section,
-    tail,
+    Header, Limits, NextState, Pieces, SECTIONS, Section, empty_circuit, header, next_states,
+    read_section, tail,
 };
 use std::alloc::Global;
 

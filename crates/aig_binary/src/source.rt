@@ -8,17 +8,19 @@ ghost use Rattle.aig_text.specs.Reading.{first_word_is};
 ghost use Rattle.aig_binary.specs.BinaryGrammar.{binary_word};
 ghost use Rattle.aig_binary.specs.BinaryReading.{binary_reading};
 ghost use Rattle.aig_binary.specs.Begun.{FitsHeader, rest_of};
-ghost use Rattle.aig_binary.specs.Sources.{AnswersFile, ReadsAs, ReadsFrom};
+ghost use Rattle.aig_binary.specs.File.{AnswersFile};
+ghost use Rattle.aig_text.specs.Sources.{ReadsAs, ReadsFrom};
 
 use crate::file::read_file;
 use crate::gates::is_cut;
 use crate::pieces::BinaryReader;
-use crate::piecewise::{fetch_all, fetch_piece, read_rest};
 use crate::reader::BINARY_WORD;
 use aig_core::{Checked, Keep, Ordered, ReadError, Source, Window};
 use aig_fault::Stopped;
 use aig_lines::{Cursor, ended_lines};
-use aig_text::{AsciiReader, Limits, check_read, first_word_is, header};
+use aig_text::{
+    AsciiReader, Limits, check_read, fetch_all, fetch_piece, first_word_is, header, read_rest,
+};
 use std::alloc::Global;
 
 /// How many times what is held there may be before the lines in front of the gates are read anew: a

@@ -21,3 +21,4 @@ pub mod Texts
 pub mod Dumps
 pub mod WitnessDumps
 pub mod Outcomes
+pub mod Compared

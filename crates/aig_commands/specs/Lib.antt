@@ -13,5 +13,6 @@ pub mod WitnessOutcome
 pub mod WitnessDump
 pub mod Jobs
 pub mod Laws
+pub mod ComparingLaws
 pub mod DumpLaws
 pub mod WitnessDumpLaws

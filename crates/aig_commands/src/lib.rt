@@ -11,6 +11,7 @@
 
 mod answer;
 mod comparing;
+pub mod comparing_laws;
 mod conversion;
 pub mod dump_laws;
 mod file;

@@ -12,6 +12,7 @@ pub mod laws;
 mod limits;
 mod parts;
 mod pieces;
+mod piecewise;
 mod reader;
 mod section;
 mod tail_lines;
@@ -22,6 +23,7 @@ pub use crate::header_line::{ASCII_WORD, HEADER_LEAST, HEADER_NUMBERS, Header};
 pub use crate::limits::Limits;
 pub use crate::parts::{first_word_is, header, tail};
 pub use crate::pieces::AsciiReader;
+pub use crate::piecewise::{Pieces, fetch_all, fetch_piece, read_rest};
 pub use crate::reader::{check_read, empty_circuit, read_ascii};
 pub use crate::section::{SECTIONS, Section, read_section};
 pub use crate::writer::{

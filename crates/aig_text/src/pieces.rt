@@ -19,6 +19,7 @@ use crate::comment::Uncommented;
 use crate::header_line::{ASCII_WORD, Header};
 use crate::limits::Limits;
 use crate::parts::{header, tail};
+use crate::piecewise::Pieces;
 use crate::reader::empty_circuit;
 use crate::section::{SECTIONS, missing_line, read_first_of_section, section_rows};
 use aig_core::Circuit;
@@ -170,26 +171,29 @@ impl AsciiReader {
         let used = lines.len() - at.rest.len();
         (AsciiReader::new(alloc, header, at.number), used)
     }
+}
 
-    /// Whether all lines of the sections were read.
-    pub fn is_done(&self) -> bool
-        ensures { IsTrue result ↔ (IsOk self.now.header × IsDone self.now.progress) }
-    {
+impl Pieces for AsciiReader {
+    ghost rest = { λ r bytes. rest_of r (lines_of bytes) };
+
+    ghost next_line = { λ r. r.number };
+
+    ghost is_valid = { λ r. IsValid r.header r.progress };
+
+    ghost has_all = { λ r. IsOk r.header × IsDone r.progress };
+
+    ghost leaves = { λ r bytes. IsDone r.progress ⊎ HasNoLineFeed bytes };
+
+    fn is_piece(came: &[u8]) -> bool {
+        let (lines, _) = ended_lines(came);
+        !lines.is_empty()
+    }
+
+    fn is_done(&self) -> bool {
         self.header.is_ok() && self.progress.is_done()
     }
 
-    /// Reads the whole lines of the bytes that come next, as far as the sections go on. Answers how
-    /// many bytes it took.
-    pub fn advance(&mut self, bytes: &[u8]) -> usize
-        requires counted { self.old.number + length bytes.now < 2 ^ 64 }
-        requires valid { IsValid self.old.header self.old.progress }
-        ensures on { (more : List ℕ) → ReadsOn (rest_of self.old (lines_of (bytes.now ++ more)))
-            (rest_of self.new (lines_of (drop result bytes.now ++ more))) }
-        ensures within { result ≤ length bytes.now }
-        ensures all { IsDone self.new.progress ⊎ HasNoLineFeed (drop result bytes.now) }
-        ensures number { self.new.number ≤ self.old.number + result }
-        ensures valid { IsValid self.new.header self.new.progress }
-    {
+    fn advance(&mut self, bytes: &[u8]) -> usize {
         let Ok(header) = self.header else {
             return bytes.len();
         };
@@ -203,15 +207,7 @@ impl AsciiReader {
         lines.len() - at.rest.len()
     }
 
-    /// The circuit that the lines tell of which the last bytes are these, and its comment too.
-    pub fn finish(self, alloc: Global, bytes: &[u8]) -> Result<Uncommented, Stopped>
-        requires counted { self.number + length bytes.now < 2 ^ 64 }
-        requires valid { IsValid self.header self.progress }
-        ensures read { GivesOrMemory
-            (λ x. with_last_comment bytes.now x.comment_len x.circuit) result
-            (rest_of self (lines_of bytes.now)) }
-        ensures within { IfOk result (λ x. HasRoomFor x.comment_len bytes.now) }
-    {
+    fn finish(self, alloc: Global, bytes: &[u8]) -> Result<Uncommented, Stopped> {
         let AsciiReader {
             header,
             progress,

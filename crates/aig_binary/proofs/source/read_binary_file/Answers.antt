@@ -2,7 +2,8 @@ use Rattle.std.proofs.Common.{◌∙◌, inr}
 use Rattle.std.proofs.lemmas.Result.{err_from_is_err_and}
 use Rattle.aig_io.proofs.Took.{some_later}
 use Rattle.aig_binary.specs.Begun.{rest_of}
-use Rattle.aig_binary.proofs.FileSource.{all_held, failed_by, is_file, is_ordered, is_refused, is_well_formed}
+use Rattle.aig_text.proofs.Sources.{failed_by}
+use Rattle.aig_binary.proofs.FileSource.{all_held, is_file, is_ordered, is_refused, is_well_formed}
 use Rattle.aig_binary.proofs.source.read_binary_file.Goals as goal
 
 pub returns-in_err-front : goal.returns-in_err-front

@@ -1,7 +1,8 @@
 use Rattle.std.proofs.Common.{◌∙◌, inr, sym}
 use Rattle.std.proofs.lemmas.Result.{err_from_is_err_and}
-use Rattle.aig_binary.specs.Sources.{AnswersFile}
-use Rattle.aig_binary.proofs.FileSource.{all_came, begun, checked, failed_by, in_form, refused, word_stays}
+use Rattle.aig_text.proofs.Sources.{all_came, failed_by}
+use Rattle.aig_binary.specs.File.{AnswersFile}
+use Rattle.aig_binary.proofs.FileSource.{begun, checked, in_form, refused, word_stays}
 use Rattle.aig_binary.proofs.source.read_source.Goals as goal
 
 pub returns-in_err-first : goal.returns-in_err-first

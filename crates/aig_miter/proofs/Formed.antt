@@ -1,0 +1,5 @@
+pub mod Gate
+pub mod Beside
+pub mod Compared
+pub mod Whole
+pub mod Starting

@@ -1,0 +1,5 @@
+pub mod Indexing
+pub mod Naming
+pub mod Found
+pub mod Taken
+pub mod Formed
