@@ -1,5 +1,4 @@
-# The rows of aigmiter, for the table of all.sh. What is wanted was worked out by hand from docs/FORMAT.md, "Miter of two
-# circuits".
+# The rows of aigmiter, for the table of all.sh. What is wanted was worked out by hand from docs/FORMAT.md, "Miter".
 
 # miters NAME FIRST SECOND TEXT WORD..: the miter of two circuits in ASCII; miters_to_binary: in binary
 miters() {
@@ -48,6 +47,7 @@ started='aag 1 0 1 1 0\n2 3 2\n2\n'
 rows_compared() {
     miters 'two inverters' "$inverter" "$inverter" "$inverters"
     miters_to_binary 'two inverters, to binary' "$inverter" "$inverter" "$inverters_binary"
+    miters 'an inverter and a wire' "$inverter" 'aag 1 1 0 1 0\n2\n2\n' 'aag 5 1 0 0 4 1\n2\n10\n4 2 1\n6 4 3\n8 5 2\n10 9 7\n'
     miters 'two inverters, the first in binary' 'aig 1 1 0 1 0\n3\n' "$inverter" "$inverters"
     miters 'two inverters, the second in binary' "$inverter" 'aig 1 1 0 1 0\n3\n' "$inverters"
     miters_to_binary 'two inverters, both in binary' 'aig 1 1 0 1 0\n3\n' 'aig 1 1 0 1 0\n3\n' "$inverters_binary"
@@ -361,7 +361,7 @@ rows_miter_words() {
     missing 'two circuits that are not there' none/x aigmiter none/x none/y none/z
     row 'a first circuit that is refused before a second that is not there' 'aag 0 0 0 0 0 0 0 0 1\n1\n' '' \
         'aiger: -: justice or fairness cannot be compared\n' 1 aigmiter - none/x
-    row 'the version where circuits are wanted' '' 'aiger 1.2.0\n' '' 0 aigmiter --version
+    row 'the version where circuits are wanted' '' 'aiger 1.3.0\n' '' 0 aigmiter --version
 }
 
 # What is written tells where the two differ.
