@@ -983,6 +983,7 @@ Commands:
   aigtoaig   Convert an AIGER file to binary or to ASCII
   aigsim     Simulate a circuit, step by step
   aigunroll  Unroll a circuit, write clauses, check refutations and invariants
+  aigmiter   Make one circuit of two, to show that they are equal
   help       Print this message or the help of the given subcommand(s)
 
 Options:
@@ -1025,7 +1026,7 @@ rows_words() {
     misused 'no option for the version' "unexpected argument '-v' found$usage" -v
     misused 'another subcommand' "unrecognized subcommand 'convert'$usage" convert --ascii
     misused 'a subcommand that is close to all of them' \
-        "unrecognized subcommand 'aigsom'\n\n  tip: some similar subcommands exist: 'aigunroll', 'aigtoaig', 'aigsim'$usage" aigsom x
+        "unrecognized subcommand 'aigsom'\n\n  tip: some similar subcommands exist: 'aigunroll', 'aigtoaig', 'aigmiter', 'aigsim'$usage" aigsom x
     local sim='\n\nUsage: aiger aigsim'
     local all="$sim [OPTIONS] <model> [stimulus]"
     misused 'no model' "the following required arguments were not provided:\n  <model>$sim <model> [stimulus]" aigsim

@@ -35,6 +35,7 @@ aigunroll --invariant - --frames 2
 aigunroll --invariant - --bad 0
 aigunroll --invariant - --cnf
 aigunroll --invariant - --refutation - model
+aigmiter - -
 aigtoaig --sync model
 aigtoaig \udcff""".split("\n")
 NO_FILES = {
