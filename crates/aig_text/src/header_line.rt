@@ -1,5 +1,5 @@
 //! The header line of a file.
-ghost use Rattle.std.specs.Prelude.{◌≡◌, ◌≤◌, Some, IfOk, length, nat_lt};
+ghost use Rattle.std.specs.Prelude.{◌≡◌, ◌+◌, ◌≤◌, Some, IfOk, length, nat_lt};
 ghost use Rattle.std.specs.List.{list_any, position_or_len};
 ghost use Rattle.aig_lines.specs.Lines.{line as line_of};
 ghost use Rattle.aig_text.specs.Begun.{IsLimited};

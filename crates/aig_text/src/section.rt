@@ -213,6 +213,7 @@ fn read_first_of_ascii(
 }
 
 /// Answers which rows are due then: none, or else no line is left.
+#[tactic(auto, using(crate::proofs::Loops::Latches::nothing_read))]
 pub(crate) fn read_first_of_section(
     alloc: Global,
     format: Format,

@@ -1,20 +1,22 @@
 -- Latches of a binary file: their lines tell their next states, and their places their variables.
 use Rattle.std.proofs.Common.{◌≡◌, ◌+◌, ◌<◌, ◌∷◌, ◌++◌, ◌∙◌, rules, ℕ, suc, List, [], map, take, length, get_or, refl, ap}
-use Rattle.std.proofs.Common.{ap₂, arith, sym}
+use Rattle.std.proofs.Common.{◌-◌, ap₂, append_assoc, arith, sym}
 use Rattle.std.proofs.lemmas.Grind.{common_steps}
-use Rattle.std.proofs.lemmas.List.{take_more, length-take-le}
+use Rattle.std.proofs.lemmas.List.{take_more, length-map, length-take-le}
 use Rattle.aig_circuit.specs.declared.circuit.Circuit.{Circuit}
 use Rattle.aig_circuit.specs.declared.circuit.Latch.{Latch}
 use Rattle.aig_circuit.proofs.Alike.{latch}
 use Rattle.aig_lines.specs.Lines.{Ahead}
 use Rattle.aig_rows.specs.Begun.{HaveRead}
-use Rattle.aig_rows.specs.Rows.{next_form, next_of}
+use Rattle.aig_rows.specs.Rows.{literal_form, next_form, next_of}
+use Rattle.aig_rows.proofs.Loops.FirstRows.{none_yet}
 use Rattle.aig_rows.specs.declared.row.NextState.{NextState}
 use Rattle.aig_rows.specs.declared.rows.Due.{Due}
 use Rattle.aig_text.specs.Begun.{HaveReadOf}
 use Rattle.aig_text.specs.Parts.NextStates.{latches_by}
-use Rattle.aig_text.specs.Sections.{Header, in_binary, latches_from, variable_after}
+use Rattle.aig_text.specs.Sections.{Header, in_binary, latches_from, no_lines, variable_after}
 use Rattle.aig_text.specs.declared.section.Section.TheVariants.{Latches}
+use Rattle.aig_text.proofs.Loops.Sections.{rows_count}
 
 pub no_latches : (v : ℕ) → latches_by v [] ≡ []
 unfolding latches_by
@@ -59,3 +61,25 @@ latches_read h due left c d at now nexts variable r is v = record {
       (ap₂ latches_by (v ∙ variable_is (1 + h.inputs) c.latches) r.meant
       ∙ latches_of_rows (variable_after (1 + h.inputs) c.latches) r.rows);
 }
+
+-- no more than are due
+pub latches_count : (bound : ℕ) (due left : Due) (at now : Ahead) (nexts : List NextState)
+    → HaveRead next_of next_form bound due left [] nexts at now → length nexts + left.count ≡ due.count
+latches_count bound due left at now nexts r =
+    let n = rows_count next_form bound due.carried (due.count - left.count) at now r.rows r.first.read in
+    omega (arith, n, ap length r.meant, length-map r.rows next_of, r.first.fewer)
+
+-- one more
+pub latches_pushed : (before ls now : List Latch) (v i var : ℕ) (n d : NextState) (ns : List NextState)
+    → i < length ns → ls ≡ before ++ latches_by v (take i ns) → var ≡ v + i → n ≡ get_or ns i d
+    → now ≡ ls ++ with_next var n ∷ [] → now ≡ before ++ latches_by v (take (i + 1) ns)
+latches_pushed before ls now v i var n d ns h l at item is =
+    is ∙ ap (λ (xs : List Latch). xs ++ with_next var n ∷ []) l
+    ∙ append_assoc before (latches_by v (take i ns)) (with_next var n ∷ [])
+    ∙ ap (λ (xs : List Latch). before ++ xs)
+    (ap₂ (λ (k : ℕ) (m : NextState). latches_by v (take i ns) ++ with_next k m ∷ []) at item
+    ∙ sym (latches_more v i d ns h))
+
+-- where a section has no lines
+pub nothing_read : (h : Header) (due : Due) (c : Circuit) (at : Ahead) → HaveReadOf no_lines h due due c c at at
+nothing_read h due c at = record { rows = []; first = none_yet literal_form 0 due at; circuit = refl }

@@ -87,7 +87,7 @@ as_many variable [] = refl
 as_many variable (ns ∷ rows) = ap suc (as_many (suc variable) rows)
 
 -- so many rows are read
-rows_count : (form : Form) (bound carried count : ℕ) (at after : Ahead) (rows : List (List ℕ))
+pub rows_count : (form : Form) (bound carried count : ℕ) (at after : Ahead) (rows : List (List ℕ))
     → rows_at form bound carried count at ≡ Ok (rows, after)
     → length rows ≡ count
 unfolding rows_at

@@ -174,8 +174,8 @@ module _ {head : Ahead → Found Header} {whole : List Line → Result Circuit S
         → ahead number (lines_of left) ≡ now → GivesOrFails (λ (h : Header). (h, now)) r (head from)
         → IsBehind from now → Begins whole follow lines left number r
     begins lines left number r from now some ended at to found behind =
-        let found = rw (to, ← at) at found in
-        let behind = rw (to, ← at) at behind in
+        let found = rw (at, ← to) at found in
+        let behind = rw (at, ← to) at behind in
         let t =
         taken lines lines [] left 1 number (length lines - length left) (sym (append-nil lines)) ended behind refl in
         record {
