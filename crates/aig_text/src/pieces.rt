@@ -1,6 +1,6 @@
 //! The numbered lines of a file whose bytes come in pieces, and an ASCII file whose bytes do.
 ghost use Rattle.std.specs.Prelude.{◌≡◌, ◌+◌, ◌^◌, ◌<◌, ◌≤◌, ◌++◌, ◌⊎◌};
-ghost use Rattle.std.specs.Prelude.{List, ℕ, Err, IfErr, IfOk, OnOk};
+ghost use Rattle.std.specs.Prelude.{List, [], ℕ, Err, IfErr, IfOk, MatchResult, Ok, OnOk};
 ghost use Rattle.std.specs.Prelude.{drop, length};
 ghost use Rattle.std.specs.Prelude.{IsTrue, ◌↔◌};
 ghost use Rattle.aig_fault.specs.declared.stopped.Stopped.TheVariants.{OutOfMemory};
@@ -188,6 +188,8 @@ impl LineReader {
         ensures on { (more : List ℕ) → ReadsOn (numbered_of self.old (lines_of (bytes.now ++ more)))
             (numbered_of self.new (lines_of (drop result bytes.now ++ more))) }
         ensures within { result ≤ length bytes.now }
+        ensures header { MatchResult self.new.header (λ h. self.old.header ≡ Ok h)
+            (λ _. drop result bytes.now ≡ []) }
         ensures all { IsDone self.new.progress ⊎ HasNoLineFeed (drop result bytes.now) }
         ensures number { self.new.number ≤ self.old.number + result }
         ensures valid { IsValid self.new.header self.new.progress }

@@ -288,7 +288,6 @@ module _ (h : Header) where
   nothing_more : (at : Ahead) → with_lines at [] ≡ at
   nothing_more at = ap (ahead at.number) (append-nil at.lines)
 
-
   -- all sections
   pub alone_wrong : (p : Progress) (at : Ahead) (e : Stopped)
       → (e ≡ OutOfMemory) ⊎ ((more : List Line) → sections_from h p (with_lines at more) ≡ Err e)
