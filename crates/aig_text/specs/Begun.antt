@@ -11,7 +11,7 @@ use Rattle.aig_lines.specs.Lines.{Line, Ahead, ahead, lines_of}
 use Rattle.aig_rows.specs.Reading.{◌>>=◌, Found, rows_at}
 use Rattle.aig_rows.specs.declared.rows.Due.{Due}
 use Rattle.aig_rows.specs.Begun.{AreFirst}
-use Rattle.aig_text.specs.declared.section.Format.TheVariants.{Ascii, Binary}
+use Rattle.aig_text.specs.declared.section.Format.TheVariants.{Binary}
 use Rattle.aig_text.specs.declared.section.Section.TheVariants.{Inputs, Latches, JusticeSizes, Gates}
 use Rattle.aig_text.specs.declared.pieces.AsciiReader.{AsciiReader}
 use Rattle.aig_text.specs.declared.pieces.LineReader.{LineReader}

@@ -2,7 +2,7 @@ use Rattle.std.proofs.Common.{◌∙◌, ap}
 use Rattle.aig_circuit.specs.declared.circuit.Circuit.{Circuit}
 use Rattle.aig_text.specs.Sections.{listed_in, sections}
 use Rattle.aig_text.specs.Reading.{sections_at}
-use Rattle.aig_text.proofs.Loops.Sections.{all_begins, first_room}
+use Rattle.aig_text.proofs.Loops.Sections.{all_begins}
 use Rattle.aig_text.proofs.pieces.Progress.new.Goals as goal
 
 pub returns-clause-from : goal.returns-clause-from
