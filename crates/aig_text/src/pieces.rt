@@ -215,20 +215,11 @@ impl LineReader {
         ensures limited { IfOk result (λ x. IsLimited x.0) }
         ensures behind { OnOk result (IsBehind at.old at.new) }
     {
-        let LineReader {
-            header,
-            progress,
-            ..
-        } = self;
-        let header = match header {
-            Ok(header) => header,
-            Err(fault) => {
-                drop(progress); // for the proof
-                return Err(fault);
-            }
-        };
-        match progress.finish(alloc, &header, at) {
-            Ok(circuit) => Ok((header, circuit)),
+        match self.header {
+            Ok(header) => match self.progress.finish(alloc, &header, at) {
+                Ok(circuit) => Ok((header, circuit)),
+                Err(fault) => Err(fault),
+            },
             Err(fault) => Err(fault),
         }
     }
