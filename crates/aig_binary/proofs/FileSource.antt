@@ -47,7 +47,7 @@ passed tell s bytes lines rest held used cut within on is more =
 -- these first bytes begin no binary file, and the reader and the bytes that are held tell the same as they
 pub record IsBegun (limit : ℕ) (first held : List ℕ) (r : AsciiReader) : Type 0 where
   pub other : (more : List ℕ) → first_word_is binary_word (lines_of (first ++ more)) ≡ false
-  pub told : (more : List ℕ) → circuit_at limit (lines_of (first ++ more)) ≡ rest_of r (lines_of (held ++ more))
+  pub told : (more : List ℕ) → circuit_at limit (lines_of (first ++ more)) ≡ rest_of r (held ++ more)
 
 same_word : (word : List ℕ) (ls more : List Line) → ls ≢ [] → first_word_is word (ls ++ more) ≡ first_word_is word ls
 same_word word [] more some = absurd (some refl)
@@ -66,7 +66,7 @@ pub begun : (limit : ℕ) (first lines rest : List ℕ) (used : ℕ) (r : AsciiR
     → bytes ≡ lines ++ rest → AreEnded (lines_of lines) → {empty : Bool} → empty ≡ eqb (length lines) 0
     → empty ≡ false → {word : Bool} → word ≡ first_word_is binary_word (lines_of lines) → word ≡ false
     → used ≤ length lines
-    → ((more : List ℕ) → circuit_at limit (lines_of (lines ++ more)) ≡ rest_of r (lines_of (drop used lines ++ more)))
+    → ((more : List ℕ) → circuit_at limit (lines_of (lines ++ more)) ≡ rest_of r (drop used lines ++ more))
     → {held : List ℕ} → held ≡ drop used first → IsBegun limit first held r
 begun limit first lines rest used r all cut ended is_empty some is_word other within on {held} is =
     let parts = sym all ∙ cut in
@@ -74,13 +74,13 @@ begun limit first lines rest used r all cut ended is_empty some is_word other wi
       other = λ more.
           word_stays first lines rest more parts ended (sym is_empty ∙ some) ∙ sym is_word ∙ other;
       told =
-          passed (λ bytes. circuit_at limit (lines_of bytes)) (λ bytes. rest_of r (lines_of bytes)) first lines rest
-          held used parts within on is;
+          passed (λ bytes. circuit_at limit (lines_of bytes)) (rest_of r) first lines rest held used parts within on
+          is;
     }
 
 module _ {limit : ℕ} {first held : List ℕ} {r : AsciiReader} (begin : IsBegun limit first held r) where
   abbrev tell : List ℕ → Result Circuit Stopped
-  tell bytes = rest_of r (lines_of bytes)
+  tell = rest_of r
 
   ascii_reading : (more : List ℕ) → file_reading limit (first ++ more) ≡ reading limit (first ++ more)
   ascii_reading more = rw (begin.other more) refl
@@ -118,17 +118,17 @@ module _ {limit : ℕ} {first held : List ℕ} {r : AsciiReader} (begin : IsBegu
         rw (ascii_reading h.bytes) (ascii_line_fault limit (first ++ h.bytes) e (rw (begin.told h.bytes) h.holds));
   })
 
--- the front was read of the whole lines of what came
-pub front_read : (tell s : List ℕ → Result Circuit Stopped) (u v lines rest held : List ℕ) (used : ℕ) (a b : History)
-    → Filled u v true a b → v ≡ lines ++ rest → used ≤ length lines
-    → ((more : List ℕ) → tell (lines ++ more) ≡ s (drop used lines ++ more)) → held ≡ drop used v
-    → ReadsFrom tell s u held true a b
-front_read tell s u v lines rest held used a b f cut within on is = record {
-  given = f.given;
-  gave = f.gave;
+-- the header line was read of the whole lines of what came
+pub header_read : (tell s : List ℕ → Result Circuit Stopped) (first lines rest held : List ℕ) (used : ℕ) (a : History)
+    → first ≡ lines ++ rest → used ≤ length lines
+    → ((more : List ℕ) → tell (lines ++ more) ≡ s (drop used lines ++ more)) → held ≡ drop used first
+    → ReadsFrom tell s first held true a a
+header_read tell s first lines rest held used a cut within on is = record {
+  given = [];
+  gave = took_none a;
   on = λ others.
-      inr (ap (λ (bytes : List ℕ). tell (bytes ++ others)) (sym f.held)
-      ∙ passed tell s v lines rest held used cut within on is others);
+      inr (ap (λ (bytes : List ℕ). tell (bytes ++ others)) (append-nil first)
+      ∙ passed tell s first lines rest held used cut within on is others);
 }
 
 module _ (limit : ℕ) (first held : List ℕ) (s : List ℕ → Result Circuit Stopped) (a b : History)
@@ -164,10 +164,3 @@ module _ (limit : ℕ) (first held : List ℕ) (s : List ℕ → Result Circuit 
           gave = gave_then true first w.bytes before a d came w.gave;
           holds = rw (word w.bytes) (line_fault limit (first ++ w.bytes) e w.holds);
         })
-
--- what is held is what a source gave
-pub all_held : (first held : List ℕ) (more : Bool) (before a b : History) → a ≡ took first before
-    → Filled first held more a b → b ≡ gave held (not more) before
-all_held first held more before a b came f =
-    gave_then (not more) first f.given before a b came f.gave
-    ∙ ap (λ (bytes : List ℕ). gave bytes (not more) before) (sym f.held)

@@ -14,6 +14,7 @@ ghost use Rattle.aig_text.specs.Sources.{ComesOn, NotAllCame, ReadsAs, ReadsFrom
 use crate::comment::Uncommented;
 use aig_core::{Circuit, ReadError, Source, Window, read_to_end};
 use aig_fault::Stopped;
+use aig_lines::ended_lines;
 use std::alloc::Global;
 
 /// A reader that takes the bytes of a file piece by piece.
@@ -33,14 +34,14 @@ pub trait Pieces: Drop {
     /// It takes none of these bytes.
     ghost leaves: { Self → List ℕ → Type 0 };
 
-    /// Whether it is worth while to look at all that is held once these bytes came.
-    fn is_piece(came: &[u8]) -> bool;
+    /// Whether it takes whole lines alone of the bytes that come next.
+    fn takes_lines(&self) -> bool;
 
     fn is_done(&self) -> bool
         ensures { IsTrue result ↔ has_all self.now };
 
     /// Reads what the bytes that come next tell. Answers how many it took.
-    fn advance(&mut self, bytes: &[u8]) -> usize
+    fn advance(&mut self, alloc: Global, bytes: &[u8]) -> usize
         requires counted { next_line self.old + length bytes.now < 2 ^ 64 }
         requires valid { is_valid self.old }
         ensures on { (more : List ℕ) → ReadsOn (rest self.old (bytes.now ++ more))
@@ -59,15 +60,15 @@ pub trait Pieces: Drop {
         ensures within { IfOk result (λ x. HasRoomFor x.comment_len bytes.now) };
 }
 
-/// Answers whether the source goes on.
-pub fn fetch_piece<R: Source, P: Pieces>(
+/// Fetches bytes, and more of them until a line has ended where whole lines are wanted. Answers
+/// whether the source goes on.
+pub fn fetch_piece<R: Source>(
     source: &mut R,
     window: &mut Window,
-    least: usize,
+    whole_lines: bool,
 ) -> Result<bool, ReadError>
     ensures ok { IfOk result (λ more. Filled window.old window.new more (R.history source.old)
         (R.history source.new)) }
-    ensures least { IfOk result (λ more. IsTrue more → least ≤ length window.new) }
     ensures bound { OnOk result (R.bound source.new + length window.new
         ≡ R.bound source.old + length window.old) }
     ensures fewer { IfOk result (λ more. IsTrue more → R.bound source.new < R.bound source.old) }
@@ -80,7 +81,8 @@ pub fn fetch_piece<R: Source, P: Pieces>(
             return Ok(false);
         }
         let (_, came) = window.as_slice().split_at(held);
-        if P::is_piece(came) && window.as_slice().len() >= least {
+        let (lines, _) = ended_lines(came);
+        if !whole_lines || !lines.is_empty() {
             return Ok(true);
         }
     }
@@ -106,6 +108,7 @@ pub fn fetch_all<R: Source>(
 
 /// Answers whether the source goes on.
 fn read_pieces<R: Source, P: Pieces>(
+    alloc: Global,
     source: &mut R,
     window: &mut Window,
     reader: &mut P,
@@ -122,9 +125,10 @@ fn read_pieces<R: Source, P: Pieces>(
 {
     let mut more = true;
     while more && !reader.is_done() {
-        let used = reader.advance(window.as_slice());
+        let used = reader.advance(alloc, window.as_slice());
         window.pass(used);
-        more = fetch_piece::<R, P>(source, window, 0)?;
+        let whole_lines = reader.takes_lines();
+        more = fetch_piece(source, window, whole_lines)?;
     }
     Ok(more)
 }
@@ -155,7 +159,7 @@ pub fn read_rest<R: Source, P: Pieces>(
 {
     let mut reader = reader;
     let mut window = window;
-    let more = read_pieces(source, &mut window, &mut reader)?;
+    let more = read_pieces(alloc, source, &mut window, &mut reader)?;
     let bytes = fetch_all(source, window, more)?;
     finish_with(alloc, reader, bytes)
 }

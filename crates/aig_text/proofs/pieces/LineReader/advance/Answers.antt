@@ -1,6 +1,6 @@
 use Rattle.std.proofs.Common.{inr}
 use Rattle.aig_text.proofs.Loops.Text.{advances, all_taken, wrong_on}
-use Rattle.aig_text.proofs.pieces.AsciiReaderPieces.advance.Goals as goal
+use Rattle.aig_text.proofs.pieces.LineReader.advance.Goals as goal
 
 pub returns-in-Err-clause-on : goal.returns-in-Err-clause-on
 returns-in-Err-clause-on c = λ more.
