@@ -27,11 +27,22 @@ module _ (w : Layout) where
   abbrev point_of : List (List ℕ) → Point
   point_of ls = fold (behind_line w) (begin_of w) ls
 
--- a line without its last character
-pub some_last : (room line : List ℕ) (end : ℕ) → take end room ≡ line ++ 10 ∷ [] → 0 < end
-some_last room line zero is = absurd (omega (arith, ap length is, length-append line (10 ∷ [])))
-some_last room line (suc n) is = omega arith
+-- what is put at the end
+abbrev pub ending : Bool → Taping → List ℕ
+ending done t = if done then head_at t.layout t.point.time ++ time_text t.point.time else []
 
+ended_text : (w : Layout) (text : List ℕ) (done : Bool)
+    → dump w (frames_of w text) false ++ ending done (record { layout = w; point = point_of w (cut text).lines })
+    ≡ dump w (frames_of w text) done
+ended_text w text false = append-nil (dump w (frames_of w text) false)
+ended_text w text true =
+    ap (λ (ls : List (List ℕ)). of_lines w (whole_lines text)
+    ++ (head_at w (point_of w ls).time ++ time_text (point_of w ls).time)) (sym (whole_lines_are text))
+    ∙ ap (λ (p : Point). of_lines w (whole_lines text) ++ (head_at w p.time ++ time_text p.time))
+    (after_framed w (whole_lines text))
+    ∙ sym (dump_done w (framed_lines w (whole_lines text)))
+
+-- a line without its last character
 without_last : (room line : List ℕ) (end : ℕ) → end ≤ length room → take end room ≡ line ++ 10 ∷ []
     → take (end - 1) room ≡ line
 without_last room line end within is =
@@ -90,16 +101,16 @@ module _ {W : Type 0} where
       (took_line a b line.0 line.1 (rw front at state) (rw front at put))
 
   -- nothing was taken yet
-  pub dumps_nothing : (s : WaveTaker W)
-      → s.dump_state ≡ record { layout = s.dump_state.layout; point = begin_of s.dump_state.layout } → Dumps s s []
+  pub dumps_nothing : (w : Layout) (s : WaveTaker W) → s.dump_state ≡ record { layout = w; point = begin_of w }
+      → Dumps s s []
   unfolding most_frames
-  dumps_nothing s state =
-      let w = s.dump_state.layout in
-      record {
-        dump_state = state;
-        whole = refl;
-        put = subst (Appended s.output s.output) (ap (of_lines w) (sym (whole_lines_are []))) (put_nothing s.output);
-      }
+  dumps_nothing w s state = record {
+    dump_state = state
+        ∙ ap (λ (v : Layout). record { layout = v; point = begin_of v }) (sym (ap (λ (t : Taping). t.layout) state));
+    whole = refl;
+    put = subst (Appended s.output s.output) (ap (of_lines s.dump_state.layout) (sym (whole_lines_are [])))
+        (put_nothing s.output);
+  }
 
   -- what is put without more of the text
   pub took_still : (a b : WaveTaker W) → b.dump_state ≡ a.dump_state → Appended a.output b.output [] → Took Dumps a b []
@@ -112,21 +123,6 @@ module _ {W : Type 0} where
           put = subst (Appended from.output b.output) (append-nil _) (put_twice _ _ _ _ _ d.put put);
         });
   }
-
-  -- what is put at the end
-  abbrev pub ending : Bool → Taping → List ℕ
-  ending done t = if done then head_at t.layout t.point.time ++ time_text t.point.time else []
-
-  ended_text : (w : Layout) (text : List ℕ) (done : Bool)
-      → dump w (frames_of w text) false ++ ending done (record { layout = w; point = point_of w (cut text).lines })
-      ≡ dump w (frames_of w text) done
-  ended_text w text false = append-nil (dump w (frames_of w text) false)
-  ended_text w text true =
-      ap (λ (ls : List (List ℕ)). of_lines w (whole_lines text)
-      ++ (head_at w (point_of w ls).time ++ time_text (point_of w ls).time)) (sym (whole_lines_are text))
-      ∙ ap (λ (p : Point). of_lines w (whole_lines text) ++ (head_at w p.time ++ time_text p.time))
-      (after_framed w (whole_lines text))
-      ∙ sym (dump_done w (framed_lines w (whole_lines text)))
 
   pub dumps_end : (from a : WaveTaker W) (b c : Out W) (text : List ℕ) (done : Bool) → Dumps from a text
       → Appended a.output b (ending done a.dump_state) → Appended b c []

@@ -1,5 +1,5 @@
 //! What takes the lines of a trace, and sends the dump of it.
-ghost use Rattle.std.specs.Prelude.{◌≡◌, List, [], ℕ, is_err, true};
+ghost use Rattle.std.specs.Prelude.{◌≡◌, List, [], ℕ, false, is_err, true};
 ghost use Rattle.aig_io.specs.Output.{Appended, output_to};
 ghost use Rattle.aig_wave.specs.declared.wave.WaveTaker.{WaveTaker as WaveTakerRecord};
 ghost use Rattle.aig_wave.specs.Dumping.{Dumps};
