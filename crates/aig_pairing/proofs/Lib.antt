@@ -5,3 +5,4 @@ pub mod Taken
 pub mod Formed
 pub mod Ordered
 pub mod OrderedRows
+pub mod OfSymbols

@@ -1,6 +1,9 @@
 -- What it means that a circuit is ordered by the names of another.
-use Rattle.std.specs.Prelude.{◌≡◌, ◌↔◌, ◌++◌, ◌<◌, ℕ, List, None, Ok, get_or, length, map, slice_get}
+use Rattle.std.specs.Prelude.{◌≡◌, ◌↔◌, ◌++◌, ◌<◌, ℕ, List, None, Ok, Some, get_or, length, map, slice_get}
+use Rattle.std.specs.List.{Contains}
 use Rattle.aig_circuit.specs.declared.circuit.Circuit.{Circuit}
+use Rattle.aig_circuit.specs.declared.circuit.Kind.{Kind}
+use Rattle.aig_circuit.specs.declared.circuit.Kind.TheVariants as kinds
 use Rattle.aig_circuit.specs.declared.value.Val.{Val}
 use Rattle.aig_circuit.specs.Wellformed.{IsWellFormed}
 use Rattle.aig_meaning.specs.Meaning.{IsRow, Row}
@@ -8,6 +11,17 @@ use Rattle.aig_meaning.specs.Trace.{IsTrace}
 use Rattle.aig_pairing.specs.ByNames.{bad_names, by_names, in_order_of, output_names, value_named}
 use Rattle.aig_pairing.specs.NameFaults.{first_name_fault}
 use Rattle.aig_pairing.specs.Names.{Name, compared, compared_names, input_names}
+
+-- a symbol gives this name to what stands at this position among its kind
+abbrev pub GivesName : Circuit → Kind → ℕ → List ℕ → Type 0
+GivesName c kind position name = Contains c.symbols (record { kind = kind; position = position; name = name })
+
+-- the names of a well-formed circuit are those that its symbols give
+abbrev pub NamesAreOfSymbols : Type 0
+NamesAreOfSymbols = (c : Circuit) → IsWellFormed c → (position : ℕ) (name : List ℕ)
+    → ((get_or (input_names c) position None ≡ Some name) ↔ GivesName c kinds.Input position name)
+    × ((get_or (output_names c) position None ≡ Some name) ↔ GivesName c kinds.Output position name)
+    × ((get_or (bad_names c) position None ≡ Some name) ↔ GivesName c kinds.Bad position name)
 
 -- well-formed circuits, of which the first has right names, and the second in its order
 pub record AreOrdered (a b c : Circuit) : Type 0 where

@@ -1,6 +1,11 @@
 //! Laws: facts about the definitions alone, each the contract of a function with an empty body.
-ghost use Rattle.aig_pairing.specs.Laws.{OrderedIsWellFormed, RowsAreOrdered, RowsStandByName};
-ghost use Rattle.aig_pairing.specs.Laws.{TracesAreOrdered, ValuesStandByName};
+ghost use Rattle.aig_pairing.specs.Laws.{NamesAreOfSymbols, OrderedIsWellFormed, RowsAreOrdered};
+ghost use Rattle.aig_pairing.specs.Laws.{RowsStandByName, TracesAreOrdered, ValuesStandByName};
+
+/// The names of a well-formed circuit are those that its symbols give.
+pub fn names_are_of_symbols()
+    ensures { NamesAreOfSymbols }
+{}
 
 /// A well-formed circuit that is ordered by names is well formed.
 pub fn ordered_is_well_formed()
