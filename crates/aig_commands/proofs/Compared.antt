@@ -5,14 +5,14 @@ use Rattle.aig_circuit.specs.declared.circuit.Circuit.{Circuit}
 use Rattle.aig_circuit.specs.declared.circuit.TheConstants.{LARGEST}
 use Rattle.aig_circuit.specs.Wellformed.{IsWellFormed}
 use Rattle.aig_command.specs.declared.request.Miter.{Miter}
-use Rattle.aig_equal.specs.Laws.{AreAlike, AreAlikeFor, IsUnreachedFor}
-use Rattle.aig_equal.proofs.Alike.{alike_exactly_where_unreached}
+use Rattle.aig_equal.specs.Alike.{AreAlikeFor, IsUnreachedFor}
+use Rattle.aig_equal.proofs.Whole.{alike_exactly_where_unreached}
 use Rattle.aig_invariant.specs.Invariant.{with_invariant}
 use Rattle.aig_invariant.specs.Outcome.{HasCubes}
 use Rattle.aig_meaning.specs.Meaning.{MeansTheSame}
 use Rattle.aig_meaning.proofs.Traces.{same_back}
 use Rattle.aig_miter.specs.Laws.{IsMiterOf}
-use Rattle.aig_miter.proofs.Formed.{miter_is_well_formed}
+use Rattle.aig_miter.proofs.Whole.{miter_is_well_formed}
 use Rattle.aig_pairing.specs.NameFaults.{first_name_fault}
 use Rattle.aig_pairing.proofs.Ordered.{ordered_is_well_formed}
 use Rattle.aig_replay.specs.Laws.{IsOfSelected}

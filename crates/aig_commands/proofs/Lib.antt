@@ -21,4 +21,5 @@ pub mod Texts
 pub mod Dumps
 pub mod WitnessDumps
 pub mod Outcomes
+pub mod Comparings
 pub mod Compared

@@ -6,7 +6,7 @@ use Rattle.aig_command.specs.declared.request.Invariant.{Invariant}
 use Rattle.aig_command.specs.declared.request.Miter.{Miter}
 use Rattle.aig_command.specs.declared.request.Reach.{Reach}
 use Rattle.aig_command.specs.declared.request.Sim.{Sim}
-use Rattle.aig_equal.specs.Laws.{AreAlike, AreAlikeFor}
+use Rattle.aig_equal.specs.Alike.{AreAlike, AreAlikeFor}
 use Rattle.aig_meaning.specs.Meaning.{MeansTheSame}
 use Rattle.aig_witness.specs.declared.verdict.Verdict.TheVariants.{Confirmed}
 use Rattle.aig_commands.specs.Comparing.{IsFirst, IsMiterText}

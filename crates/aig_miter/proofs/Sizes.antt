@@ -95,7 +95,7 @@ pub moved_resets : (h : ℕ → ℕ) (ls : List Latch)
 moved_resets h [] = refl
 moved_resets h (l ∷ ls) = ap (λ (xs : List Reset). l.reset ∷ xs) (moved_resets h ls)
 
-free_as_many : {S T : Type 0} (rs : List Reset) (xs : List S) (ys : List T) → length xs ≡ length ys
+pub free_as_many : {S T : Type 0} (rs : List Reset) (xs : List S) (ys : List T) → length xs ≡ length ys
     → length (free_only rs xs) ≡ length (free_only rs ys)
 free_as_many [] xs ys e = refl
 free_as_many (r ∷ rs) [] [] e = refl

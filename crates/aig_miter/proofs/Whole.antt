@@ -88,11 +88,11 @@ pair_without_fault a b none =
       constraints = ltb-false LARGEST (length (miter a b).constraints) few.third;
     }
 
-record IsMade (fault : Option Kind) (x m : Circuit) : Type 0 where
+pub record IsMade (fault : Option Kind) (x m : Circuit) : Type 0 where
   pub faultless : fault ≡ None
   pub same : x ≡ m
 
-made_means : (fault : Option Kind) (x m : Circuit) → made_unless fault x ≡ Ok m → IsMade fault x m
+pub made_means : (fault : Option Kind) (x m : Circuit) → made_unless fault x ≡ Ok m → IsMade fault x m
 made_means None x m made = record { faultless = refl; same = cc }
 made_means (Some kind) x m made = absurd (cc)
 

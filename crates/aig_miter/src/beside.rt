@@ -27,7 +27,6 @@ fn make_room(
     comparing: usize,
     gates: &mut Listing<Gate>,
 ) -> Result<(), AllocError>
-    requires comparing { comparing ≤ largest }
     ensures { OnOk result (gates.new ≡ gates.old) }
 {
     let more = second.inputs.len().saturating_add(second.gates.len());

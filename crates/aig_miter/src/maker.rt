@@ -1,5 +1,6 @@
 //! The miter of two circuits.
-ghost use Rattle.std.specs.Prelude.{◌≡◌, ◌+◌, ◌*◌, ◌≤◌, length, min, IfOk, OnOk};
+ghost use Rattle.std.specs.Prelude.{◌≡◌, ◌+◌, ◌*◌, ◌≤◌, length, min, IfErr, IfOk, Ok, OnOk};
+ghost use Rattle.aig_fault.specs.declared.stopped.Stopped.TheVariants.{OutOfMemory};
 ghost use Rattle.std.specs.List.{All};
 ghost use Rattle.aig_circuit.specs.declared.circuit.Latch.{Latch as LatchRecord};
 ghost use Rattle.aig_circuit.specs.declared.circuit.TheConstants.{LARGEST as largest};
@@ -97,7 +98,9 @@ fn join_pair(alloc: Global, first: Circuit, second: Circuit) -> Result<Circuit, 
 /// before any memory is taken.
 pub fn miter(alloc: Global, first: Checked, second: Checked) -> Result<Checked, Stopped>
     requires comparable { IsComparable first }
-    ensures { GivesOrMemory (λ m. m) result (miter_of first second) }
+    ensures answer { GivesOrMemory (λ m. m) result (miter_of first second) }
+    ensures memory { IfErr result (λ stopped. stopped ≡ OutOfMemory
+        → miter_of first second ≡ Ok (miter first second)) }
 {
     if let Some(kind) = find_pair_fault(first.circuit(), second.circuit()) {
         drop(first); // for the proof

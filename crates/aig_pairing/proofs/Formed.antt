@@ -1,16 +1,14 @@
 -- A circuit in the order in which another one names its inputs and what is compared is well formed.
-use Rattle.std.proofs.Common.{◌≡◌, ◌≤◌, ◌∙◌, ◌++◌, ◌∷◌, ◌⊎◌, ℕ, List, [], None, Option, Some, Ok, arith, append_assoc}
-use Rattle.std.proofs.Common.{length, length-append, length-drop, length-take, map, refl, sym, ap, subst, take, drop, inl, inr, ⊎_elim}
+use Rattle.std.proofs.Common.{◌≡◌, ◌≤◌, ◌++◌, ◌∷◌, ℕ, List, [], None, arith}
+use Rattle.std.proofs.Common.{length, length-append, length-drop, length-take, map, refl, sym, inl, inr, ⊎_elim}
 use Rattle.std.specs.List.{AllByRecursion, concat, flat_map}
-use Rattle.std.specs.Option.{option_or}
 use Rattle.aig_circuit.specs.declared.circuit.Circuit.{Circuit}
 use Rattle.aig_circuit.specs.declared.circuit.Gate.{Gate}
 use Rattle.aig_circuit.specs.declared.circuit.Latch.{Latch}
 use Rattle.aig_circuit.specs.Literal.{variable_of}
 use Rattle.aig_circuit.specs.Wellformed.{AreDistinct, IsAmong, IsKnown, IsVariableUpTo, IsWellFormed, IsWithinLimits}
-use Rattle.aig_circuit.specs.Wellformed.{defined_variables, largest_index, literal_lists, operands}
+use Rattle.aig_circuit.specs.Wellformed.{defined_variables, operands}
 use Rattle.aig_circuit.proofs.Checking.{all_weaker, back, each, front, joined}
-use Rattle.aig_fault.specs.declared.fault.Fault.{Fault}
 use Rattle.aig_meaning.proofs.Related.{distinct_apart, distinct_front}
 use Rattle.aig_topo.proofs.Ordering.Counted.{among_either, among_first}
 use Rattle.aig_topo.proofs.Ordering.Cyclic.{among_last}
@@ -176,7 +174,8 @@ module _ (a b : Circuit) (good : IsWellFormed a) (own : IsWellFormed b) (can : C
   pub ordered_is_formed : IsWellFormed (in_order a b)
   ordered_is_formed = record {
     limits = limits;
-    in_range = all_swapped (inputs ++ latches) (b.inputs ++ latches) gates latch_was (IsVariableUpTo b.max_var) own.in_range;
+    in_range = all_swapped (inputs ++ latches) (b.inputs ++ latches) gates latch_was (IsVariableUpTo b.max_var)
+        own.in_range;
     once = once;
     known = known;
     symbols = record { positions = tt; apart = tt; lines = tt };

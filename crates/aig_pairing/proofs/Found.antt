@@ -1,17 +1,15 @@
 -- Names that are right, and where they are found.
-use Rattle.std.proofs.Common.{◌≡◌, ◌+◌, ◌<◌, ◌∙◌, ◌++◌, ◌∷◌, ◌≢◌, ℕ, Bool, List, [], None, Option, Some, true, false, arith, cond}
-use Rattle.std.proofs.Common.{length, refl, sym, ap, get_or, append_assoc, suc, zero, is_some, length-append, if◌then◌else◌}
+use Rattle.std.proofs.Common.{◌≡◌, ◌+◌, ◌<◌, ◌∙◌, ◌++◌, ◌∷◌, ℕ, Bool, List, [], None, Option, Some, true, false}
+use Rattle.std.proofs.Common.{ap, append_assoc, arith, cond, get_or, if◌then◌else◌, is_some, length, length-append}
+use Rattle.std.proofs.Common.{refl, suc, sym, zero}
 use Rattle.std.specs.Cmp.Lexicographic.{bytes_decides, nat_list_eq_equiv}
 use Rattle.std.specs.List.{position, position_from}
 use Rattle.std.specs.Option.{option_map, option_or}
 use Rattle.std.proofs.lemmas.Iterator.Adapters.{position_from-zero}
 use Rattle.std.proofs.lemmas.List.Quantifiers.{position-Some}
-use Rattle.aig_fault.specs.Stopping.{fault_at}
 use Rattle.aig_fault.specs.declared.fault.Fault.{Fault}
-use Rattle.aig_fault.specs.declared.kind.Kind.{Kind}
-use Rattle.aig_fault.specs.declared.kind.Kind.TheVariants.{NoSuchName}
 use Rattle.aig_pairing.specs.declared.paired.Paired.{Paired}
-use Rattle.aig_pairing.specs.NameFaults.{missing_fault, name_fault, place_of, wrong_name}
+use Rattle.aig_pairing.specs.NameFaults.{missing_fault, name_fault, wrong_name}
 use Rattle.aig_pairing.specs.Names.{Name, has_name, place_named}
 use Rattle.aig_pairing.proofs.Indexing.{not_before}
 
@@ -21,7 +19,8 @@ AreRight names = (i : ℕ) → i < length names → place_named names (get_or na
 
 -- each of these names is found among the others
 abbrev pub AreFound : (others names : List Name) → Type 0
-AreFound others names = (i : ℕ) → i < length names → (place : ℕ) × (place_named others (get_or names i None) ≡ Some place)
+AreFound others names =
+    (i : ℕ) → i < length names → (place : ℕ) × (place_named others (get_or names i None) ≡ Some place)
 
 -- where a test passes first, behind items where it does not
 hit_here : {A : Type 0} (p : A → Bool) (i : ℕ) (x : A) (xs ys : List A) (y : A) (t : Bool) (n : ℕ)

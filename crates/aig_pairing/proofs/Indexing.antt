@@ -1,7 +1,8 @@
 -- Names in a search tree, one after the other.
-use Rattle.std.proofs.Common.{◌≡◌, ◌+◌, ◌<◌, ◌∙◌, ◌++◌, ◌∷◌, ℕ, Bool, List, [], None, Option, Some, true, false, arith, cond}
-use Rattle.std.proofs.Common.{length, refl, sym, ap, ap₂, subst, drop, get_or, take, bytes_eq, append_assoc, drop-cons, add-one}
-use Rattle.std.proofs.Common.{length-take, rules}
+use Rattle.std.proofs.Common.{◌≡◌, ◌+◌, ◌<◌, ◌∙◌, ◌++◌, ◌∷◌, ℕ, Bool, List, [], None, Option, Some, true, false}
+use Rattle.std.proofs.Common.{arith, cond}
+use Rattle.std.proofs.Common.{length, refl, sym, ap, ap₂, subst, drop, get_or, take, bytes_eq, drop-cons, add-one}
+use Rattle.std.proofs.Common.{length-take}
 use Rattle.std.specs.BTreeMap.{BTreeMap}
 use Rattle.std.specs.Cmp.Lexicographic.{bytes_decides, nat_list_eq_equiv}
 use Rattle.std.specs.List.{cons_option, position, position_from}

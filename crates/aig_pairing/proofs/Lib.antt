@@ -3,3 +3,5 @@ pub mod Naming
 pub mod Found
 pub mod Taken
 pub mod Formed
+pub mod Ordered
+pub mod OrderedRows

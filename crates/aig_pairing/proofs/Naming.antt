@@ -1,5 +1,5 @@
 -- Names as symbols give them: as many as the things that they are for.
-use Rattle.std.proofs.Common.{◌≡◌, ◌∙◌, ◌∷◌, ℕ, List, [], None, Option, Some, ap, fold, length, length-set, refl, slice_set, sym}
+use Rattle.std.proofs.Common.{◌≡◌, ◌∙◌, ◌∷◌, ℕ, List, [], None, Option, Some, fold, length, length-set, refl, slice_set}
 use Rattle.std.specs.Option.{option_map_or}
 use Rattle.std.proofs.lemmas.List.{length-replicate}
 use Rattle.aig_circuit.specs.declared.circuit.Circuit.{Circuit}
@@ -19,7 +19,8 @@ named_all paired names [] = refl
 named_all paired names (s ∷ ss) =
     named_all paired (named paired names s) ss ∙ named_once (place_among paired s.kind s.position) names s.name
 
-pub length-names_by : (paired : Paired) (count : ℕ) (symbols : List Symbol) → length (names_by paired count symbols) ≡ count
+pub length-names_by : (paired : Paired) (count : ℕ) (symbols : List Symbol)
+    → length (names_by paired count symbols) ≡ count
 length-names_by paired count symbols = named_all paired _ symbols ∙ length-replicate count None
 
 pub length-input_names : (c : Circuit) → length (input_names c) ≡ length c.inputs

@@ -1,9 +1,13 @@
 -- What is taken of values by names.
-use Rattle.std.proofs.Common.{◌≡◌, ◌+◌, ◌<◌, ◌≤◌, ◌∙◌, ◌++◌, ◌∷◌, ◌⊎◌, ℕ, List, [], None, Option, Some, arith, suc, zero}
+use Rattle.std.proofs.Common.{◌≡◌, ◌<◌, ◌≤◌, ◌∙◌, ◌∷◌, ◌⊎◌, ℕ, List, [], None, Option, Some, arith, suc, zero}
 use Rattle.std.proofs.Common.{length, refl, sym, ap, subst, get_or, inl, inr, ⊎_elim}
-use Rattle.std.specs.List.{cons_option, filter_map, slice_get}
+use Rattle.std.specs.List.{AllByRecursion, cons_option, filter_map, slice_get}
 use Rattle.std.specs.Option.{option_and_then}
+use Rattle.std.proofs.lemmas.Option.{slice_get-get_or}
 use Rattle.aig_circuit.specs.Wellformed.{AreDistinct, IsAmong}
+use Rattle.aig_circuit.proofs.Checking.{at_most_below}
+use Rattle.aig_topo.proofs.Ordering.LeastReady.{among_or_not}
+use Rattle.aig_topo.proofs.Ordering.Ranked.{all_of}
 use Rattle.aig_pairing.specs.ByNames.{in_order_of, value_named}
 use Rattle.aig_pairing.specs.Names.{Name, place_named}
 use Rattle.aig_pairing.proofs.Found.{AreFound, AreRight, found_is, found_within}
@@ -38,7 +42,8 @@ module _ (h : Name → Option ℕ) where
 
   taken_among : (xs : List Name) (i v : ℕ) → i < length xs → h (get_or xs i None) ≡ Some v → IsAmong v (filter_map h xs)
   taken_among [] i v low is = absurd (omega (arith, low))
-  taken_among (x ∷ xs) zero v low is = subst (λ (o : Option ℕ). IsAmong v (cons_option o (filter_map h xs))) (sym is) (inl refl)
+  taken_among (x ∷ xs) zero v low is =
+      subst (λ (o : Option ℕ). IsAmong v (cons_option o (filter_map h xs))) (sym is) (inl refl)
   taken_among (x ∷ xs) (suc i) v low is =
       cons_keeps (h x) (filter_map h xs) v (taken_among xs i v (omega (arith, low)) is)
 
@@ -54,6 +59,34 @@ module _ (h : Name → Option ℕ) where
   pub taken_short : (xs : List Name) → length (filter_map h xs) ≤ length xs
   taken_short [] = omega arith
   taken_short (x ∷ xs) = cons_short (h x) (filter_map h xs) (length xs) (taken_short xs)
+
+-- where each name gives one, there are as many, place by place
+abbrev pub GivesEach : {A : Type 0} → (Name → Option A) → List Name → Type 0
+GivesEach {A} h xs = (i : ℕ) → i < length xs → (v : A) × (h (get_or xs i None) ≡ Some v)
+
+gives_later : {A : Type 0} (h : Name → Option A) (x : Name) (xs : List Name) → GivesEach h (x ∷ xs) → GivesEach h xs
+gives_later h x xs gives i low = gives (suc i) (omega (arith, low))
+
+cons_long : {A : Type 0} (o : Option A) (vs : List A) (v : A) → o ≡ Some v → cons_option o vs ≡ v ∷ vs
+cons_long {A} o vs v is = ap (λ (p : Option A). cons_option p vs) is
+
+pub taken_long : {A : Type 0} (h : Name → Option A) (xs : List Name) → GivesEach h xs
+    → length (filter_map h xs) ≡ length xs
+taken_long h [] gives = refl
+taken_long h (x ∷ xs) gives =
+    let r = gives zero (omega arith) in
+    ap length (cons_long (h x) (filter_map h xs) r.0 r.1) ∙ ap suc (taken_long h xs (gives_later h x xs gives))
+
+pub taken_at : {A : Type 0} (h : Name → Option A) (xs : List Name) → GivesEach h xs → (i : ℕ) → i < length xs
+    → slice_get (filter_map h xs) i ≡ h (get_or xs i None)
+taken_at {A} h [] gives i low = absurd (omega (arith, low))
+taken_at {A} h (x ∷ xs) gives zero low =
+    let r = gives zero (omega arith) in
+    ap (λ (vs : List A). slice_get vs zero) (cons_long (h x) (filter_map h xs) r.0 r.1) ∙ sym r.1
+taken_at {A} h (x ∷ xs) gives (suc i) low =
+    let r = gives zero (omega arith) in
+    ap (λ (vs : List A). slice_get vs (suc i)) (cons_long (h x) (filter_map h xs) r.0 r.1)
+    ∙ taken_at h xs (gives_later h x xs gives) i (omega (arith, low))
 
 -- where a value stands in a list
 got_among : (vs : List ℕ) (k v : ℕ) → slice_get vs k ≡ Some v → IsAmong v vs
@@ -118,3 +151,50 @@ module _ (wanted names : List Name) (values : List ℕ) where
       taken_among (value_named names values) wanted q.0 v (found_within wanted n q.0 q.1)
       (ap (value_named names values) (found_is wanted n q.0 q.1)
       ∙ ap (option_and_then (slice_get values)) (right p.0 low) ∙ p.1)
+
+-- As many names of two lists, of which each list has no name twice, and one has each of the other's: then so has the
+-- other.
+module _ (wanted names : List Name) (right_wanted : AreRight wanted) (right : AreRight names)
+    (found : AreFound wanted names) (many : length wanted ≡ length names) where
+  abbrev places : List ℕ
+  places = filter_map (place_named wanted) names
+
+  places_once : AreDistinct places
+  places_once =
+      taken_once (place_named wanted) names (λ i j v less low is too.
+      let n = get_or names i None in
+      let m = get_or names j None in
+      let name : n ≡ m = sym (found_is wanted n v is) ∙ found_is wanted m v too in
+      let place : Some i ≡ Some j =
+      sym (right i (omega (arith, less, low))) ∙ ap (place_named names) name ∙ right j low in
+      let one : i ≡ j = cc in
+      omega (arith, less, one))
+
+  places_below : AllByRecursion (λ k. k < length wanted) places
+  places_below =
+      all_of (λ k. k < length wanted) places (λ k a.
+      let r = among_taken (place_named wanted) names k a in
+      found_within wanted (get_or names r.0 None) k r.2)
+
+  pub wanted_found : AreFound names wanted
+  wanted_found k low =
+      ⊎_elim (λ (a : IsAmong k places).
+      let r = among_taken (place_named wanted) names k a in
+      let n = get_or names r.0 None in
+      (r.0, ap (place_named names) (found_is wanted n k r.2) ∙ right r.0 r.1))
+      (λ (no : ¬ IsAmong k places).
+      let more : length (k ∷ places) ≤ length wanted =
+      at_most_below (length wanted) (k ∷ places) (no, places_once) (low, places_below) in
+      absurd (omega (arith, more, many, taken_long (place_named wanted) names found)))
+      (among_or_not k places)
+
+  -- so each name has a value
+  pub gives_each : {A : Type 0} (d : A) (values : List A) → length values ≡ length names
+      → GivesEach (value_named names values) wanted
+  gives_each d values long k low =
+      let r = wanted_found k low in
+      let n = get_or wanted k None in
+      let inside : r.0 < length values = omega (arith, found_within names n r.0 r.1, long) in (
+        get_or values r.0 d,
+        ap (option_and_then (slice_get values)) r.1 ∙ slice_get-get_or values r.0 d inside,
+      )

@@ -1,5 +1,5 @@
 -- A circuit in the order in which another one names inputs, outputs and bad states (this project's profile).
-use Rattle.std.specs.Prelude.{◌==◌, ℕ, List, [], Option, None, Some, Result, Ok, Err, drop, length, not, slice_get, take}
+use Rattle.std.specs.Prelude.{◌==◌, List, [], Option, None, Some, Result, Ok, Err, drop, length, not, slice_get, take}
 use Rattle.std.specs.Prelude.{if◌then◌else◌}
 use Rattle.std.specs.List.{filter_map}
 use Rattle.std.specs.Option.{option_and_then, option_or}

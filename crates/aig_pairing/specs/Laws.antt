@@ -1,5 +1,5 @@
 -- What it means that a circuit is ordered by the names of another.
-use Rattle.std.specs.Prelude.{◌≡◌, ◌↔◌, ◌++◌, ◌<◌, ℕ, List, None, Ok, Some, drop, get_or, length, slice_get, take}
+use Rattle.std.specs.Prelude.{◌≡◌, ◌↔◌, ◌++◌, ◌<◌, ℕ, List, None, Ok, get_or, length, map, slice_get}
 use Rattle.aig_circuit.specs.declared.circuit.Circuit.{Circuit}
 use Rattle.aig_circuit.specs.declared.value.Val.{Val}
 use Rattle.aig_circuit.specs.Wellformed.{IsWellFormed}
@@ -26,9 +26,10 @@ AreByName wanted names values ordered =
     × ((place : ℕ) → place < length wanted
     → slice_get ordered place ≡ value_named names values (get_or wanted place None))
 
--- as many inputs and as much that is compared, place by place what has the name that the first circuit has there
-abbrev pub OrderedCounts : Type 0
-OrderedCounts = (a b c : Circuit) → AreOrdered a b c
+-- It has as many inputs, outputs and bad states as the first circuit, and at each place what the second circuit has
+-- under the name that stands at that place in the first.
+abbrev pub ValuesStandByName : Type 0
+ValuesStandByName = (a b c : Circuit) → AreOrdered a b c
     → (length c.inputs ≡ length a.inputs) × (length c.outputs ≡ length a.outputs) × (length c.bad ≡ length a.bad)
     × AreByName (input_names a) (input_names b) b.inputs c.inputs
     × AreByName (compared_names a) (compared_names b) (compared b) (compared c)
@@ -41,7 +42,29 @@ row_in_order a b row = record row {
   bad = in_order_of (bad_names a) (compared_names b) (row.outputs ++ row.bad);
 }
 
+-- so it has at each place the value that is under that name
+abbrev pub RowsStandByName : Type 0
+RowsStandByName = (a b c : Circuit) → AreOrdered a b c → (row : Row) → IsRow b row
+    → AreByName (input_names a) (input_names b) row.inputs (row_in_order a b row).inputs
+    × AreByName (compared_names a) (compared_names b) (row.outputs ++ row.bad)
+    ((row_in_order a b row).outputs ++ (row_in_order a b row).bad)
+
 -- the rows are those of the second circuit, each in the order of the first
 abbrev pub RowsAreOrdered : Type 0
 RowsAreOrdered = (a b c : Circuit) → by_names a b ≡ Ok c → (row : Row)
     → IsRow c row ↔ ((before : Row) × IsRow b before × (row ≡ row_in_order a b before))
+
+-- a trace of the second circuit, in the order of the first
+pub record IsTraceInOrder (a b : Circuit) (first : List Val) (vectors : List (List Val)) (rows : List Row)
+    : Type 0 where
+  pub given : List (List Val)
+  pub before : List Row
+  pub trace : IsTrace b first given before
+  pub vectors_are : vectors ≡ map (in_order_of (input_names a) (input_names b)) given
+  pub rows_are : rows ≡ map (row_in_order a b) before
+
+-- and so are the traces
+abbrev pub TracesAreOrdered : Type 0
+TracesAreOrdered = (a b c : Circuit) → by_names a b ≡ Ok c
+    → (first : List Val) (vectors : List (List Val)) (rows : List Row)
+    → IsTrace c first vectors rows ↔ IsTraceInOrder a b first vectors rows

@@ -146,17 +146,12 @@ fn order_lists(alloc: Global, first: &Named, second: &Named) -> Result<Lists, Al
     ensures { IfOk result (AreInOrder first.now.circuit.now second.now.circuit.now) }
 {
     let (circuit, names) = (second.circuit, &second.compared);
-    let (outputs, bad) = first
-        .compared
-        .names()
-        .split_at(first.circuit.outputs.len());
+    let (outputs, bad) = first.compared.names().split_at(first.circuit.outputs.len());
     let literals = what_to_compare(alloc, circuit)?;
     Ok(Lists {
-        inputs: second.inputs.in_order_of(
-            alloc,
-            first.inputs.names(),
-            circuit.inputs.as_slice(),
-        )?,
+        inputs: second
+            .inputs
+            .in_order_of(alloc, first.inputs.names(), circuit.inputs.as_slice())?,
         outputs: names.in_order_of(alloc, outputs, literals.as_slice())?,
         bad: names.in_order_of(alloc, bad, literals.as_slice())?,
     })

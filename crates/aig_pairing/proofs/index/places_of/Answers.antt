@@ -1,4 +1,4 @@
-use Rattle.std.proofs.Common.{◌≡◌, ◌∙◌, None, arith, rules, sym}
+use Rattle.std.proofs.Common.{◌≡◌, ◌∙◌, None, rules, sym}
 use Rattle.std.specs.Option.{option_and_then}
 use Rattle.aig_pairing.specs.NameFaults.{wrong_name}
 use Rattle.aig_pairing.specs.Parts.Places.{place_in}
