@@ -130,15 +130,15 @@ impl Progress {
         ensures behind { OnOk result (IsBehind at.old at.new) }
     {
         let mut progress = self;
-        if let Err(fault) = progress.read_lines(alloc, header, at) {
-            drop(progress); // for the proof
-            return Err(fault);
+        match progress.read_lines(alloc, header, at) {
+            Ok(()) => {
+                if !progress.is_done() {
+                    return Err(missing_line(at));
+                }
+                Ok(progress.circuit)
+            }
+            Err(fault) => Err(fault),
         }
-        if !progress.is_done() {
-            drop(progress); // for the proof
-            return Err(missing_line(at));
-        }
-        Ok(progress.circuit)
     }
 }
 
