@@ -1,12 +1,10 @@
 -- A binary file that is read while its source gives it, from what was fetched first.
-use Rattle.std.proofs.Common.{◌≡◌, ◌∙◌, ◌++◌, ◌≢◌, ◌≤◌, ◌∷◌, inl, inr, ℕ, List, [], drop, Bool, true, false, not}
+use Rattle.std.proofs.Common.{◌≡◌, ◌∙◌, ◌++◌, ◌≢◌, ◌≤◌, ◌∷◌, inl, inr, ℕ, List, [], drop, Bool, true, false}
 use Rattle.std.proofs.Common.{append_assoc, append-nil, Result, Ok, Err, sym, ap, length, refl, arith, eqb}
 use Rattle.std.proofs.lemmas.Bool.{eqb-false}
 use Rattle.std.proofs.lemmas.List.{drop-append-le}
-use Rattle.aig_io.specs.Devices.{GaveSome, History, gave, took}
-use Rattle.aig_io.specs.Windows.{Filled}
-use Rattle.aig_io.specs.declared.transfer.ReadError.{ReadError}
-use Rattle.aig_io.proofs.Took.{gave_then, took_none, some_later}
+use Rattle.aig_io.specs.Devices.{History, gave, took}
+use Rattle.aig_io.proofs.Took.{gave_then, took_none}
 use Rattle.aig_circuit.specs.declared.circuit.Circuit.{Circuit}
 use Rattle.aig_circuit.specs.Form.{IsInForm}
 use Rattle.aig_circuit.specs.Wellformed.{IsWellFormed}
@@ -15,11 +13,9 @@ use Rattle.aig_core.specs.Fault.{first_structural_fault}
 use Rattle.aig_lines.specs.Lines.{Line, AreEnded, lines_of}
 use Rattle.aig_lines.proofs.Cutting.{pieces, some_lines}
 use Rattle.aig_lines.proofs.Taken.{lines_cut}
-use Rattle.aig_fault.specs.Stopping.{stopped_by}
 use Rattle.aig_fault.specs.declared.stopped.Stopped.{Stopped}
-use Rattle.aig_fault.specs.declared.stopped.Stopped.TheVariants.{OutOfMemory}
 use Rattle.aig_rows.specs.Outcomes.{GivesOrMemory}
-use Rattle.aig_text.specs.Begun.{ReadsOn, rest_of}
+use Rattle.aig_text.specs.Begun.{rest_of}
 use Rattle.aig_text.specs.declared.pieces.AsciiReader.{AsciiReader}
 use Rattle.aig_text.specs.Reading.{circuit_at, first_word_is, reading, unless_faulty}
 use Rattle.aig_text.proofs.Grammar.Text.{checked_tells, line_fault as ascii_line_fault, circuit_in_form}
@@ -31,7 +27,7 @@ use Rattle.aig_binary.specs.File.{AnswersFile, IsFileOf, file_reading}
 use Rattle.aig_binary.proofs.Grammar.Accepted.{read_is_ordered, read_is_well_formed, reading_is_accepted}
 use Rattle.aig_binary.proofs.Grammar.Read.{line_fault}
 
--- A source whose first bytes were fetched, and of which the header or the lines in front of the gates were read.
+-- A source whose first bytes were fetched, and of which the header was read.
 
 -- what bytes told is what those tell that are left when the first of their whole lines are taken
 passed : (tell s : List ℕ → Result Circuit Stopped) (bytes lines rest held : List ℕ) (used : ℕ)

@@ -1,5 +1,5 @@
 -- The header line and the other lines of a binary file, and what stands after them.
-use Rattle.std.proofs.Common.{◌≡◌, ◌≢◌, ◌+◌, ◌<◌, ◌++◌, ◌∙◌, ◌-◌, ◌≤◌, ◌⊎◌, ℕ, List, [], length, refl, ap, arith, Ok, Err}
+use Rattle.std.proofs.Common.{◌≡◌, ◌≢◌, ◌+◌, ◌<◌, ◌++◌, ◌∙◌, ◌-◌, ◌⊎◌, ℕ, List, [], length, refl, ap, arith, Ok, Err}
 use Rattle.std.proofs.Common.{sym, subst, inl, inr, drop, Result}
 use Rattle.std.proofs.lemmas.List.{drop-drop}
 use Rattle.aig_circuit.specs.declared.circuit.Circuit.{Circuit}

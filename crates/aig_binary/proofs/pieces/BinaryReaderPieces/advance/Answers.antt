@@ -1,4 +1,4 @@
-use Rattle.std.proofs.Common.{◌≡◌, ℕ, [], drop, inr, rules}
+use Rattle.std.proofs.Common.{◌≡◌, [], drop, inr, rules}
 use Rattle.aig_text.specs.Begun.{HasAllLines}
 use Rattle.aig_binary.proofs.Front.{gates_on, gates_wrong}
 use Rattle.aig_binary.proofs.pieces.BinaryReaderPieces.advance.Goals as goal

@@ -13,7 +13,7 @@ returns-then-not-is_done-clause-read c =
     c.in-Ok.ensures.on c.in-Ok.ensures.all (search rules)
     ∙ ap (λ (e : Stopped). Err e) (sym c.missing_line.ensures))
 
-pub returns-clause-read : goal.returns-clause-read
-returns-clause-read c =
+pub returns-else-not-is_done-clause-read : goal.returns-else-not-is_done-clause-read
+returns-else-not-is_done-clause-read c =
     alone_done c.args.header.now c.args.self c.read_lines.new.self c.args.at.now c.read_lines.new.at
     c.in-Ok.ensures.on (search rules)
