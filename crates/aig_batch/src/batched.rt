@@ -56,7 +56,6 @@ fn flushed<T: RowTaker>(mut output: T) -> (Result<(), Stopped>, T)
 
 /// Sends the text for the front of a stimulus that has no bad line, and the text for what comes
 /// after it.
-// Not built into its caller, whose stack would then hold a second block of the output.
 #[inline(never)]
 fn trace_good<T: RowTaker>(
     reader: StimulusReader,
@@ -79,24 +78,6 @@ fn trace_good<T: RowTaker>(
     put_groups(&mut output, reader.machine(), groups, bench);
     // No line is bad, so the text is that for all of the rest.
     flushed(reader.put_trace_text(output, rest))
-}
-
-/// Sends the text for a stimulus that has no bad line, all lines of which the reader takes.
-// Nor is this.
-#[inline(never)]
-fn trace_lines<T: RowTaker>(
-    reader: StimulusReader,
-    output: T,
-    bytes: &[u8],
-) -> (Result<(), Stopped>, T)
-    requires fresh { IsFresh reader }
-    ensures taken { (c : CircuitRecord) → MeansTheSame c reader.tracing.circuit
-        → first_bad_line c bytes.now true ≡ None
-        → Taken T.took (BatchSays c reader.tracing.columns result.0 bytes.now AtEnd)
-        output result.1 (T.failed result.1) }
-    ensures sent { T.is_settled result.1 }
-{
-    flushed(reader.put_trace_text(output, bytes))
 }
 
 /// Sends the text for a stimulus that has no bad line. All memory is taken before the first byte is
@@ -122,7 +103,7 @@ fn trace_collected<T: RowTaker>(
     let circuit = checked.circuit();
     if circuit.latches.len() == 0 && circuit.inputs.len() <= MOST_INPUTS {
         // The reader takes all steps side by side, over the ends of runs.
-        return trace_lines(reader, output, bytes);
+        return flushed(reader.put_trace_text(output, bytes));
     }
     let Ok((groups, rest)) = read_front_groups(alloc, circuit.inputs.len(), bytes) else {
         drop(reader); // for the proof

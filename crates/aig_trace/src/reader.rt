@@ -66,15 +66,13 @@ impl StimulusReader {
 
     /// Puts the text for all lines of the bytes up to the first bad one, and ends the run that is
     /// going on then, if it has a step.
-    // Built into its callers, since it takes and returns an output, whose block is moved each time.
-    #[inline(always)]
+    // Not built into its callers, whose stack would then hold the block of the output more often.
+    #[inline(never)]
     pub fn put_trace_text<T: RowTaker>(self, output: T, bytes: &[u8]) -> T
         requires { IsFresh self }
         ensures { AppendedText T.took self.tracing bytes.now output result }
     {
-        // Not by `into_line_tracer`: the block of the output would then be moved twice more.
-        let StimulusReader { mut feeder, taker } = self;
-        let mut lines = LineTracer::new(taker, output);
+        let (mut feeder, mut lines) = self.into_line_tracer(output);
         let _whole = feeder.feed(&mut lines, bytes);
         let _last = feeder.end(&mut lines);
         drop(feeder); // for the proof

@@ -47,15 +47,18 @@ impl<'a, W: Sink> RowTaker for Output<'a, W> {
     ghost is_settled = { λ o. o.held ≡ [] };
 
     #[inline(always)]
+    #[tactic(auto, using(crate::proofs::Taken::appended_more))]
     fn take_row<L: Line>(&mut self, room: &mut [u8], line: &L, state: &mut L::State) {
         self.put_line(room, line, state);
     }
 
     #[inline]
+    #[tactic(auto, using(crate::proofs::Taken::appended_more))]
     fn take_stop(&mut self) {
         self.put(b".\n");
     }
 
+    #[tactic(auto, using(crate::proofs::Taken::appended_more))]
     fn flush(&mut self) -> Result<(), DeviceFault> {
         Output::flush(self)
     }
