@@ -1,5 +1,5 @@
 -- What is sent where the dump of a trace is written.
-use Rattle.std.proofs.Common.{◌≡◌, ◌∙◌, ℕ, List, [], Bool, true, false, Result, Ok, Err, ap, cond, is_err, is_ok, refl}
+use Rattle.std.proofs.Common.{◌≡◌, ◌∙◌, ℕ, List, [], Bool, true, false, Result, Ok, Err, ap, ap₂, cond, is_err, is_ok, refl}
 use Rattle.std.proofs.Common.{subst, sym}
 use Rattle.aig_io.specs.Devices.{History}
 use Rattle.aig_io.specs.Output.{Appended, Out}
@@ -12,7 +12,7 @@ use Rattle.aig_lines.specs.Lines.{lines_of}
 use Rattle.aig_fault.specs.declared.stopped.Stopped.{Stopped}
 use Rattle.aig_fault.specs.declared.stopped.Stopped.TheVariants as stops
 use Rattle.aig_step.specs.declared.trace.Columns.TheVariants.{Properties}
-use Rattle.aig_trace.specs.Taken.{Ran, Taken, Tells, meant}
+use Rattle.aig_trace.specs.Taken.{Ran, Taken, Tells, Took, meant}
 use Rattle.aig_wave.specs.declared.wave.WaveTaker.{WaveTaker}
 use Rattle.aig_wave.specs.Dumping.{Dumps}
 use Rattle.aig_wave.specs.Frames.{frames_of, most_frames}
@@ -45,44 +45,52 @@ module _ (batch : Bool) (c : Circuit) where
   whole (Ok done) bytes ending trace delivery not_cut says =
       (refl, record { trace = trace; delivery = delivery; says = says; is_dump = refl })
 
-  module _ {W : Type 0} (from now : WaveTaker W) (end : Out W) (ran : Result (Unit {0}) Stopped)
-      (unheld : from.output.held ≡ []) (fine : from.output.failed ≡ false) (begun : Dumps from from [])
-      (put : (text : List ℕ) → Dumps from now text
-      → Appended from.output end (wave_text c text (is_ok ran))) (empty : end.held ≡ []) where
+  module _ {W : Type 0} (from now : WaveTaker W) (new end : Out W) (ran : Result (Unit {0}) Stopped) (done : Bool)
+      (shows : from.dump_state.layout ≡ layout_of c) (made : from.output ≡ new) (unheld : new.held ≡ [])
+      (fine : new.failed ≡ false) (begun : Dumps from from []) (ended : done ≡ is_ok ran)
+      (finish : (other : WaveTaker W) (text : List ℕ) → Dumps other now text
+      → Appended other.output end (dump other.dump_state.layout (frames_of other.dump_state.layout text) done))
+      (empty : end.held ≡ []) where
+    put : (text : List ℕ) → Took Dumps from now text → Appended new end (wave_text c text (is_ok ran))
+    put text took =
+        subst (λ (o : Out W). Appended o end (wave_text c text (is_ok ran))) made
+        (subst (Appended from.output end)
+        (ap₂ (λ (v : Layout) (b : Bool). dump v (frames_of v text) b) shows ended)
+        (finish from text (took.more from [] begun)))
+
     answered : {T E : Type 0} (r : Result T E) (answer : Result (Unit {0}) Stopped) (bytes : List ℕ) (ending : Ending)
         → end.failed ≡ is_err r → (now.output.failed ≡ true → is_err r ≡ true)
         → answer ≡ cond (is_err r) (Err stops.WriteFailed) ran
         → Taken Dumps (Says ran bytes ending) from now now.output.failed
-        → Sent (DumpSays batch c answer bytes ending) from.output.history end.history
+        → Sent (DumpSays batch c answer bytes ending) new.history end.history
     answered (Ok x) answer bytes ending fails tells is t =
-        let text = wave_text c (meant t.text t.delivery) (is_ok ran) in
         rw is (record {
-          text = text;
+          text = wave_text c (meant t.text t.delivery) (is_ok ran);
           delivery = All;
           says = whole ran bytes ending t.text t.delivery (uncut t.delivery now.output.failed t.tells tells) t.says;
-          sent = all_sent from.output from.output end end text refl unheld (put _ (t.took.more from [] begun))
-              (put_nothing end) empty fails;
+          sent = all_sent new new end end _ refl unheld (put _ t.took) (put_nothing end) empty fails;
         })
     answered (Err fault) answer bytes ending fails tells is t =
-        let text = wave_text c (meant t.text t.delivery) (is_ok ran) in
-        let part = beginning_sent from.output from.output end end text refl unheld fine
-        (put _ (t.took.more from [] begun)) (put_nothing end) fails in
+        let part = beginning_sent new new end end _ refl unheld fine (put _ t.took) (put_nothing end) fails in
         rw is (record {
-          text = text;
+          text = wave_text c (meant t.text t.delivery) (is_ok ran);
           delivery = Beginning part.count;
           says = (tt, (ran, record { trace = t.text; delivery = t.delivery; says = t.says; is_dump = refl }));
           sent = part.history;
         })
 
     -- the trace was taken, and the dump of it ended
-    pub dumped : {T E : Type 0} (r : Result T E) (answer : Result (Unit {0}) Stopped) (s s_now : History)
-        → end.failed ≡ is_err r → (now.output.failed ≡ true → is_err r ≡ true)
-        → answer ≡ cond (is_err r) (Err stops.WriteFailed) ran → Ran Dumps (Says ran) s s_now from now now.output.failed
-        → Transferred (DumpSays batch c answer) s s_now from.output.history end.history
-    dumped r answer s s_now fails tells is =
-        read_weaker (λ bytes ending. Taken Dumps (Says ran bytes ending) from now now.output.failed)
-        (λ bytes ending. Sent (DumpSays batch c answer bytes ending) from.output.history end.history) s s_now
-        (λ bytes ending. answered r answer bytes ending fails tells is)
+    pub dumped : {T E : Type 0} (r : Result T E) (answer : Result (Unit {0}) Stopped) (failed : Bool)
+        (s s_now o_now : History) → end.failed ≡ is_err r → (now.output.failed ≡ true → is_err r ≡ true)
+        → failed ≡ is_err r → answer ≡ cond failed (Err stops.WriteFailed) ran
+        → Ran Dumps (Says ran) s s_now from now now.output.failed → o_now ≡ end.history
+        → Transferred (DumpSays batch c answer) s s_now new.history o_now
+    dumped r answer failed s s_now o_now fails tells told is run output =
+        rw output
+        (read_weaker (λ bytes ending. Taken Dumps (Says ran bytes ending) from now now.output.failed)
+        (λ bytes ending. Sent (DumpSays batch c answer bytes ending) new.history end.history) s s_now
+        (λ bytes ending. answered r answer bytes ending fails tells
+        (is ∙ ap (λ (b : Bool). cond b (Err stops.WriteFailed) ran) told)) run)
 
 -- nothing comes of a dump for which there is no memory
 no_frame : (c : Circuit) → wave_text c [] false ≡ []

@@ -1,8 +1,7 @@
 -- Texts that a taker takes one after another, and what an output comes to.
 use Rattle.std.proofs.Common.{◌≡◌, ◌++◌, ◌∙◌, ℕ, List, [], Bool, false, ap, append-nil, append_assoc, refl, subst, sym}
 use Rattle.aig_io.specs.Devices.{History}
-use Rattle.std.specs.Borrow.{MutBor}
-use Rattle.aig_io.specs.Output.{Appended, Out, output_to}
+use Rattle.aig_io.specs.Output.{Appended, Out}
 use Rattle.aig_io.specs.Runs.{All, Beginning, Delivery, Ending, NotSent, Open, Sent, Transferred}
 use Rattle.aig_io.proofs.Puts.{all_sent, beginning_sent, put_nothing, put_twice}
 use Rattle.aig_io.proofs.Runs.{read_none, read_weaker}
@@ -74,15 +73,14 @@ pub same_sink : {W : Type 0} (Says : List ℕ → Ending → List ℕ → Delive
     (source source_now : History) → Ran Appended Says source source_now o b failed → b.name ≡ o.name
 same_sink Says o b failed source source_now ran = (ran.says.took.more o [] (put_nothing o)).same
 
--- an output was made for a sink, and took a text
+-- an output was made, and took a text
 pub transferred_as_ran : {W : Type 0} (Says : List ℕ → Ending → List ℕ → Delivery → Type 0)
     (cut : (bytes : List ℕ) (ending : Ending) (text : List ℕ) (n m : ℕ) → Says bytes ending text (Beginning n)
-    → Says bytes ending text (Beginning m)) (history : W → History) (sink : MutBor W) (o b : Out W)
-    (source source_now sink_now : History) → o ≡ output_to history sink [] false → b.held ≡ []
-    → sink_now ≡ b.history → Ran Appended Says source source_now o b b.failed
-    → Transferred Says source source_now (history sink.now) sink_now
-transferred_as_ran {W} Says cut history sink o b source source_now sink_now made empty now ran =
+    → Says bytes ending text (Beginning m)) (new o b : Out W) (source source_now sink_now : History) → o ≡ new
+    → new.held ≡ [] → new.failed ≡ false → b.held ≡ [] → sink_now ≡ b.history
+    → Ran Appended Says source source_now o b b.failed → Transferred Says source source_now new.history sink_now
+transferred_as_ran {W} Says cut new o b source source_now sink_now made unheld fine empty now ran =
     rw now
     (subst (λ (x : Out W). Transferred Says source source_now x.history b.history) made
-    (as_ran Says cut o b (ap (λ (x : Out W). x.held) made) (ap (λ (x : Out W). x.failed) made) empty source source_now
-    ran))
+    (as_ran Says cut o b (ap (λ (x : Out W). x.held) made ∙ unheld) (ap (λ (x : Out W). x.failed) made ∙ fine) empty
+    source source_now ran))

@@ -1,4 +1,4 @@
-use Rattle.std.proofs.Common.{rules}
+use Rattle.std.proofs.Common.{refl, rules}
 use Rattle.aig_trace.proofs.Taken.{same_sink, transferred_as_ran}
 use Rattle.aig_batch.proofs.Batching.{cut_anywhere}
 use Rattle.aig_batch.proofs.batched.simulate_batched.Goals as goal
@@ -8,6 +8,6 @@ returns g c =
     let ran = c.simulate_batched_into-traced in
     let same = same_sink _ _ _ _ _ _ ran.ensures.ran in
     record {
-      transferred = transferred_as_ran _ (cut_anywhere c.args.checked.now c.args.columns ran.result.0) _ _ _ _ _ _ _
-          c.new.ensures ran.ensures.sent (search rules) ran.ensures.ran;
+      transferred = transferred_as_ran _ (cut_anywhere c.args.checked.now c.args.columns ran.result.0) _ _ _ _ _ _
+          c.new.ensures refl refl ran.ensures.sent (search rules) ran.ensures.ran;
     }

@@ -1,4 +1,4 @@
-use Rattle.std.proofs.Common.{rules}
+use Rattle.std.proofs.Common.{refl}
 use Rattle.aig_io.specs.Runs.{AtEnd}
 use Rattle.aig_io.proofs.Runs.{read_weaker}
 use Rattle.aig_trace.proofs.Taken.{ran_none}
@@ -18,5 +18,5 @@ returns-clause-ran g c = record {
   bytes = c.deref.result.now;
   ending = AtEnd;
   says = c.trace_collected-traced.ensures.taken;
-  came = rw (← c.deref.ensures.value) at c.in-Ok-2.ensures.came;
+  came = rw (← c.deref.ensures.value) at c.in-Ok-collect.ensures.came;
 }

@@ -6,7 +6,7 @@ use Rattle.aig_step.specs.Parts.Lines.{line_size}
 use Rattle.aig_step.proofs.LineValues.{same_size}
 use Rattle.aig_batch.specs.Parts.RunsRead.{SaysEntries, entries_of_groups}
 use Rattle.aig_trace.proofs.Taken.{took_nothing}
-use Rattle.aig_batch.proofs.Batching.{nothing_taken, put_behind, taken_so}
+use Rattle.aig_batch.proofs.Batching.{put_behind, taken_so}
 use Rattle.aig_batch.proofs.batched.trace_collected.Goals as goal
 
 -- what is said of groups is said where they are passed on
@@ -28,8 +28,8 @@ new-requires-clause-line g c =
     ∙ ap line_size (sym c.machine.ensures)
 
 -- the reader takes all
-pub returns-then-len-clause-taken : goal.returns-then-len-clause-taken
-returns-then-len-clause-taken g c =
+pub returns-then-len-le-MOST_INPUTS-clause-taken : goal.returns-then-len-le-MOST_INPUTS-clause-taken
+returns-then-len-le-MOST_INPUTS-clause-taken g c =
     let tracing = c.args.reader.tracing in
     let bytes = c.args.bytes.now in
     let output = c.args.output in
