@@ -1,11 +1,12 @@
 """Compares the miters that the program writes with those of a plain model, and what they do with what both circuits do.
 
-The first of two circuits is one of unrolled.py. The second is the same by other variables, with its gates in another order and
-often with something changed, put in or left out, or it is another one. In half of the pairs inputs, outputs and bad states have
-names, by which the second has them in another order; some names are missing or wrong. Some pairs have just as many variables as a
-miter may have, or one too many. Of each pair the program must write the text of the circuit that is made here, as ASCII and as
-binary, from files of either kind, or it must refuse the right one of the two for the right reason. Simulated, that circuit must
-show where the two differ, as it comes from their own equations, side by side.
+The first of two circuits is one of unrolled.py. The second is the same by other variables, with its gates in another
+order and often with something changed, put in or left out, or it is another one. In half of the pairs inputs, outputs
+and bad states have names, by which the second has them in another order; some names are missing or wrong. Some pairs
+have just as many variables as a miter may have, or one too many. Of each pair the program must write the text of the
+circuit that is made here, as ASCII and as binary, from files of either kind, or it must refuse the right one of the two
+for the right reason. Simulated, that circuit must show where the two differ, as it comes from their own equations, side
+by side.
 """
 import collections
 import dataclasses
@@ -39,7 +40,8 @@ def seen(made):
 
 def places(made):
     """The letter and the position of each input, and of all that is compared."""
-    inputs, outputs, bad = ([(it, at) for at in range(len(of))] for it, of in zip("iob", (made.inputs, made.outputs, made.bad)))
+    lists = zip("iob", (made.inputs, made.outputs, made.bad))
+    inputs, outputs, bad = ([(letter, at) for at in range(len(of))] for letter, of in lists)
     return inputs, outputs + bad
 
 
@@ -85,8 +87,8 @@ def negated(chance, given):
 
 def changed(chance, made):
     """The circuit, with something changed, put in or left out."""
-    literal, fresh = chance.choice([0, *(2 * it for it in variables(made))]) + chance.randrange(2), max([0, *variables(made)]) + 1
-    how = chance.randrange(9)
+    used = [0, *variables(made)]
+    literal, fresh, how = 2 * chance.choice(used) + chance.randrange(2), max(used) + 1, chance.randrange(9)
     if how == 0:
         gates = [(own, left ^ (not chance.randrange(3)), right) for own, left, right in made.gates]
         return dataclasses.replace(made, gates=gates)
@@ -122,7 +124,7 @@ def fitting(chance, first, second):
 
 
 def named(chance, made, called):
-    """The circuit with these names of inputs and of what is compared, some others, and lines in any order. A few are wrong."""
+    """The circuit with these names of inputs and of what is compared, and others, in any order. A few are wrong."""
     lists = places(made)
     lines = [[letter, at, name] for of, names in zip(lists, called) for (letter, at), name in zip(of, names)]
     if lines and not chance.randrange(5):
@@ -149,13 +151,14 @@ def pair(chance):
     """Two circuits, and the words by which they are compared."""
     first = unrolled.circuit(chance)
     second = unrolled.circuit(chance) if not chance.randrange(8) else first
-    first, second = (it if not chance.randrange(12) else unrolled.without_liveness(chance, it) for it in (first, second))
+    first, second = (unrolled.without_liveness(chance, it) if chance.randrange(12) else it for it in (first, second))
     for _ in range(chance.choice([0, 0, 1, 1, 2])):
         second = changed(chance, second)
     if not chance.randrange(4):
         first = changed(chance, first)
     first = spread(chance, first, chance.choice(ends(first)))
-    second = spread(chance, second, chance.choice(ends(second) if chance.randrange(8) else [fitting(chance, first, second)]))
+    may_be = ends(second) if chance.randrange(8) else [fitting(chance, first, second)]
+    second = spread(chance, second, chance.choice(may_be))
     if chance.randrange(2):
         first, second = (split(chance, it) if chance.randrange(2) else it for it in (first, second))
         return *(dataclasses.replace(it, symbols=images.symbols(chance, it)) for it in (first, second)), ["aigmiter"]
@@ -225,7 +228,7 @@ def fault(first, second, words):
 
 
 def paired(first, second, words):
-    """The second with its inputs, and what is compared, in the order in which the first has their names, if that is asked."""
+    """The second with its inputs, and what is compared, in the order of the names of the first, if that is asked."""
     if "--by-name" not in words:
         return second
     (inputs, compared), (own_inputs, own_compared), count = names(first), names(second), len(first.outputs)
@@ -258,7 +261,8 @@ def miter(first, second):
     gates, compared = [*first.gates, *ties, *moved.gates], [*zip(seen(first), seen(moved))]
     bad = differences(gates, moved.largest + 1, compared) + [it ^ 1 for it in moved.constraints]
     latches, nexts, resets = (getattr(first, it) + getattr(moved, it) for it in ("latches", "nexts", "resets"))
-    largest, constraints, starts = moved.largest + 3 * len(compared), list(first.constraints), [*zip(free(first), free(moved))]
+    constraints, starts = list(first.constraints), [*zip(free(first), free(moved))]
+    largest = moved.largest + 3 * len(compared)
     if starts:
         later = largest + 1
         latches, nexts, resets = [*latches, later], [*nexts, 1], [*resets, "0"]
@@ -272,7 +276,7 @@ def miter(first, second):
 
 
 def wanted(first, second, words, files):
-    """Standard output, standard error and the status, where circuits of files of these names are compared with these words."""
+    """Standard output, standard error and the status where circuits of files of these names are compared."""
     why = fault(first, second, words)
     if why:
         at, said = why
@@ -332,7 +336,7 @@ def wrong(program, given, words, come):
 
 
 def judge(program, folder, number, first, second, words, runs):
-    """What is wrong with the miter of these two, if anything is: from ASCII and from binary, from files and from a stream."""
+    """What is wrong with the miter of these two, if anything is: from either form, from files and from a stream."""
     one, other, image, steps = files = [f"{folder}/{it}.{number}" for it in ("first", "second", "image", "steps")]
     stimulus = "".join("".join(f"{it}\n" for it in run) + ".\n" for run in runs).encode()
     texts = images.ascii_text(first), images.ascii_text(second), images.image(first), stimulus

@@ -5,7 +5,8 @@ import subprocess
 from pathlib import Path
 
 TOP = Path(__file__).resolve().parents[2]
-FLAGS = "--ascii -a --strip -s --keep-map --undo-map --outputs-as-bad --properties --witness --batch --vcd --cnf --by-name".split()
+FLAGS = """--ascii -a --strip -s --keep-map --undo-map --outputs-as-bad --properties --witness --batch --vcd --cnf
+    --by-name""".split()
 TOOLS = "aigtoaig", "aigunroll", "aigsim", "aigmiter"
 # prints each row of the table, each word of it ended by a NUL
 ROWS = 'work=$1; . tests/rows/all.sh; row() { printf "%s\\0" $# "$@"; }; rows'

@@ -47,7 +47,8 @@ started='aag 1 0 1 1 0\n2 3 2\n2\n'
 rows_compared() {
     miters 'two inverters' "$inverter" "$inverter" "$inverters"
     miters_to_binary 'two inverters, to binary' "$inverter" "$inverter" "$inverters_binary"
-    miters 'an inverter and a wire' "$inverter" 'aag 1 1 0 1 0\n2\n2\n' 'aag 5 1 0 0 4 1\n2\n10\n4 2 1\n6 4 3\n8 5 2\n10 9 7\n'
+    miters 'an inverter and a wire' "$inverter" 'aag 1 1 0 1 0\n2\n2\n' \
+        'aag 5 1 0 0 4 1\n2\n10\n4 2 1\n6 4 3\n8 5 2\n10 9 7\n'
     miters 'two inverters, the first in binary' 'aig 1 1 0 1 0\n3\n' "$inverter" "$inverters"
     miters 'two inverters, the second in binary' "$inverter" 'aig 1 1 0 1 0\n3\n' "$inverters"
     miters_to_binary 'two inverters, both in binary' 'aig 1 1 0 1 0\n3\n' 'aig 1 1 0 1 0\n3\n' "$inverters_binary"
@@ -66,7 +67,8 @@ rows_compared() {
         'aag 15 0 0 0 3 1\n30\n26 1 0\n28 1 0\n30 29 27\n'
     miters_to_binary 'variables that nothing defines, twice, to binary' 'aag 5 0 0 1 0\n0\n' 'aag 7 0 0 1 0\n1\n' \
         'aig 3 0 0 0 3 1\n6\n\x01\x01\x03\x01\x01\x02'
-    local lists both='aag 10 2 0 0 8 2\n2\n4\n14\n20\n6 2 1\n8 4 1\n10 6 2\n12 7 3\n14 13 11\n16 9 5\n18 8 4\n20 19 17\n'
+    local lists
+    local both='aag 10 2 0 0 8 2\n2\n4\n14\n20\n6 2 1\n8 4 1\n10 6 2\n12 7 3\n14 13 11\n16 9 5\n18 8 4\n20 19 17\n'
     for lists in '2 0' '1 0 1' '0 0 2'; do
         miters "an output and a bad state beside these counts: $lists" 'aag 2 2 0 1 0 1\n2\n4\n2\n5\n' \
             "aag 2 2 0 $lists\n2\n4\n2\n5\n" "$both"
@@ -85,8 +87,8 @@ rows_compared_latches() {
         "aag 5 0 2 0 3 1\n2 3 2\n4 5\n10\n$gates"
     miters 'a toggle with initial value, and one that has none' 'aag 1 0 1 1 0\n2 3 1\n2\n' "$started" \
         "aag 5 0 2 0 3 1\n2 3 1\n4 5 4\n10\n$gates"
-    miters_to_binary 'a toggle with initial value, and one that has none, to binary' 'aag 1 0 1 1 0\n2 3 1\n2\n' "$started" \
-        'aig 5 0 2 0 3 1\n3 1\n5 4\n10\n\x02\x02\x03\x02\x01\x02'
+    miters_to_binary 'a toggle with initial value, and one that has none, to binary' \
+        'aag 1 0 1 1 0\n2 3 1\n2\n' "$started" 'aig 5 0 2 0 3 1\n3 1\n5 4\n10\n\x02\x02\x03\x02\x01\x02'
     miters 'a latch without initial value, and no latch' "$started" 'aag 0 0 0 1 0\n0\n' \
         'aag 4 0 1 0 3 1\n2 3 2\n8\n4 2 0\n6 3 1\n8 7 5\n'
 }
@@ -119,7 +121,8 @@ rows_compared_constraints() {
     miters 'more constraints of the first' "$three" "$both" 'aag 2 1 0 0 1 1 2\n2\n5\n3\n1\n4 2 1\n'
     miters 'a constraint of the second behind an output' 'aag 1 1 0 1 0\n2\n2\n' 'aag 1 1 0 0 0 1 1\n2\n2\n3\n' \
         'aag 5 1 0 0 4 2\n2\n10\n4\n4 2 1\n6 4 2\n8 5 3\n10 9 7\n'
-    miters 'a constraint of the first before those of a pair' 'aag 1 0 1 0 0 0 1\n2 2 2\n3\n' 'aag 1 0 1 0 0 0 1\n2 2 2\n2\n' \
+    miters 'a constraint of the first before those of a pair' \
+        'aag 1 0 1 0 0 0 1\n2 2 2\n3\n' 'aag 1 0 1 0 0 0 1\n2 2 2\n2\n' \
         'aag 7 0 3 0 4 1 2\n2 2 2\n4 4 4\n6 1\n5\n3\n15\n8 4 2\n10 5 3\n12 11 9\n14 12 7\n'
 }
 
@@ -156,21 +159,25 @@ rows_by_names() {
         'aag 4 2 0 0 2\n2\n4\n8 2 1\n6 4 1\n' --by-name
     miters 'nothing that could have a name' 'aag 1 0 1 0 0\n2 2\n' 'aag 0 0 0 0 0\n' 'aag 1 0 1 0 0\n2 2\n' --by-name
     miters 'latches and constraints by name, whose symbols say nothing' \
-        'aag 3 1 2 0 0 0 1\n2\n4 2 4\n6 2\n4\nl0 a\nl1 a\nc0 a\ni0 a\n' 'aag 3 1 2 0 0 0 1\n2\n4 2\n6 2 6\n4\nl1 a\ni0 a\n' \
+        'aag 3 1 2 0 0 0 1\n2\n4 2 4\n6 2\n4\nl0 a\nl1 a\nc0 a\ni0 a\n' \
+        'aag 3 1 2 0 0 0 1\n2\n4 2\n6 2 6\n4\nl1 a\ni0 a\n' \
         "aag 11 1 5 0 5 1 2\n2\n4 2 4\n6 2\n10 8\n12 8 12\n14 1\n11\n4\n23\n$(
         )8 2 1\n16 12 4\n18 13 5\n20 19 17\n22 20 15\n" --by-name
 }
 
 # outputs and bad states are named as one list, so that each may be with the other in the second circuit
 rows_mixed_names() {
-    local mixed='aag 11 1 0 0 10 3\n2\n10\n16\n22\n4 2 1\n6 4 2\n8 5 3\n10 9 7\n12 5 3\n14 4 2\n16 15 13\n18 1 0\n20 1 0\n22 21 19\n'
+    local mixed="aag 11 1 0 0 10 3\n2\n10\n16\n22\n4 2 1\n$(
+        )6 4 2\n8 5 3\n10 9 7\n12 5 3\n14 4 2\n16 15 13\n18 1 0\n20 1 0\n22 21 19\n"
     local first='aag 1 1 0 1 0 2\n2\n2\n3\n0\n' second='aag 1 1 0 2 0 1\n2\n1\n2\n3\n'
-    miters 'outputs and bad states mixed, by name' "${first}i0 i\no0 x\nb0 y\nb1 z\n" "${second}i0 i\no0 z\no1 x\nb0 y\n" \
-        "$mixed" --by-name
-    miters 'symbol lines in any order' "${first}b1 z\no0 x\ni0 i\nb0 y\n" "${second}b0 y\no1 x\no0 z\ni0 i\n" "$mixed" --by-name
-    miters 'names of inputs that outputs have too' "${first}i0 x\no0 x\nb0 y\nb1 z\n" "${second}o0 z\no1 x\nb0 y\ni0 x\n" \
-        "$mixed" --by-name
-    miters 'outputs that all are bad states, by name' 'aag 0 0 0 2 0\n0\n1\no0 f\no1 g\n' 'aag 0 0 0 0 0 2\n1\n0\nb0 g\nb1 f\n' \
+    miters 'outputs and bad states mixed, by name' \
+        "${first}i0 i\no0 x\nb0 y\nb1 z\n" "${second}i0 i\no0 z\no1 x\nb0 y\n" "$mixed" --by-name
+    miters 'symbol lines in any order' \
+        "${first}b1 z\no0 x\ni0 i\nb0 y\n" "${second}b0 y\no1 x\no0 z\ni0 i\n" "$mixed" --by-name
+    miters 'names of inputs that outputs have too' \
+        "${first}i0 x\no0 x\nb0 y\nb1 z\n" "${second}o0 z\no1 x\nb0 y\ni0 x\n" "$mixed" --by-name
+    miters 'outputs that all are bad states, by name' \
+        'aag 0 0 0 2 0\n0\n1\no0 f\no1 g\n' 'aag 0 0 0 0 0 2\n1\n0\nb0 g\nb1 f\n' \
         'aag 6 0 0 0 6 2\n6\n12\n2 0 0\n4 1 1\n6 5 3\n8 1 1\n10 0 0\n12 11 9\n' --by-name
 }
 
@@ -196,7 +203,7 @@ rows_wrong_names() {
     wrong_names 'a name twice, of outputs' "i1 b\ni0 a\no1 c\no0 c\n$ef" 'output 1: name given twice'
     wrong_names 'a name twice, of bad states' "$ab${cd}b1 e\nb0 e\n" 'bad state 1: name given twice'
     wrong_names 'a name twice, of an output and a bad state' "$ab${cd}b0 d\nb1 f\n" 'bad state 0: name given twice'
-    wrong_names 'a name of a bad state twice, which an output has too' "$ab${cd}b0 c\nb1 c\n" 'bad state 0: name given twice'
+    wrong_names 'a name of a bad state twice, and of an output' "$ab${cd}b0 c\nb1 c\n" 'bad state 0: name given twice'
     wrong_names 'a name of an input twice, and then no name' 'i0 a\ni1 a\n' 'input 1: name given twice'
     wrong_names 'no name of an input, and then names twice' 'i1 a\no0 c\no1 c\nb0 c\nb1 c\n' 'input 0: no name'
     wrong_names 'a name of an output twice, and then no name' "${ab}o0 c\no1 c\n" 'output 1: name given twice'
@@ -220,15 +227,17 @@ rows_other_names() {
     other_name 'no such names of inputs and of an output' "i0 y\ni1 x\no0 c\no1 z\n$ef" 'input 0'
     other_name 'no such names of an output and a bad state' "${ab}o0 c\no1 z\nb0 y\nb1 f\n" 'output 1'
     no_miter 'no such name, of an output more' "$first" 'aag 0 0 0 2 0\n0\n1\no0 x\no1 z\n' "output 1: $no" --by-name
-    no_miter 'no such name, of a bad state more' "$first" 'aag 0 0 0 0 0 2\n0\n1\nb0 x\nb1 z\n' "bad state 1: $no" --by-name
+    no_miter 'no such name, of a bad state more' "$first" 'aag 0 0 0 0 0 2\n0\n1\nb0 x\nb1 z\n' \
+        "bad state 1: $no" --by-name
     no_miter 'a name of a bad state more, twice' "$first" 'aag 0 0 0 0 0 2\n0\n1\nb0 y\nb1 y\n' \
         'bad state 1: name given twice' --by-name
 }
 
-# Of the second circuit the first of these is told: justice or fairness, counts of inputs, of outputs and bad states, that
-# both are too large. By name the counts and the names come first.
+# Of the second circuit the first of these is told: justice or fairness, counts of inputs, of outputs and bad states,
+# that both are too large. By name the counts and the names come first.
 rows_incomparable() {
-    local liveness='justice or fairness cannot be compared' inputs='not as many inputs' outputs='not as many outputs and bad states'
+    local liveness='justice or fairness cannot be compared'
+    local inputs='not as many inputs' outputs='not as many outputs and bad states'
     local justice='aag 0 0 0 0 0 0 0 1\n0\n' fairness='aag 0 0 0 0 0 0 0 0 1\n1\n' empty='aag 0 0 0 0 0\n'
     no_first 'a justice property of the first' 'aag 1 1 0 0 0 0 0 1\n2\n2\n2\n3\n' "$liveness"
     no_first 'a justice property of the first, without literals' "$justice" "$liveness"
@@ -253,7 +262,8 @@ rows_incomparable() {
     no_miter 'justice, and more inputs' "$inverter" 'aag 2 2 0 1 0 0 0 1\n2\n4\n3\n0\n' "$liveness"
     no_miter 'justice, and more outputs' "$inverter" 'aag 1 1 0 2 0 0 0 1\n2\n3\n3\n0\n' "$liveness"
     no_miter 'more inputs, and no outputs' "$inverter" 'aag 2 2 0 0 0\n2\n4\n' "$inputs"
-    no_miter 'more inputs, and no outputs, by name' "${inverter}i0 a\no0 b\n" 'aag 2 2 0 0 0\n2\n4\n' "$inputs" --by-name
+    no_miter 'more inputs, and no outputs, by name' "${inverter}i0 a\no0 b\n" 'aag 2 2 0 0 0\n2\n4\n' \
+        "$inputs" --by-name
     no_miter 'more inputs and justice, by name' 'aag 0 0 0 0 0\n' 'aag 1 1 0 0 0 0 0 1\n2\n0\n' "$inputs" --by-name
     no_miter 'more outputs, and no names' 'aag 1 1 0 0 0\n2\ni0 a\n' 'aag 1 1 0 1 0\n2\n2\n' "$outputs" --by-name
     no_miter 'no name of an output, and no such name of an input' "${inverter}i0 a\no0 b\n" "${inverter}i0 x\n" \
@@ -264,7 +274,8 @@ rows_incomparable() {
 
 # as many variables as there may be, and one more; gates and latches for what is compared count too
 rows_too_large_to_compare() {
-    local large='too large to compare' empty='aag 0 0 0 0 0\n' all='aag 2147483647 0 0 0 0\n' last='aag 1 0 1 0 0\n2 2 2\n'
+    local large='too large to compare' empty='aag 0 0 0 0 0\n' all='aag 2147483647 0 0 0 0\n'
+    local last='aag 1 0 1 0 0\n2 2 2\n'
     no_miter 'two circuits of the most variables' "$all" "$all" "$large"
     miters 'the most variables, and none' "$all" "$empty" "$all"
     miters 'no variables, and the most' "$empty" "$all" "$all"
@@ -276,20 +287,23 @@ rows_too_large_to_compare() {
     no_miter 'a gate too many' 'aag 2147483644 0 0 1 0\n0\n' 'aag 1 0 0 1 0\n0\n' "$large"
     miters 'the largest constraint of a pair' 'aag 2147483641 0 1 0 0\n2 2 2\n' "$last" \
         "aag 2147483647 0 3 0 4 0 1\n2 2 2\n4294967284 4294967284 4294967284\n4294967286 1\n4294967295\n$(
-        )4294967288 4294967284 2\n4294967290 4294967285 3\n4294967292 4294967291 4294967289\n4294967294 4294967292 4294967287\n"
+        )4294967288 4294967284 2\n4294967290 4294967285 3\n$(
+        )4294967292 4294967291 4294967289\n4294967294 4294967292 4294967287\n"
     no_miter 'a pair too many' 'aag 2147483642 0 1 0 0\n2 2 2\n' "$last" "$large"
     no_miter 'more inputs, and too large' "$all" 'aag 1 1 0 0 0\n2\n' 'not as many inputs'
     no_miter 'more outputs, and too large' "$all" 'aag 1 0 0 1 0\n0\n' 'not as many outputs and bad states'
-    no_miter 'justice, and too large to compare' "$all" 'aag 1 0 0 0 0 0 0 1\n0\n' 'justice or fairness cannot be compared'
+    no_miter 'justice, and too large to compare' "$all" 'aag 1 0 0 0 0 0 0 1\n0\n' \
+        'justice or fairness cannot be compared'
 }
 
-# errors of the first circuit come first, those of the second are told by its own name, and a limit is one on each of them
+# errors of the first circuit come first, those of the second are told by its own name, and a limit is one on each
 rows_compared_sources() {
     local first second live='aag 0 0 0 0 0 0 0 0 1\n1\n' toggle='aag 1 0 1 2 0\n2 3\n2\n3\n'
     no_first 'an empty first file' '' 'line 1: not an AIGER file'
     no_first 'a first file that ends too early' 'aag 2 1 0 1 1\n2\n4\n' 'line 4: file ends too early'
     no_first 'a cycle in the first file' 'aag 3 1 0 0 2\n2\n4 6 2\n6 4 2\n' 'gate 4 depends on a cycle'
-    no_first 'a symbol given twice in the first file' 'aag 1 1 0 0 0\n2\ni0 a\ni0 b\n' 'line 4: symbol given twice' --by-name
+    no_first 'a symbol given twice in the first file' 'aag 1 1 0 0 0\n2\ni0 a\ni0 b\n' \
+        'line 4: symbol given twice' --by-name
     no_first 'a bad line behind justice in the first file' 'aag 0 0 0 0 0 0 0 1 1\n0\nx\n' 'line 3: bad line'
     no_first 'a limit that the first does not keep' "$inverter" 'line 1: number above the limit' --max-var 0
     no_miter 'an empty second file' "$inverter" '' 'line 1: not an AIGER file'
@@ -299,7 +313,8 @@ rows_compared_sources() {
     no_miter 'an undefined literal, and more inputs' "$inverter" 'aag 3 2 0 1 0\n2\n4\n6\n' 'literal 6 not defined'
     no_miter 'a second file by name that ends too early' "${inverter}i0 a\no0 b\n" 'aag 1 1 0 1 0\n2\n' \
         'line 3: file ends too early' --by-name
-    no_miter 'a limit that the second does not keep' "$inverter" 'aag 2 1 0 1 0\n4\n5\n' 'line 1: number above the limit' --max-var 1
+    no_miter 'a limit that the second does not keep' "$inverter" 'aag 2 1 0 1 0\n4\n5\n' \
+        'line 1: number above the limit' --max-var 1
     miters 'a limit that both keep and their miter does not' "$inverter" "$inverter" "$inverters" --max-var 1
     model "$inverter"
     first=$model
@@ -322,8 +337,8 @@ rows_compared_sources() {
         aigmiter "$first" "$model" "$work/miter.aig"
     row 'a first circuit without names, by its name' "$toggle" '' "aiger: $model: output 0: no name\n" 1 \
         aigmiter --by-name "$model" -
-    row 'a second circuit without names, by its name' "${toggle}o0 a\no1 b\n" '' "aiger: $model: output 0: no name\n" 1 \
-        aigmiter --by-name - "$model"
+    row 'a second circuit without names, by its name' "${toggle}o0 a\no1 b\n" '' \
+        "aiger: $model: output 0: no name\n" 1 aigmiter --by-name - "$model"
 }
 
 rows_miter_words() {
@@ -336,18 +351,22 @@ rows_miter_words() {
     misused 'one circuit, by name' \
         "$needed\n  <second>\n\nUsage: aiger aigmiter --by-name <first> <second> [destination]" aigmiter --by-name -
     misused 'a name too many to compare' "unexpected argument 'z' found$all" aigmiter w x y z
-    misused 'pairs by name twice' "the argument '--by-name' cannot be used multiple times$all" aigmiter --by-name x --by-name y
-    misused 'a part of the option of comparisons' "unexpected argument '--by-nam' found\n\n  tip: a similar argument exists: '--by-name'$(
+    misused 'pairs by name twice' "the argument '--by-name' cannot be used multiple times$all" \
+        aigmiter --by-name x --by-name y
+    misused 'a part of the option of comparisons' "unexpected argument '--by-nam' found$(
+        )\n\n  tip: a similar argument exists: '--by-name'$(
         )\n\nUsage: aiger aigmiter --by-name <first> <second> [destination]" aigmiter --by-nam x y
     misused 'an option of conversions, to compare' \
-        "unexpected argument '--strip' found\n\n  tip: to pass '--strip' as a value, use '-- --strip'$all" aigmiter --strip x y
-    misused 'ASCII by another letter, to compare' "unexpected argument '-a' found\n\n  tip: to pass '-a' as a value, use '-- -a'$all" \
-        aigmiter -a x y
+        "unexpected argument '--strip' found\n\n  tip: to pass '--strip' as a value, use '-- --strip'$all" \
+        aigmiter --strip x y
+    misused 'ASCII by another letter, to compare' \
+        "unexpected argument '-a' found\n\n  tip: to pass '-a' as a value, use '-- -a'$all" aigmiter -a x y
     misused 'the option of comparisons for a conversion' "unexpected argument '--by-name' found$(
-        )\n\n  tip: to pass '--by-name' as a value, use '-- --by-name'\n\nUsage: aiger aigtoaig [OPTIONS] [source] [destination]" \
-        aigtoaig --by-name
+        )\n\n  tip: to pass '--by-name' as a value, use '-- --by-name'$(
+        )\n\nUsage: aiger aigtoaig [OPTIONS] [source] [destination]" aigtoaig --by-name
     misused 'a limit of comparisons above the largest' \
-        "invalid value '2147483648' for '--max-var <N>': 2147483648 is not in 0..=2147483647" aigmiter --max-var 2147483648 x y
+        "invalid value '2147483648' for '--max-var <N>': 2147483648 is not in 0..=2147483647" \
+        aigmiter --max-var 2147483648 x y
     unwanted 'both circuits by standard input' "$both" aigmiter - -
     unwanted 'both circuits by standard input, behind --' "$both" aigmiter --by-name --ascii -- - -
     unwanted 'both circuits by standard input, and a compressed miter' "$both" aigmiter - - x.gz
@@ -376,5 +395,6 @@ rows_miter_traces() {
     with_properties 'two toggles without initial values side by side' '\n\n' 'xx0   xx1 x x\nxx1   xx1 x 1\n.\n'
     row 'toggles that start unlike' '1\nb0\n010\n\n\n.\n' 'not confirmed\n' '' 1 aigsim --witness "$model"
     model 'aag 10 0 3 0 7 1 1\n2 3 2\n4 5 4\n12 1\n10\n21\n6 5 2\n8 4 3\n10 9 7\n14 4 2\n16 5 3\n18 17 15\n20 18 13\n'
-    row 'toggles that start alike, of which one is negated' '1\nb0\n110\n\n\n.\n' 'confirmed 0\n' '' 0 aigsim --witness "$model"
+    row 'toggles that start alike, of which one is negated' '1\nb0\n110\n\n\n.\n' 'confirmed 0\n' '' 0 \
+        aigsim --witness "$model"
 }

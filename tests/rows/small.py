@@ -54,7 +54,9 @@ TOKENS_REFUTED = b"-10 0\n0\n"
 # an uninitialised latch that keeps itself, and one that is negated
 STARTED = b"aag 1 0 1 1 0\n2 2 2\n2\n"
 STARTED_OTHERWISE = b"aig 1 0 1 0 0 1\n3 2\n3\n"
-STARTED_ALIKE = b"aag 10 0 3 0 7 1 1\n2 2 2\n4 5 4\n12 1\n10\n21\n6 5 2\n8 4 3\n10 9 7\n14 4 2\n16 5 3\n18 17 15\n20 18 13\n"
+STARTED_ALIKE = (
+    b"aag 10 0 3 0 7 1 1\n2 2 2\n4 5 4\n12 1\n10\n21\n6 5 2\n8 4 3\n10 9 7\n14 4 2\n16 5 3\n18 17 15\n20 18 13\n"
+)
 STARTED_ALIKE_IMAGE = (
     b"aig 10 0 3 0 7 1 1\n2 2\n5 4\n1\n12\n21\n\x03\x03\x06\x01\x01\x02\x0a\x02\x0b\x02\x01\x02\x02\x0b"
 )

@@ -186,7 +186,8 @@ class Judge:
             wants = [(b"", errors, status)] * 2
             if not status:
                 made = named(canonical)
-                wants = miters.wanted(made, beside, words, ("-", "other")), miters.wanted(beside, made, words, ("other", "-"))
+                wants = [miters.wanted(made, beside, words, ("-", "other"))]
+                wants.append(miters.wanted(beside, made, words, ("other", "-")))
             for files, wanted in zip(("- other", "other -"), wants):
                 self.expect(f"aigmiter {words} {files}", text, *wanted)
 

@@ -4,9 +4,9 @@
     tests/run/spread_gates.py PROGRAM
 
 What is in any order may take at most eight times the time of a processor: as ASCII, as binary, with a map, and back
-by that map; and compared with itself, with variables up to nearly half of the largest. The least of some runs counts. Each
-output is judged too: ASCII text is the file itself, and so is what comes back by the map; the image is its own image; and a
-miter in binary is the image of that in ASCII.
+by that map; and compared with itself, with variables up to nearly half of the largest. The least of some runs counts.
+Each output is judged too: ASCII text is the file itself, and so is what comes back by the map; the image is its own
+image; and a miter in binary is the image of that in ASCII.
 
 The last line is 'N passed, M failed'.
 """
@@ -37,15 +37,16 @@ COMPARISONS = {
     "a miter in ASCII": (["aigmiter", "--ascii", "-", GIVEN], "source"),
     "a miter in binary": (["aigmiter", "-", GIVEN], "source"),
 }
+SAME = [("source", "to ASCII"), ("source", "by the map"), ("to binary", "again")]
 # what is made of a source, its largest variable, what is made an image again, and what is to be the same
 CHECKS = [
-    (CONVERSIONS, generate.LARGEST, "to binary", [("source", "to ASCII"), ("source", "by the map"), ("to binary", "again")]),
+    (CONVERSIONS, generate.LARGEST, "to binary", SAME),
     (COMPARISONS, generate.LARGEST // 2 - GATES, "a miter in ASCII", [("a miter in binary", "again")]),
 ]
 
 
 def times_of(program, kinds, source):
-    """The least time of each of these kinds, in seconds. What it gives is a file that is named by the source and the kind."""
+    """The least time of each of these kinds, in seconds. What it gives is a file named by the source and the kind."""
     found = {}
     for kind, (words, of) in kinds.items():
         given = source if of == "source" else f"{source} {of}"

@@ -258,7 +258,7 @@ def compared_alike(here, text, image, made):
 
 
 def same_miter(here, first, second, words):
-    """The miter of two circuits, of each its text and itself, is that of the plain model, or the right one is refused."""
+    """The miter of two circuits, which come with their texts, is that of the plain model, or one of them is refused."""
     (text, one), (other, two) = first, second
     call, names = Call([*words, "first", "-"], other, {"first": text}), ("first", "-")
     if here.chance.randrange(2):
