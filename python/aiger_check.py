@@ -2370,7 +2370,7 @@ class Run:
         if not circuit.constraints or not circuit.bad or not tools.solver or self.given.quiet:
             return
         parts = {name: getattr(circuit, name) for name in ("max_var", "inputs", "latches", "constraints", "gates")}
-        path, clauses = self.folder / "first.aig", self.folder / "first.cnf"
+        path, clauses = self.folder / "start.aig", self.folder / "start.cnf"
         path.write_bytes(aigtools().Circuit(bad=[1], **parts).write())
         told = tools.aiger.run("aigunroll", "--frames", 1, "--cnf", path, clauses, folder=self.folder)
         if told.status == 0 and tools.solver.solve(clauses, tools.limits.time)[0] is Said.UNSATISFIABLE:
