@@ -1,9 +1,11 @@
 #!/usr/bin/env python3
-"""aiger-check: from Verilog, or from an AIGER model, to an answer for each assertion.
+"""aiger-check: from Verilog, or from an AIGER model, to an answer for each assertion; and of two of these whether they
+are equal.
 
 Yosys writes the design as an AIGER model. For each assertion ABC looks for an invariant, and a SAT solver for a run
 that breaks it. What they say is not believed: each answer that is printed is one that the program ``aiger`` gave of
-the model, by a witness, a refutation or an invariant.
+the model, by a witness, a refutation or an invariant. For two designs the model is their miter, which ``aiger`` makes:
+its bad states say where they differ.
 """
 
 import argparse
@@ -35,13 +37,21 @@ VERSION = "1.2.0"
 PROGRAM = "aiger-check"
 
 HELP = """\
-Check each assertion of a design: is it kept for ever, for some steps, or broken?
+Check each assertion of a design: is it kept for ever, for some steps, or
+broken? Or compare two designs: are their outputs equal?
 
 Usage: aiger-check [OPTION].. --top NAME FILE.sv..    Verilog or SystemVerilog
        aiger-check [OPTION].. MODEL                   an AIGER file
+       aiger-check --equal [OPTION].. OLD NEW         two of either kind
 
 Options:
-      --top <NAME>         The top module of the Verilog files
+      --equal              Compare two designs. Each is one file; several of
+                           Verilog have commas between
+      --by-name            Pair two AIGER files by their symbols, and not by
+                           their places
+      --top <NAME>         The top module of the Verilog files; with --equal
+                           twice if that of NEW has another name. Of one file
+                           with --top twice the two modules are compared
   -D <NAME[=VALUE]>        Define a macro; may be given many times
   -I <DIR>                 Look for included files there; many times too
       --frames <K>         Search runs of at most K steps (default: 50)
@@ -68,6 +78,18 @@ The answer for an assertion is one of these.
 
 The assertions of an AIGER file are its bad states, by symbol, or as b0, b1, ..
 
+With --equal a pair of outputs, or of bad states, has one of these answers.
+  equal               in every step, while the assumptions of OLD are kept
+  equal for K steps   in the first K steps of each run
+  differs at N        not in step N of a run, the least, counted from 0; with
+                      --keep its stimulus is there
+  unknown             neither was shown; the reason follows
+A line for each assumption of NEW follows: that OLD keeps it holds, holds for K
+steps, fails at N or is unknown.
+
+Verilog designs need the same inputs and outputs, which are paired by name; so
+are assertions that both have. Registers without initial value start alike.
+
 What is trusted: that Yosys translates the Verilog as it is meant is not proved.
 All behind it is: each answer is one that aiger, a proved program, gave of the
 model that Yosys wrote. What ABC and the solver say is checked.
@@ -86,16 +108,18 @@ The variables AIGER, YOSYS, ABC and SOLVER name other programs than aiger,
 yosys, berkeley-abc and cadical.
 
 Exit status:
-  0  each answer is never or none within K
-  1  an assertion is broken: reached at N
-  2  anything else: an answer is unknown, there is no assertion, a tool or a
-     file is missing, or the command line was refused
+  0  each answer is never or none within K; equal, equal for K steps, holds
+  1  an assertion is broken: reached at N; a pair differs; an assumption fails
+  2  anything else: an answer is unknown, there is no assertion or pair, a tool
+     or a file is missing, or the command line was refused
   130, 143  ended by an interrupt, or by a signal to end
 
 Examples:
   aiger-check --top queue queue.sv arbiter.sv
   aiger-check --top queue -D DEPTH=8 -I include --keep out queue.sv
   aiger-check --frames 100 model.aig
+  aiger-check --equal old.aig new.aig
+  aiger-check --equal --top queue old.sv new.sv,fifo.sv
 """
 
 

@@ -161,7 +161,7 @@ PAIRS = {
     "names": (NAMED, EXCHANGED, [("both", None)]),
     "an operand negated": (NAMED, AND.replace("6 4 2\n", "6 4 3\n"), [("both", 0)]),
     "De Morgan": (
-        "aag 5 2 0 1 3\n2\n4\n10\n6 4 3\n8 5 2\n10 9 7\n", "aag 5 2 0 1 3\n2\n4\n11\n6 4 2\n8 5 3\n10 9 7\n", [("o0", 0)],
+        "aag 5 2 0 1 3\n2\n4\n10\n6 4 3\n8 5 2\n10 9 7\n", "aag 5 2 0 1 3\n2\n4\n11\n6 4 2\n8 5 3\n10 9 7\n", [("o0", None)],
     ),
     "exclusive or in two ways": (
         "aag 5 2 0 1 3\n2\n4\n11\n6 4 3\n8 5 2\n10 9 7\n", "aag 5 2 0 1 3\n2\n4\n10\n6 4 2\n8 5 3\n10 9 7\n", [("o0", None)],
@@ -346,15 +346,15 @@ def lying(what, said_by, which, room):
     make = stand_ins.lying_solver if what == "SOLVER" else stand_ins.lying_abc
     changes = {**honest(room), what: make(room.folder / "lies", said_by)}
     way = checked.SAFE if what == "SOLVER" else checked.BOUNDED
-    said = room.run("--equal", "--frames", "8", "--limit", "60", "old", "new", changes=changes)
-    judge(said, wanted, way, 8)
+    said = room.run("--equal", "--frames", "4", "--limit", "60", "old", "new", changes=changes)
+    judge(said, wanted, way, 4)
 
 
 def turned_solver(which, room):
     first, second, wanted = LIED_OF[which]
     put(room, first, second)
     changes = {**honest(room), "SOLVER": stand_ins.turned_solver(room.folder / "lies")}
-    judge(room.run("--equal", "--frames", "8", "old", "new", changes=changes), wanted, checked.SAFE, 8)
+    judge(room.run("--equal", "--frames", "2", "old", "new", changes=changes), wanted, checked.SAFE, 2)
 
 
 def failing_aiger(word, with_words, status, which, room):
@@ -362,9 +362,9 @@ def failing_aiger(word, with_words, status, which, room):
     put(room, first, second)
     changes = honest(room)
     changes["AIGER"] = stand_ins.failing(room.folder / "lies", "aiger", room.program, word, with_words, status)
-    said = room.run("--equal", "--frames", "8", "old", "new", changes=changes)
+    said = room.run("--equal", "--frames", "4", "old", "new", changes=changes)
     if said.out:
-        judge(said, wanted, checked.SAFE, 8)
+        judge(said, wanted, checked.SAFE, 4)
     else:
         checked.refused(said)
 
@@ -373,9 +373,9 @@ def without(name, which, room):
     """Without ABC or a solver."""
     first, second, wanted = LIED_OF[which]
     put(room, first, second)
-    changes = {**honest(room), name: "/no/such/program"}
+    changes = {**honest(room), name: "/no/such/cadical"}
     way = checked.SAFE if name == "SOLVER" else checked.BOUNDED
-    judge(room.run("--equal", "--frames", "8", "old", "new", changes=changes), wanted, way, 8)
+    judge(room.run("--equal", "--frames", "4", "old", "new", changes=changes), wanted, way, 4)
 
 
 def slow_solver(room):
