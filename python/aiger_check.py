@@ -1626,9 +1626,11 @@ class Front:
         asked = [it for it in self.properties if it.kind == "$assert"]
         if sorted(bad) != sorted(it.cell for it in asked):
             raise Trouble("which bad state is which assertion cannot be told")
-        # a stable sort: instances stay as they stand in the design
-        asked.sort(key=lambda it: (self.sources.order(it.file), it.line, it.column))
-        return [Assertion(f"{self.top}.{it.name}", self.place(it), bad[it.cell], it.cell) for it in asked]
+        return [Assertion(f"{self.top}.{it.name}", self.place(it), bad[it.cell], it.cell) for it in self.sorted(asked)]
+
+    def sorted(self, asked: List[Property]) -> List[Property]:
+        """Properties in the order of the source. The sort is stable: instances stay as they stand in the design."""
+        return sorted(asked, key=lambda it: (self.sources.order(it.file), it.line, it.column))
 
     def positions(self, *kinds: str) -> List[Dict[str, int]]:
         """Of each kind of cell the bad state or the constraint that it is, by the cell's name: in a second model of the
@@ -1692,8 +1694,8 @@ class Ports(Front):
         self.circuit = aigtools().read((self.sources.folder / "model.aig").read_bytes())
         self.inputs = self.told("input", "i", self.circuit.inputs)
         self.outputs = self.told("output", "o", self.circuit.outputs)
-        self.asserted = self.in_order("$assert", bad)
-        self.assumed = self.in_order("$assume", assumed)
+        self.asserted = self.placed("$assert", bad)
+        self.assumed = self.placed("$assume", assumed)
 
     def told(self, direction: str, kind: str, literals: Sequence[int]) -> List[str]:
         """The name of each input or output. What is undriven or x is an input without a name."""
@@ -1709,12 +1711,12 @@ class Ports(Front):
             raise Trouble(f"{visible(self.called)}: which {direction} is which cannot be told")
         return names
 
-    def in_order(self, kind: str, positions: Dict[str, int]) -> List[str]:
-        """The names of its properties of a kind, by position."""
-        named = {positions[it.cell]: it.name for it in self.properties if it.kind == kind and it.cell in positions}
-        if len(named) != len(positions):
+    def placed(self, kind: str, positions: Dict[str, int]) -> List[Tuple[str, int]]:
+        """Its properties of a kind, by name and position."""
+        asked = self.sorted([it for it in self.properties if it.kind == kind])
+        if sorted(positions) != sorted(it.cell for it in asked):
             raise Trouble(f"{visible(self.called)}: which {kind[1:]} is which cannot be told")
-        return [named[at] for at in range(len(named))]
+        return [(it.name, positions[it.cell]) for it in asked]
 
     def named(self, direction: str) -> List[str]:
         """The names of its inputs or outputs, as they are declared."""
@@ -1732,7 +1734,7 @@ class Ports(Front):
     def arranged(self, inputs: List[str], undriven: int, start: List[int], outputs: List[str], bad: List[str]) -> Any:
         """Its model with these inputs, then so many of what is undriven; these latches before others; these outputs;
         and these assertions as bad states."""
-        circuit, own = self.circuit, dict(zip(self.inputs, self.circuit.inputs))
+        circuit, own, asserted = self.circuit, dict(zip(self.inputs, self.circuit.inputs)), dict(self.asserted)
         free = self.undriven()
         spare = [2 * (circuit.max_var + 1 + at) for at in range(undriven - len(free))]
         compared, order = dict(zip(self.outputs, circuit.outputs)), start + [
@@ -1742,7 +1744,7 @@ class Ports(Front):
         symbols = [("i", at, name) for at, name in enumerate([*inputs, *(f"undriven {at}" for at in range(undriven))])]
         symbols += [("o", at, name) for at, name in enumerate(outputs)]
         symbols += [("b", at, f"assertion {name}") for at, name in enumerate(bad)]
-        symbols += [("c", at, name) for at, name in enumerate(self.assumed)]
+        symbols += [("c", at, name) for at, (name, _) in enumerate(self.assumed)]
         places = {at: new for new, at in enumerate(order)}
         held = [("l", places[it.position], it.name) for it in circuit.symbols if it.kind == "l"]
         return aigtools().Circuit(
@@ -1750,8 +1752,8 @@ class Ports(Front):
             inputs=[*(own[name] for name in inputs), *free, *spare],
             latches=[latches[at] for at in order],
             outputs=[compared[name] for name in outputs],
-            bad=[circuit.bad[self.asserted.index(name)] for name in bad],
-            constraints=circuit.constraints,
+            bad=[circuit.bad[asserted[name]] for name in bad],
+            constraints=[circuit.constraints[position] for _, position in self.assumed],
             gates=circuit.gates,
             symbols=held + [(kind, at, name.encode(errors="surrogateescape")) for kind, at, name in symbols],
         )
@@ -1799,12 +1801,13 @@ class TwoPorts:
 
     def assertions(self) -> List[str]:
         """Those that both have, by name; others are noted."""
-        both = (self.first, self.second)
-        names = [name for name in self.first.asserted if all(it.asserted.count(name) == 1 for it in both)]
-        for it in both:
-            for name in dict.fromkeys(it.asserted):
+        asserted = [[name for name, _ in it.asserted] for it in (self.first, self.second)]
+        names = [name for name in asserted[0] if all(its.count(name) == 1 for its in asserted)]
+        for it, its in zip((self.first, self.second), asserted):
+            for name in dict.fromkeys(its):
                 if name not in names:
-                    self.notes.append(f"the assertion {visible(name)} of {visible(it.called)} is not compared: not one of each")
+                    why = "is not compared: it is not one of each design"
+                    self.notes.append(f"assertion {visible(name)} of {visible(it.called)} {why}")
         return names
 
     def starts(self) -> List[List[int]]:
