@@ -101,23 +101,16 @@ impl Pieces for BinaryReader {
         let mut at = Cursor::at_line(lines.number, bytes);
         let (header, circuit) = match lines.finish(alloc, &mut at) {
             Ok(found) => found,
-            Err(fault) => {
-                drop(gates); // for the proof
-                return Err(fault);
-            }
+            Err(fault) => return Err(fault),
         };
         let mut circuit = circuit;
         let first = 1 + header.inputs + header.latches;
         let (gates, rest) = match read_gates(gates, first, header.gates, at.rest) {
             Ok(found) => found,
-            Err(fault) => {
-                drop(circuit); // for the proof
-                return Err(fault);
-            }
+            Err(fault) => return Err(fault),
         };
         // The inputs that a header promises take memory only where all lines and gates were there.
         if let Err(fault) = add_definitions(alloc, &header, gates, &mut circuit) {
-            drop(circuit); // for the proof
             return Err(fault);
         }
         tail(alloc, &header, circuit, Cursor::at_line(at.number, rest))
