@@ -5,27 +5,22 @@ use Rattle.std.specs.List.{All, AllZip}
 use Rattle.std.proofs.lemmas.List.{length-map, take-append-drop}
 use Rattle.std.proofs.lemmas.List.Elements.{All-cons, All-head, All-nil, All-tail}
 use Rattle.aig_circuit.specs.declared.circuit.Circuit.{Circuit}
-use Rattle.aig_circuit.specs.declared.circuit.Latch.{Latch}
-use Rattle.aig_circuit.specs.declared.circuit.Reset.{Reset}
 use Rattle.aig_circuit.specs.declared.value.Val.{Val}
 use Rattle.aig_circuit.specs.declared.value.Val.TheVariants.{Zero, One, X}
 use Rattle.aig_circuit.specs.Values.{value_not}
 use Rattle.aig_circuit.specs.Wellformed.{IsWellFormed}
 use Rattle.aig_meaning.specs.Meaning.{IsRow, Row, literal_value}
-use Rattle.aig_meaning.specs.Trace.{Follow, IsFirstState, IsTrace, MayStartAt}
+use Rattle.aig_meaning.specs.Trace.{Follow, IsTrace}
 use Rattle.aig_meaning.proofs.Traces.{bad_length}
-use Rattle.aig_invariant.proofs.Never.{invariants_mean_never}
-use Rattle.aig_miter.specs.Both.{Agree, AreSeenAlike, Holds, StayAlike, differ, joined_row, joined_rows, seen, value_xor}
+use Rattle.aig_miter.specs.Both.{Agree, AreSeenAlike, StayAlike, differ, joined_row, joined_rows, seen}
 use Rattle.aig_miter.specs.Parts.Comparable.{AreComparable}
-use Rattle.aig_miter.specs.Miter.{compared, moved, plain_miter, shifted}
+use Rattle.aig_miter.specs.Miter.{compared, plain_miter}
 use Rattle.aig_miter.proofs.Traces.{first_parted, met, parted}
-use Rattle.aig_reach.proofs.Whole.{unsatisfiable_means_none}
 use Rattle.aig_replay.specs.declared.search.Hit.{Hit}
 use Rattle.aig_replay.specs.Finding.{hit_from}
 use Rattle.aig_replay.specs.Laws.{IsFoundIn}
 use Rattle.aig_replay.proofs.FirstFound.{first_is_found}
-use Rattle.aig_witness.specs.declared.verdict.Verdict.TheVariants.{Confirmed}
-use Rattle.aig_witness.specs.Witness.{Claim, IsBad, IsConfirmedAt, IsFirstConfirmed, IsHeld, IsVerdict}
+use Rattle.aig_witness.specs.Witness.{Claim, IsBad, IsConfirmedAt, IsHeld}
 use Rattle.aig_equal.specs.Alike.{IsUnreachedFor}
 
 -- none of these values is 1

@@ -1,9 +1,9 @@
 -- The same where uninitialised latches start alike.
-use Rattle.std.proofs.Common.{◌≡◌, ◌↔◌, ◌<◌, ◌≤◌, ◌+◌, ◌++◌, ◌∙◌, ◌∷◌, ◌⊎◌, ℕ, zero, suc, List, [], Option, None, Some, ap}
-use Rattle.std.proofs.Common.{ap₂, arith, get_or, inl, inr, length, length-append, map, refl, subst, sym, drop, take, ⊎_elim}
+use Rattle.std.proofs.Common.{◌≡◌, ◌↔◌, ◌≤◌, ◌+◌, ◌++◌, ◌∙◌, ◌∷◌, ◌⊎◌, ℕ, suc, List, [], ap}
+use Rattle.std.proofs.Common.{ap₂, arith, inl, inr, length, map, refl, subst, sym, drop, take, ⊎_elim}
 use Rattle.std.specs.List.{All, AllByRecursion, AllZip}
-use Rattle.std.proofs.lemmas.List.{length-map, map-append, take-append-drop}
-use Rattle.std.proofs.lemmas.List.Elements.{All-append, All-cons, All-head, All-nil, All-same, All-tail}
+use Rattle.std.proofs.lemmas.List.{map-append, take-append-drop}
+use Rattle.std.proofs.lemmas.List.Elements.{All-append, All-cons, All-head, All-nil, All-tail}
 use Rattle.aig_circuit.specs.declared.circuit.Circuit.{Circuit}
 use Rattle.aig_circuit.specs.declared.circuit.Latch.{Latch}
 use Rattle.aig_circuit.specs.declared.circuit.Reset.{Reset}
@@ -11,20 +11,17 @@ use Rattle.aig_circuit.specs.declared.circuit.Reset.TheVariants as resets
 use Rattle.aig_circuit.specs.declared.value.Val.{Val}
 use Rattle.aig_circuit.specs.declared.value.Val.TheVariants.{Zero, One, X}
 use Rattle.aig_circuit.specs.Values.{value_and, value_not}
-use Rattle.aig_meaning.specs.Meaning.{IsRow, Row}
+use Rattle.aig_meaning.specs.Meaning.{Row}
 use Rattle.aig_meaning.specs.Trace.{Follow, IsFirstState, IsTrace, MayStartAt}
-use Rattle.aig_invariant.proofs.Never.{invariants_mean_never}
-use Rattle.aig_miter.specs.Both.{AreSeenAlike, Holds, StayAlike, differ, joined_row, seen}
+use Rattle.aig_miter.specs.Both.{StayAlike, differ, seen}
 use Rattle.aig_miter.specs.Parts.Comparable.{AreComparable}
 use Rattle.aig_miter.specs.Miter.{plain_miter}
 use Rattle.aig_miter.specs.Starts.{free_only, resets_of, started_miter, started_row, started_rows, unequal, unequal_now}
 use Rattle.aig_miter.proofs.Started.{started_met, started_parted}
 use Rattle.aig_miter.proofs.Traces.{first_parted, starts_parted}
-use Rattle.aig_reach.proofs.Whole.{unsatisfiable_means_none}
 use Rattle.aig_replay.specs.Finding.{hit_from}
 use Rattle.aig_replay.proofs.FirstFound.{first_is_found}
-use Rattle.aig_witness.specs.declared.verdict.Verdict.TheVariants.{Confirmed}
-use Rattle.aig_witness.specs.Witness.{Claim, IsBad, IsConfirmedAt, IsHeld, IsVerdict}
+use Rattle.aig_witness.specs.Witness.{IsBad, IsConfirmedAt, IsHeld}
 use Rattle.aig_equal.specs.Alike.{AreAlikeFor, IsUnreachedFor, StartAlike}
 use Rattle.aig_equal.proofs.Alike.{AreCompared, cut_follow, here, later as one_later, none_in, row_alike, row_fine, seen_length, take_few}
 use Rattle.aig_equal.proofs.Alike.{up_to}
@@ -99,13 +96,13 @@ module _ (c d : Circuit) (fit : AreComparable c d) where
       let started = starts_held later (unequal c d r s)
       (subst (λ (xs : List Val). (later ≡ One) ⊎ AllByRecursion (λ x. x ≡ Zero) xs) states so) in
       λ holds.
-          let held : IsHeld row =
-          All-append (λ (v : Val). v ≡ One) r.constraints
-          (map (λ (x : Val). value_not (unequal_now later x)) (unequal c d r s)) holds started in (
-            row_alike r s e (λ i bad. none i 0 (here i row rows held bad)),
-            alike r.next s.next One vs rs ss follow.3 follow_too.3 (inl refl)
-                (λ p at is. none p (suc at) (one_later p row rows at held is)),
-          )
+      let held : IsHeld row =
+      All-append (λ (v : Val). v ≡ One) r.constraints
+      (map (λ (x : Val). value_not (unequal_now later x)) (unequal c d r s)) holds started in (
+        row_alike r s e (λ i bad. none i 0 (here i row rows held bad)),
+        alike r.next s.next One vs rs ss follow.3 follow_too.3 (inl refl)
+            (λ p at is. none p (suc at) (one_later p row rows at held is)),
+      )
 
   -- rows that stay alike have no bad state while the constraints hold
   fine : (p : ℕ) (later : Val) (before : List Row) (row : Row) (behind rs ss : List Row)
@@ -148,11 +145,11 @@ module _ (c d : Circuit) (fit : AreComparable c d) where
       subst (AllByRecursion (λ x. x ≡ Zero))
       (ap₂ (λ (x y : List Val). differ (free_only (resets_of c) x) (free_only (resets_of d) y)) follow.0 follow_too.0)
       equal where
-    first_row : (before : List Row) → started_row c d Zero r s ∷ started_rows c d One rs ss ≡ before ++ row ∷ behind
-        → All IsHeld before → IsHeld row → IsHeld (started_row c d Zero r s)
-    first_row [] e held holds = let same : started_row c d Zero r s ≡ row = cc in subst IsHeld (sym same) holds
-    first_row (b ∷ bs) e held holds =
-        let same : started_row c d Zero r s ≡ b = cc in subst IsHeld (sym same) (All-head IsHeld b bs held)
+        first_row : (before : List Row) → started_row c d Zero r s ∷ started_rows c d One rs ss ≡ before ++ row ∷ behind
+            → All IsHeld before → IsHeld row → IsHeld (started_row c d Zero r s)
+        first_row [] e held holds = let same : started_row c d Zero r s ≡ row = cc in subst IsHeld (sym same) holds
+        first_row (b ∷ bs) e held holds =
+            let same : started_row c d Zero r s ≡ b = cc in subst IsHeld (sym same) (All-head IsHeld b bs held)
 
 -- a first state of the miter with equal starts is one of each circuit and a 0
 record IsPartedFirst (c d : Circuit) (first : List Val) : Type 0 where

@@ -1,5 +1,5 @@
 -- What is made of two circuits says whether they are alike.
-use Rattle.std.proofs.Common.{◌≡◌, ◌↔◌, ◌≤◌, ◌×◌, ◌∙◌, ℕ, List, [], ◌∷◌, None, arith, eqb, false, length, map, min, subst, sym}
+use Rattle.std.proofs.Common.{◌≡◌, ◌↔◌, ◌∙◌, ℕ, List, [], ◌∷◌, None, arith, eqb, false, length, min, subst, sym}
 use Rattle.std.proofs.Common.{true, ⊎_elim}
 use Rattle.std.specs.List.{AllByRecursion}
 use Rattle.std.proofs.lemmas.Bool.Decides.{eqb_tells}
@@ -15,13 +15,12 @@ use Rattle.aig_meaning.specs.Meaning.{latch_variables}
 use Rattle.aig_meaning.proofs.Traces.{first_length}
 use Rattle.aig_miter.specs.Both.{differ}
 use Rattle.aig_miter.specs.Laws.{IsMiterOf}
-use Rattle.aig_miter.specs.Miter.{plain_miter}
 use Rattle.aig_miter.specs.Outcome.{pair_fault}
-use Rattle.aig_miter.specs.Starts.{free_literals, free_only, miter, pairs, resets_of, started_miter}
+use Rattle.aig_miter.specs.Starts.{free_literals, free_only, miter, pairs, resets_of}
 use Rattle.aig_miter.proofs.Sizes.{as_plain, as_started, free_as_many}
 use Rattle.aig_miter.proofs.Whole.{made_means, pair_formed, pair_without_fault}
 use Rattle.aig_reach.proofs.Whole.{unsatisfiable_means_none}
-use Rattle.aig_equal.specs.Alike.{AreAlikeFor, IsUnreachedFor, StartAlike}
+use Rattle.aig_equal.specs.Alike.{AreAlikeFor, IsUnreachedFor}
 use Rattle.aig_equal.specs.Laws.{AlikeExactlyWhereUnreached, AllStartAlikeWithoutPairs, InvariantMeansAlike}
 use Rattle.aig_equal.specs.Laws.{RefutedMeansAlike}
 use Rattle.aig_equal.proofs.Alike.{AreCompared, AreFreelyAlike, freely_alike}
