@@ -82,10 +82,10 @@ module _ (request : Miter) (first : Circuit) (one two text : List ℕ) (is_first
       (subst (λ (c : Circuit). IsVerdict c claim verdict) same is)
 
   alike_where : (frames : ℕ) → IsUnreachedFor frames p.made → AreAlikeFor frames first p.is_made.paired
-  alike_where frames = (alike_exactly_where_unreached first p.is_made.paired p.made frames made_of).2
+  alike_where frames = (alike_exactly_where_unreached first p.is_made.paired p.made frames made_of).1
 
   unreached_where : (frames : ℕ) → AreAlikeFor frames first p.is_made.paired → IsUnreachedFor frames p.made
-  unreached_where frames = (alike_exactly_where_unreached first p.is_made.paired p.made frames made_of).1
+  unreached_where frames = (alike_exactly_where_unreached first p.is_made.paired p.made frames made_of).0
 
 pub miter_texts_are_files : MiterTextsAreFiles
 miter_texts_are_files request first one two text is_first p = the_file request first one two text is_first p
