@@ -174,8 +174,8 @@ pub fn simulate_batched<R: Source, W: Sink>(
     ensures transferred { Transferred (BatchSays checked.now columns result)
         (R.history source.old) (R.history source.new) (W.history sink.old) (W.history sink.new) }
 {
-    let (traced, output) =
-        simulate_batched_into(alloc, checked, columns, source, Output::new(sink));
+    let output = Output::new(sink);
+    let (traced, output) = simulate_batched_into(alloc, checked, columns, source, output);
     let _sink = output.into_sink();
     traced
 }

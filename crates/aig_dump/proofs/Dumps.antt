@@ -1,9 +1,9 @@
 -- What is sent where the dump of a trace is written.
-use Rattle.std.proofs.Common.{◌≡◌, ◌∙◌, ℕ, List, [], Bool, true, false, Result, Ok, Err, ap, ap₂, cond, is_err, is_ok, refl}
-use Rattle.std.proofs.Common.{subst, sym}
+use Rattle.std.proofs.Common.{◌≡◌, ◌∙◌, ℕ, List, [], Bool, true, false, Result, Ok, Err, ap, ap₂, cond, is_err, is_ok}
+use Rattle.std.proofs.Common.{refl, subst, sym}
 use Rattle.aig_io.specs.Devices.{History}
 use Rattle.aig_io.specs.Output.{Appended, Out}
-use Rattle.aig_io.specs.Runs.{All, AtEnd, Beginning, Broken, Delivery, Ending, IsCut, NotSent, Open, Sent, Transferred}
+use Rattle.aig_io.specs.Runs.{All, Beginning, Delivery, Ending, IsCut, NotSent, Open, Sent, Transferred}
 use Rattle.aig_io.proofs.Puts.{all_sent, beginning_sent, put_nothing}
 use Rattle.aig_io.proofs.Runs.{read_weaker}
 use Rattle.aig_io.proofs.Took.{took_none}
@@ -18,9 +18,10 @@ use Rattle.aig_wave.specs.Dumping.{Dumps}
 use Rattle.aig_wave.specs.Frames.{frames_of, most_frames}
 use Rattle.aig_wave.specs.Layout.{Layout, layout_of}
 use Rattle.aig_wave.specs.Wave.{dump, wave_text}
-use Rattle.aig_dump.specs.Dumped.{DumpSays, IsDumpOf, TraceSaysAs}
+use Rattle.aig_dump.specs.Dumped.{DumpSays, TraceSaysAs}
 
-uncut : (delivery : Delivery) (failed : Bool) → Tells failed delivery → (failed ≡ true → false ≡ true) → ¬ IsCut delivery
+uncut : (delivery : Delivery) (failed : Bool) → Tells failed delivery → (failed ≡ true → false ≡ true)
+    → ¬ IsCut delivery
 uncut NotSent failed tells fine = λ cut. cut
 uncut All failed tells fine = λ cut. cut
 uncut (Beginning count) failed tells fine = λ cut. (let e : false ≡ true = fine tells in absurd cc)

@@ -1,7 +1,6 @@
 -- A trace text, line by line.
-use Rattle.std.proofs.Common.{◌≡◌, ◌∙◌, ◌∷◌, ◌++◌, ◌+◌, ◌-◌, ◌<◌, ◌≤◌, if◌then◌else◌, List, ℕ, zero, suc, [], Bool, true}
-use Rattle.std.proofs.Common.{false, fold, refl, sym, ap, ap₂, append-nil, arith, drop, length, length-append, subst, take}
-use Rattle.std.proofs.Common.{append_assoc}
+use Rattle.std.proofs.Common.{◌≡◌, ◌∙◌, ◌∷◌, ◌++◌, ◌+◌, ◌-◌, ◌≤◌, if◌then◌else◌, List, ℕ, [], Bool, true, false, fold}
+use Rattle.std.proofs.Common.{refl, sym, ap, ap₂, append-nil, append_assoc, arith, drop, length, length-append, subst, take}
 use Rattle.std.proofs.lemmas.List.{length-take-le, take-append-drop}
 use Rattle.std.proofs.lemmas.List.Sums.{fold-append}
 use Rattle.std.proofs.Math.Seq.{take-append_seam}
@@ -16,7 +15,8 @@ use Rattle.aig_wave.specs.Layout.{Layout}
 use Rattle.aig_wave.specs.Wave.{dump, time_text}
 use Rattle.aig_wave.specs.Parts.Cuts.{Cut, cut, cut_byte}
 use Rattle.aig_wave.specs.Parts.Points.{Point, Taping, begin_of, behind_line, head_at, line_piece}
-use Rattle.aig_wave.proofs.Growing.{cut_line, whole_lines_are, after_framed, dump_done, dumped_line, framed, framed_lines}
+use Rattle.aig_wave.proofs.Growing.{after_framed, cut_line, dump_done, dumped_line, framed, framed_lines}
+use Rattle.aig_wave.proofs.Growing.{whole_lines_are}
 use Rattle.aig_wave.proofs.Retold.{row_without_feed}
 
 module _ (w : Layout) where

@@ -22,7 +22,6 @@ impl<'a, W: Sink> WaveTaker<'a, W> {
     /// Nothing was taken yet.
     // Not built into its callers, whose stack would then hold the block of the output more often.
     #[inline(never)]
-    #[tactic(auto, using(crate::proofs::Waved::dumps_nothing))]
     pub fn new(room: WaveMemory, sink: &'a mut W) -> Self
         ensures layout { result.dump_state.layout ≡ room }
         ensures output { result.output ≡ output_to W.history sink.entry [] false }

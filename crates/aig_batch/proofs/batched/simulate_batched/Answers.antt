@@ -9,5 +9,5 @@ returns g c =
     let same = same_sink _ _ _ _ _ _ ran.ensures.ran in
     record {
       transferred = transferred_as_ran _ (cut_anywhere c.args.checked.now c.args.columns ran.result.0) _ _ _ _ _ _
-          c.new.ensures refl refl ran.ensures.sent (search rules) ran.ensures.ran;
+          c.new-output.ensures refl refl ran.ensures.sent (search rules) ran.ensures.ran;
     }

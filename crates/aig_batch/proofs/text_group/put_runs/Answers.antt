@@ -13,6 +13,7 @@ use Rattle.aig_batch.proofs.text_group.put_runs.Goals as goal
 
 pub loop-lane-preserved : goal.loop-lane-preserved
 loop-lane-preserved g c =
+    let H = g.T.RowTaker.took in
     let runs = c.args.runs.now in
     let shown = c.args.shown.now in
     let sheet = c.args.sheet.now in
@@ -27,11 +28,10 @@ loop-lane-preserved g c =
     ∙ ap (λ (t : List ℕ). text_of_group first ++ t) (append-nil (kept (get_or runs lane no_run) ++ codes ".\n")) in
     record {
       put =
-          subst (λ (n : ℕ). Took g.T.RowTaker.took c.args.output.now now (text_of_group (kept_texts shown runs n sheet)))
-          (one_behind lane)
-          (subst (λ (t : List ℕ). Took g.T.RowTaker.took c.args.output.now now t) (sym whole)
+          subst (λ (n : ℕ). Took H c.args.output.now now (text_of_group (kept_texts shown runs n sheet))) (one_behind lane)
+          (subst (λ (t : List ℕ). Took H c.args.output.now now t) (sym whole)
           (took_twice c.args.output.now c.loop-lane.output now (text_of_group first) _ c.loop-lane.invariant.put
-          (subst (λ (run : Run). Took g.T.RowTaker.took c.loop-lane.output now (kept run ++ codes ".\n")) is_run c.put_run.ensures)));
+          (subst (λ (run : Run). Took H c.loop-lane.output now (kept run ++ codes ".\n")) is_run c.put_run.ensures)));
       line = c.put_run.auto.line ∙ c.loop-lane.invariant.line;
     }
 
