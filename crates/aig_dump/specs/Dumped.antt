@@ -1,5 +1,5 @@
 -- What the answer of a simulation says that writes its trace, or the dump of that.
-use Rattle.std.specs.Prelude.{◌≡◌, ℕ, List, Bool, Result, Ok, Err, MatchBool, is_ok}
+use Rattle.std.specs.Prelude.{◌≡◌, ℕ, List, Bool, Result, Err, MatchBool, is_ok}
 use Rattle.aig_io.specs.Runs.{All, Delivery, Ending, IsCut}
 use Rattle.aig_circuit.specs.declared.circuit.Circuit.{Circuit}
 use Rattle.aig_fault.specs.declared.stopped.Stopped.{Stopped}
