@@ -16,7 +16,8 @@ use Rattle.aig_meaning.specs.Trace.{Follow, IsFirstState, IsTrace, MayStartAt}
 use Rattle.aig_miter.specs.Both.{StayAlike, differ, seen}
 use Rattle.aig_miter.specs.Parts.Comparable.{AreComparable}
 use Rattle.aig_miter.specs.Miter.{plain_miter}
-use Rattle.aig_miter.specs.Starts.{free_only, resets_of, started_miter, started_row, started_rows, unequal, unequal_now}
+use Rattle.aig_miter.specs.Starts.{free_only, started_miter, started_row, started_rows, unequal, unequal_now}
+use Rattle.aig_unroll.specs.Unrolled.{resets_of}
 use Rattle.aig_miter.proofs.Started.{started_met, started_parted}
 use Rattle.aig_miter.proofs.Traces.{first_parted, starts_parted}
 use Rattle.aig_replay.specs.Finding.{hit_from}

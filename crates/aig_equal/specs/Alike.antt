@@ -8,7 +8,8 @@ use Rattle.aig_circuit.specs.declared.value.Val.TheVariants.{Zero}
 use Rattle.aig_meaning.specs.Meaning.{Row}
 use Rattle.aig_meaning.specs.Trace.{IsTrace}
 use Rattle.aig_miter.specs.Both.{StayAlike, differ}
-use Rattle.aig_miter.specs.Starts.{free_only, resets_of}
+use Rattle.aig_miter.specs.Starts.{free_only}
+use Rattle.aig_unroll.specs.Unrolled.{resets_of}
 use Rattle.aig_witness.specs.declared.verdict.Verdict.TheVariants.{Confirmed}
 use Rattle.aig_witness.specs.Witness.{Claim, IsVerdict}
 

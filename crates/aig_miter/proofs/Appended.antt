@@ -4,7 +4,7 @@ use Rattle.std.proofs.Common.{inl, inr, min, refl}
 use Rattle.std.proofs.lemmas.Bool.{cases_lt}
 use Rattle.std.proofs.Math.ListN.{drop_of_length-le}
 use Rattle.aig_circuit.specs.Literal.{literal_of, negation_of}
-use Rattle.aig_miter.specs.Gates.{gate_of}
+use Rattle.aig_unroll.specs.Unrolled.{gate_of}
 use Rattle.aig_miter.specs.Miter.{differences, differing, tied}
 use Rattle.aig_miter.specs.Starts.{gates_with, negations}
 

@@ -22,7 +22,8 @@ use Rattle.aig_meaning.proofs.Traces.{state_length}
 use Rattle.aig_miter.specs.Both.{differ}
 use Rattle.aig_miter.specs.Parts.Comparable.{AreComparable}
 use Rattle.aig_miter.specs.Miter.{differences, differing, plain_miter, moved, shifted}
-use Rattle.aig_miter.specs.Starts.{free_literals, free_only, gates_with, negations, resets_of, started_miter, started_row}
+use Rattle.aig_miter.specs.Starts.{free_literals, free_only, gates_with, negations, started_miter, started_row}
+use Rattle.aig_unroll.specs.Unrolled.{resets_of}
 use Rattle.aig_miter.specs.Starts.{started_rows, unequal, unequal_now, with_equal_starts}
 use Rattle.aig_miter.proofs.Joined.{bad_is, is_first, is_second, next_is, same_given, same_state, state_is}
 use Rattle.aig_miter.proofs.Sizes.{moved_resets}
