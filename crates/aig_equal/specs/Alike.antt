@@ -1,5 +1,5 @@
--- Circuits that are alike: what they show, for so many steps or at every step (this project's profile). What is compared
--- of two rows, and for how long two runs stay alike, `Both` of aig_miter says.
+-- Circuits that are alike: what they show, for so many steps or at every step (this project's profile). What is
+-- compared of two rows, and for how long two runs stay alike, `Both` of aig_miter says.
 use Rattle.std.specs.Prelude.{◌≡◌, ◌≤◌, ◌<◌, ℕ, List, length}
 use Rattle.std.specs.List.{AllByRecursion}
 use Rattle.aig_circuit.specs.declared.circuit.Circuit.{Circuit}

@@ -91,7 +91,8 @@ module _ (c d : Circuit) (good : IsWellFormed c) (good_too : IsWellFormed d) (fi
   good_both = beside_formed c e good good_e many high fits
 
   known_first : (l : ℕ) → IsDefined c l → IsDefined both l
-  known_first l known = known_there (defined_variables c) (defined_variables both) (there c e good good_e many high fits) l known
+  known_first l known =
+      known_there (defined_variables c) (defined_variables both) (there c e good good_e many high fits) l known
 
   known_second : (l : ℕ) → IsDefined e l → IsDefined both l
   known_second l known =
