@@ -1,5 +1,6 @@
 -- Rows that are seen alike are those whose joined row has no bad state, and so run by run.
-use Rattle.std.proofs.Common.{◌≡◌, ◌↔◌, ◌<◌, ◌≤◌, ◌+◌, ◌++◌, ◌∙◌, ◌∷◌, ℕ, zero, suc, List, [], Option, None, Some, ap, ap₂}
+use Rattle.std.proofs.Common.{◌≡◌, ◌↔◌, ◌<◌, ◌≤◌, ◌+◌, ◌++◌, ◌∙◌, ◌∷◌, ℕ, zero, suc, List, [], Option, None}
+use Rattle.std.proofs.Common.{Some, ap, ap₂}
 use Rattle.std.proofs.Common.{arith, get_or, length, length-append, map, refl, subst, sym, drop, take}
 use Rattle.std.specs.List.{All, AllZip}
 use Rattle.std.proofs.lemmas.List.{length-map, take-append-drop}

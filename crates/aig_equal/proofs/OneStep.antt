@@ -9,7 +9,8 @@ use Rattle.aig_meaning.specs.Meaning.{Row}
 use Rattle.aig_meaning.specs.Trace.{Follow, IsFirstState, MayStartAt}
 use Rattle.aig_meaning.proofs.Traces.{first_length, next_length}
 use Rattle.aig_miter.specs.Both.{StayAlike, differ}
-use Rattle.aig_miter.specs.Starts.{free_only, resets_of}
+use Rattle.aig_miter.specs.Starts.{free_only}
+use Rattle.aig_unroll.specs.Unrolled.{resets_of}
 use Rattle.aig_equal.specs.Alike.{AreAlikeFor, StartAlike}
 use Rattle.aig_equal.specs.Laws.{OneStepSaysAll}
 

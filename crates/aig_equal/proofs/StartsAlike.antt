@@ -16,14 +16,16 @@ use Rattle.aig_meaning.specs.Trace.{Follow, IsFirstState, IsTrace, MayStartAt}
 use Rattle.aig_miter.specs.Both.{StayAlike, differ, seen}
 use Rattle.aig_miter.specs.Parts.Comparable.{AreComparable}
 use Rattle.aig_miter.specs.Miter.{plain_miter}
-use Rattle.aig_miter.specs.Starts.{free_only, resets_of, started_miter, started_row, started_rows, unequal, unequal_now}
+use Rattle.aig_miter.specs.Starts.{free_only, started_miter, started_row, started_rows, unequal, unequal_now}
+use Rattle.aig_unroll.specs.Unrolled.{resets_of}
 use Rattle.aig_miter.proofs.Started.{started_met, started_parted}
 use Rattle.aig_miter.proofs.Traces.{first_parted, starts_parted}
 use Rattle.aig_replay.specs.Finding.{hit_from}
 use Rattle.aig_replay.proofs.FirstFound.{first_is_found}
 use Rattle.aig_witness.specs.Witness.{IsBad, IsConfirmedAt, IsHeld}
 use Rattle.aig_equal.specs.Alike.{AreAlikeFor, IsUnreachedFor, StartAlike}
-use Rattle.aig_equal.proofs.Alike.{AreCompared, cut_follow, here, later as one_later, none_in, row_alike, row_fine, seen_length, take_few}
+use Rattle.aig_equal.proofs.Alike.{AreCompared, cut_follow, here, later as one_later, none_in, row_alike}
+use Rattle.aig_equal.proofs.Alike.{row_fine, seen_length, take_few}
 use Rattle.aig_equal.proofs.Alike.{up_to}
 
 -- ---- constraints on the start
@@ -194,8 +196,10 @@ alike_from_equal_starts a b frames are = (
       let vectors = take (suc step) claim.steps in
       let whole : IsTrace (started_miter a b) ((parts.f ++ parts.g) ++ Zero ∷ []) claim.steps rows =
       subst (λ (xs : List Val). IsTrace (started_miter a b) xs claim.steps rows) parts.parted verdict.trace in
-      let cut : IsTrace (started_miter a b) ((parts.f ++ parts.g) ++ Zero ∷ []) vectors (take (suc step) rows) =
-      (whole.0, cut_follow (started_miter a b) (suc step) ((parts.f ++ parts.g) ++ Zero ∷ []) claim.steps rows whole.1) in
+      let cut : IsTrace (started_miter a b) ((parts.f ++ parts.g) ++ Zero ∷ []) vectors (take (suc step) rows) = (
+        whole.0,
+        cut_follow (started_miter a b) (suc step) ((parts.f ++ parts.g) ++ Zero ∷ []) claim.steps rows whole.1,
+      ) in
       let both = started_parted a b parts.f parts.g vectors are.fit are.first are.second are.miter parts.starts
       parts.starts_too (take (suc step) rows) cut in
       let few : length vectors ≤ frames = omega (arith, take_few (suc step) claim.steps, low) in

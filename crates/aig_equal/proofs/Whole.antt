@@ -16,7 +16,8 @@ use Rattle.aig_meaning.proofs.Traces.{first_length}
 use Rattle.aig_miter.specs.Both.{differ}
 use Rattle.aig_miter.specs.Laws.{IsMiterOf}
 use Rattle.aig_miter.specs.Outcome.{pair_fault}
-use Rattle.aig_miter.specs.Starts.{free_literals, free_only, miter, pairs, resets_of}
+use Rattle.aig_miter.specs.Starts.{free_literals, free_only, miter, pairs}
+use Rattle.aig_unroll.specs.Unrolled.{resets_of}
 use Rattle.aig_miter.proofs.Sizes.{as_plain, as_started, free_as_many}
 use Rattle.aig_miter.proofs.Whole.{made_means, pair_formed, pair_without_fault}
 use Rattle.aig_reach.proofs.Whole.{unsatisfiable_means_none}

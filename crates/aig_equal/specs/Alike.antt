@@ -1,5 +1,5 @@
--- Circuits that are alike: what they show, for so many steps or at every step (this project's profile). What is compared
--- of two rows, and for how long two runs stay alike, `Both` of aig_miter says.
+-- Circuits that are alike: what they show, for so many steps or at every step (this project's profile). What is
+-- compared of two rows, and for how long two runs stay alike, `Both` of aig_miter says.
 use Rattle.std.specs.Prelude.{◌≡◌, ◌≤◌, ◌<◌, ℕ, List, length}
 use Rattle.std.specs.List.{AllByRecursion}
 use Rattle.aig_circuit.specs.declared.circuit.Circuit.{Circuit}
@@ -8,7 +8,8 @@ use Rattle.aig_circuit.specs.declared.value.Val.TheVariants.{Zero}
 use Rattle.aig_meaning.specs.Meaning.{Row}
 use Rattle.aig_meaning.specs.Trace.{IsTrace}
 use Rattle.aig_miter.specs.Both.{StayAlike, differ}
-use Rattle.aig_miter.specs.Starts.{free_only, resets_of}
+use Rattle.aig_miter.specs.Starts.{free_only}
+use Rattle.aig_unroll.specs.Unrolled.{resets_of}
 use Rattle.aig_witness.specs.declared.verdict.Verdict.TheVariants.{Confirmed}
 use Rattle.aig_witness.specs.Witness.{Claim, IsVerdict}
 

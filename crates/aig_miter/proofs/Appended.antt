@@ -4,7 +4,7 @@ use Rattle.std.proofs.Common.{inl, inr, min, refl}
 use Rattle.std.proofs.lemmas.Bool.{cases_lt}
 use Rattle.std.proofs.Math.ListN.{drop_of_length-le}
 use Rattle.aig_circuit.specs.Literal.{literal_of, negation_of}
-use Rattle.aig_miter.specs.Gates.{gate_of}
+use Rattle.aig_unroll.specs.Unrolled.{gate_of}
 use Rattle.aig_miter.specs.Miter.{differences, differing, tied}
 use Rattle.aig_miter.specs.Starts.{gates_with, negations}
 
@@ -59,7 +59,8 @@ differences_end v i xs ys past = elim (cases_lt i (length xs)) [
 -- ---- a gate for each literal
 
 pub with_next : (v literal i : ℕ) (xs : List ℕ) → i < length xs
-    → gates_with v literal (drop i xs) ≡ gate_of v literal (get_or xs i 0) ∷ gates_with (v + 1) literal (drop (i + 1) xs)
+    → gates_with v literal (drop i xs)
+    ≡ gate_of v literal (get_or xs i 0) ∷ gates_with (v + 1) literal (drop (i + 1) xs)
 with_next v literal i xs low = let next : i + 1 ≡ suc i = omega arith in rw (next, drop-cons xs i 0 low) refl
 
 pub with_end : (v literal i : ℕ) (xs : List ℕ) → length xs ≤ i → gates_with v literal (drop i xs) ≡ []

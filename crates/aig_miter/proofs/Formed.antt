@@ -1,4 +1,3 @@
-pub mod Gate
 pub mod Beside
 pub mod Compared
 pub mod Whole

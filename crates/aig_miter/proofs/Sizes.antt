@@ -1,6 +1,7 @@
 -- How much a miter has.
 use Rattle.std.proofs.Common.{◌≡◌, ◌+◌, ◌*◌, ◌≤◌, ◌==◌, ◌++◌, ◌∙◌, ℕ, suc, List, [], ◌∷◌, Bool, ap, ap₂, arith}
-use Rattle.std.proofs.Common.{eqb, false, if◌then◌else◌, length, length-append, map, min, ne_eqb, refl, sym, true, ⊎_elim}
+use Rattle.std.proofs.Common.{eqb, false, if◌then◌else◌, length, length-append, map, min, ne_eqb, refl}
+use Rattle.std.proofs.Common.{sym, true, ⊎_elim}
 use Rattle.std.specs.List.{All, AllByRecursion}
 use Rattle.std.proofs.lemmas.Bool.Decides.{eqb_tells}
 use Rattle.std.proofs.lemmas.List.{length-map}
@@ -60,7 +61,8 @@ latches_low c good =
     let latches = map (λ (l : Latch). l.var) c.latches in
     let gates = map (λ (g : Gate). g.var) c.gates in
     All-from_recursion (λ (l : Latch). l.var ≤ LARGEST) c.latches
-    (each_low c.latches (all_weaker P (λ v. v ≤ LARGEST) (λ v range. omega (arith, range.1, good.limits.max_var)) latches
+    (each_low c.latches
+    (all_weaker P (λ v. v ≤ LARGEST) (λ v range. omega (arith, range.1, good.limits.max_var)) latches
     (back P c.inputs latches (front P (c.inputs ++ latches) gates good.in_range)))) where
       each_low : (ls : List Latch) → AllByRecursion (λ v. v ≤ LARGEST) (map (λ (l : Latch). l.var) ls)
           → AllByRecursion (λ (l : Latch). l.var ≤ LARGEST) ls

@@ -22,7 +22,8 @@ use Rattle.aig_meaning.proofs.Traces.{state_length}
 use Rattle.aig_miter.specs.Both.{differ}
 use Rattle.aig_miter.specs.Parts.Comparable.{AreComparable}
 use Rattle.aig_miter.specs.Miter.{differences, differing, plain_miter, moved, shifted}
-use Rattle.aig_miter.specs.Starts.{free_literals, free_only, gates_with, negations, resets_of, started_miter, started_row}
+use Rattle.aig_miter.specs.Starts.{free_literals, free_only, gates_with, negations, started_miter, started_row}
+use Rattle.aig_unroll.specs.Unrolled.{resets_of}
 use Rattle.aig_miter.specs.Starts.{started_rows, unequal, unequal_now, with_equal_starts}
 use Rattle.aig_miter.proofs.Joined.{bad_is, is_first, is_second, next_is, same_given, same_state, state_is}
 use Rattle.aig_miter.proofs.Sizes.{moved_resets}
@@ -31,7 +32,8 @@ use Rattle.aig_miter.proofs.Values.{differences_shown, each_gate, gate_has, nega
 
 -- ---- what there is of uninitialised latches
 
-free_map : {S T : Type 0} (f : S → T) (rs : List Reset) (xs : List S) → map f (free_only rs xs) ≡ free_only rs (map f xs)
+free_map : {S T : Type 0} (f : S → T) (rs : List Reset) (xs : List S)
+    → map f (free_only rs xs) ≡ free_only rs (map f xs)
 free_map f [] xs = refl
 free_map f (r ∷ rs) [] = refl
 free_map f (resets.Zero ∷ rs) (x ∷ xs) = free_map f rs xs
@@ -45,7 +47,8 @@ module _ (a : ℕ → Val) where
 
   free_shown : (c : Circuit)
       → map (literal_value a) (free_literals c) ≡ free_only (resets_of c) (map a (latch_variables c))
-  free_shown c = plain_values (free_only (resets_of c) (latch_variables c)) ∙ free_map a (resets_of c) (latch_variables c)
+  free_shown c =
+      plain_values (free_only (resets_of c) (latch_variables c)) ∙ free_map a (resets_of c) (latch_variables c)
 
   with_shown : (v literal : ℕ) (ds : List ℕ) → AllByRecursion (Holds a) (gates_with v literal ds)
       → map (literal_value a) (negations v ds)
@@ -136,7 +139,8 @@ started_shows_both c d row fit (a, shown) =
     let later = a (m.max_var + 1) in
     let of_second : map (literal_value a) ys ≡ free_only (resets_of d) s.state =
     free_shown a (moved c d)
-    ∙ ap₂ (λ (rs : List Reset) (vs : List Val). free_only rs vs) (moved_resets f d.latches) (same_state f a d.latches) in
+    ∙ ap₂ (λ (rs : List Reset) (vs : List Val). free_only rs vs) (moved_resets f d.latches)
+    (same_state f a d.latches) in
     let unequal_are : differ (map (literal_value a) xs) (map (literal_value a) ys) ≡ unequal c d r s =
     ap₂ differ (free_shown a c) of_second in (
       later,
@@ -219,7 +223,8 @@ started_first c d f g start start_too =
     start_too) in
     subst (λ (rs : List Reset). AllZip MayStartAt rs ((f ++ g) ++ Zero ∷ []))
     (sym (map-append (λ (l : Latch). l.reset) (plain_miter c d).latches (latch ∷ [])))
-    (starts_joined (f ++ g) (Zero ∷ []) (map (λ (l : Latch). l.reset) (plain_miter c d).latches) (resets.Zero ∷ []) of_miter
+    (starts_joined (f ++ g) (Zero ∷ []) (map (λ (l : Latch). l.reset) (plain_miter c d).latches) (resets.Zero ∷ [])
+    of_miter
     (refl, tt))
 
 module _ (c d : Circuit) (f g : List Val) (vectors : List (List Val)) (fit : AreComparable c d)

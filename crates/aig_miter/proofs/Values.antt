@@ -12,7 +12,7 @@ use Rattle.aig_image.proofs.Meaning.{and_exchanged, larger_first}
 use Rattle.aig_meaning.specs.Meaning.{Holds, literal_value}
 use Rattle.aig_meaning.proofs.Related.{contained_later}
 use Rattle.aig_miter.specs.Both.{differ, value_xor}
-use Rattle.aig_miter.specs.Gates.{gate_of}
+use Rattle.aig_unroll.specs.Unrolled.{gate_of}
 use Rattle.aig_miter.specs.Miter.{differences, differing, tied}
 
 not_twice : (v : Val) → value_not (value_not v) ≡ v

@@ -25,7 +25,8 @@ use Rattle.aig_miter.specs.Miter.{compared, differing, first_compared, moved, pl
 use Rattle.aig_miter.specs.Outcome.{is_comparable, is_overfull, made_unless, pair_fault}
 use Rattle.aig_miter.specs.Parts.Comparable.{AreComparable}
 use Rattle.aig_miter.specs.Parts.Moved.{bare, both_of, side_by_side}
-use Rattle.aig_miter.specs.Starts.{first_of_both, free_literals, miter, pairs, rows_of_both, started_miter, started_rows}
+use Rattle.aig_miter.specs.Starts.{first_of_both, free_literals, miter, pairs}
+use Rattle.aig_miter.specs.Starts.{rows_of_both, started_miter, started_rows}
 use Rattle.aig_miter.specs.Starts.{with_equal_starts}
 use Rattle.aig_miter.proofs.Formed.Starting.{equal_starts_formed, free_defined}
 use Rattle.aig_miter.proofs.Formed.Whole.{plain_formed}

@@ -7,7 +7,7 @@ use Rattle.aig_circuit.specs.declared.circuit.Circuit.{Circuit}
 use Rattle.aig_circuit.specs.declared.circuit.Gate.{Gate}
 use Rattle.aig_circuit.specs.Literal.{literal_of, negation_of}
 use Rattle.aig_image.specs.Relabelled.{relabelled}
-use Rattle.aig_miter.specs.Gates.{gate_of}
+use Rattle.aig_unroll.specs.Unrolled.{gate_of}
 
 -- a variable of the second circuit, where so many come before: the constant stays
 abbrev pub shifted : ℕ → ℕ → ℕ

@@ -15,7 +15,7 @@ use Rattle.aig_circuit.specs.Literal.{literal_of, negation_of}
 use Rattle.aig_circuit.specs.Values.{value_and, value_not}
 use Rattle.aig_meaning.specs.Meaning.{Row}
 use Rattle.aig_miter.specs.Both.{differ, joined_row, joined_rows}
-use Rattle.aig_miter.specs.Gates.{gate_of}
+use Rattle.aig_unroll.specs.Unrolled.{gate_of, resets_of}
 use Rattle.aig_miter.specs.Miter.{differences, differing, moved, plain_miter}
 
 -- ---- the circuit
@@ -27,9 +27,6 @@ free_only (r ∷ rs) [] = []
 free_only (resets.Zero ∷ rs) (x ∷ xs) = free_only rs xs
 free_only (resets.One ∷ rs) (x ∷ xs) = free_only rs xs
 free_only (resets.Uninit ∷ rs) (x ∷ xs) = x ∷ free_only rs xs
-
-abbrev pub resets_of : Circuit → List Reset
-resets_of c = map (λ (l : Latch). l.reset) c.latches
 
 -- the literals of uninitialised latches
 abbrev pub free_among : List Latch → List ℕ

@@ -20,7 +20,7 @@ fn list_compared(alloc: Global, circuit: &Circuit) -> Result<Vec<Lit>, AllocErro
     Ok(literals)
 }
 
-/// Takes memory for the gates that are added, of which so many compare.
+/// Takes memory for the gates that are added: those of the second circuit, and so many that compare.
 fn make_room(
     alloc: Global,
     second: &Circuit,
@@ -50,11 +50,13 @@ fn put_gates(
 }
 
 /// Makes of the first circuit the two side by side, where the second has variables behind those of
-/// the first already, with the gates that compare them and the bad states.
+/// the first already, with the gates that compare them and the bad states. Memory is taken for so
+/// many gates more, which come later.
 pub(crate) fn put_beside(
     alloc: Global,
     first: &mut Circuit,
     second: &Circuit,
+    later: usize,
 ) -> Result<(), AllocError>
     requires inputs { length second.now.inputs ≡ length first.old.inputs }
     requires low { All (λ v. v ≤ largest) first.old.inputs }
@@ -65,7 +67,8 @@ pub(crate) fn put_beside(
     let ones = list_compared(alloc, first)?;
     let others = list_compared(alloc, second)?;
     let before = first.max_var + second.max_var;
-    make_room(alloc, second, 3 * ones.len(), &mut first.gates)?;
+    let comparing = later.saturating_add(3 * ones.len());
+    make_room(alloc, second, comparing, &mut first.gates)?;
     put_gates(alloc, first.inputs.as_slice(), second, &mut first.gates)?;
     extend(alloc, &mut first.latches, second.latches.as_slice())?;
     first.bad = Listing::new(alloc);

@@ -2,7 +2,7 @@
 ghost use Rattle.std.specs.Prelude.{◌≡◌, ◌+◌, ◌*◌, ◌++◌, ◌≤◌, ◌∷◌, [], length, map, min, OnOk};
 ghost use Rattle.std.specs.List.{All};
 ghost use Rattle.aig_circuit.specs.declared.circuit.TheConstants.{LARGEST};
-ghost use Rattle.aig_miter.specs.Gates.{gate_of};
+ghost use Rattle.aig_unroll.specs.Unrolled.{gate_of};
 ghost use Rattle.aig_circuit.specs.Literal.{negation_of};
 ghost use Rattle.aig_miter.specs.Miter.{differences, differing, tied};
 ghost use Rattle.aig_miter.specs.Starts.{gates_with, negations};

@@ -51,7 +51,8 @@ fn put_second(alloc: Global, first: &mut Circuit, second: &Circuit) -> Result<()
 {
     let ones = list_free(alloc, first.latches.as_slice())?;
     let others = list_free(alloc, second.latches.as_slice())?;
-    put_beside(alloc, first, second)?;
+    let for_starts = ones.len().min(others.len()).saturating_mul(4);
+    put_beside(alloc, first, second, for_starts)?;
     put_starts(alloc, first, ones.as_slice(), others.as_slice())
 }
 

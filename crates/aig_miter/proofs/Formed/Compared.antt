@@ -9,7 +9,7 @@ use Rattle.aig_circuit.specs.Wellformed.{IsWellFormed, defined_variables, larges
 use Rattle.aig_circuit.proofs.Checking.{back, front, joined}
 use Rattle.aig_meaning.specs.Meaning.{next_literals}
 use Rattle.aig_meaning.proofs.Related.{AreDefined, IsDefined}
-use Rattle.aig_miter.proofs.Formed.Gate.{gate_formed, gate_known, known_still, negation_known, with_gate}
+use Rattle.aig_unroll.proofs.Growing.{gate_formed, gate_known, known_still, negation_known, with_gate}
 use Rattle.aig_miter.specs.Miter.{differences, differing}
 
 -- the circuit with the gates that compare these literals, of which there are so many pairs

@@ -20,7 +20,7 @@ use Rattle.aig_miter.specs.Miter.{differences, differing}
 use Rattle.aig_miter.specs.Starts.{free_among, free_only, gates_with, negations, with_equal_starts}
 use Rattle.aig_miter.proofs.Formed.Beside.{all_from, distinct_back, distinct_joined, known_there}
 use Rattle.aig_miter.proofs.Formed.Compared.{HasGrown, pairs_grown, still_all, with_pairs}
-use Rattle.aig_miter.proofs.Formed.Gate.{distinct_behind, gate_formed, gate_known, known_still, negation_known, with_gate}
+use Rattle.aig_unroll.proofs.Growing.{distinct_behind, gate_formed, gate_known, known_still, negation_known, with_gate}
 use Rattle.aig_miter.proofs.Sizes.{differences_min}
 
 -- ---- a latch more

@@ -14,7 +14,7 @@ use Rattle.aig_meaning.proofs.Related.{AreDefined, IsDefined, known_bad, known_c
 use Rattle.aig_miter.specs.Parts.Comparable.{AreComparable}
 use Rattle.aig_miter.specs.Miter.{compared, differences, differing, first_compared, plain_miter, moved, shifted, tied}
 use Rattle.aig_miter.proofs.Formed.Beside.{beside, beside_formed, known_there, there, there_too}
-use Rattle.aig_miter.proofs.Formed.Gate.{negation_known}
+use Rattle.aig_unroll.proofs.Growing.{negation_known}
 use Rattle.aig_miter.proofs.Sizes.{compared_many}
 use Rattle.aig_miter.proofs.Formed.Compared.{HasGrown, bad_formed, pairs_grown, still_all, with_pairs}
 
@@ -91,7 +91,8 @@ module _ (c d : Circuit) (good : IsWellFormed c) (good_too : IsWellFormed d) (fi
   good_both = beside_formed c e good good_e many high fits
 
   known_first : (l : ℕ) → IsDefined c l → IsDefined both l
-  known_first l known = known_there (defined_variables c) (defined_variables both) (there c e good good_e many high fits) l known
+  known_first l known =
+      known_there (defined_variables c) (defined_variables both) (there c e good good_e many high fits) l known
 
   known_second : (l : ℕ) → IsDefined e l → IsDefined both l
   known_second l known =

@@ -19,7 +19,7 @@ use Rattle.aig_circuit.proofs.Checking.{all_weaker, definitions_fit, each, joine
 use Rattle.aig_topo.proofs.Ordering.Counted.{among_first, among_either}
 use Rattle.aig_topo.proofs.Ordering.Cyclic.{among_last}
 use Rattle.aig_meaning.proofs.Related.{IsDefined, known_operands, variables_of}
-use Rattle.aig_miter.specs.Gates.{gate_of}
+use Rattle.aig_unroll.specs.Unrolled.{gate_of}
 
 pub distinct_behind : (xs : List ℕ) (v : ℕ) → AreDistinct xs → ¬ IsAmong v xs → AreDistinct (xs ++ v ∷ [])
 distinct_behind [] v once fresh = (λ a. absurd a, tt)
