@@ -56,18 +56,12 @@ pub taken_so : {W : Type 0} {H : W → W → List ℕ → Type 0} (c : Circuit) 
     (r : Result (Unit {0}) Stopped) (failed : Bool)
     → (text : List ℕ) × IsTraceUpTo c columns bytes true None text × Took H a b text → Took H b e []
     → r ≡ (if failed then Err WriteFailed else Ok tt) → Taken H (BatchSays c columns r bytes AtEnd) a e failed
-taken_so {W} {H} c columns bytes a b e r true (text, is, put) last told =
-    subst (λ (s : Result (Unit {0}) Stopped). Taken H (BatchSays c columns s bytes AtEnd) a e true) (sym told)
-    (record {
-      text = text;
-      delivery = Beginning 0;
-      says = (refl, tt, is);
-      took = took_on a b e text put last;
-      tells = refl;
-    })
-taken_so {W} {H} c columns bytes a b e r false (text, is, put) last told =
-    subst (λ (s : Result (Unit {0}) Stopped). Taken H (BatchSays c columns s bytes AtEnd) a e false) (sym told)
-    (record { text = text; delivery = All; says = (refl, refl, is); took = took_on a b e text put last; tells = refl })
+taken_so c columns bytes a b e r true (text, is, put) last told =
+    let took = took_on a b e text put last in
+    rw told (record { text = text; delivery = Beginning 0; says = (refl, tt, is); took = took; tells = refl })
+taken_so c columns bytes a b e r false (text, is, put) last told =
+    let took = took_on a b e text put last in
+    rw told (record { text = text; delivery = All; says = (refl, refl, is); took = took; tells = refl })
 
 -- nothing was sent where not all came
 batch_says : (c : Circuit) (columns : Columns) (e : Stopped) (bytes : List ℕ) (ending : Ending)

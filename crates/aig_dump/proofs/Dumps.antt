@@ -27,9 +27,6 @@ uncut All failed tells fine = λ cut. cut
 uncut (Beginning count) failed tells fine = λ cut. (let e : false ≡ true = fine tells in absurd cc)
 
 module _ (batch : Bool) (c : Circuit) where
-  abbrev Says : Result (Unit {0}) Stopped → List ℕ → Ending → List ℕ → Delivery → Type 0
-  Says ran bytes ending trace delivery = TraceSaysAs batch c Properties ran bytes ending trace delivery
-
   cut_where_told : (b : Bool) (bytes : List ℕ) (ending : Ending) (trace : List ℕ) (delivery : Delivery)
       → TraceSaysAs b c Properties (Err stops.WriteFailed) bytes ending trace delivery → IsCut delivery
   cut_where_told true bytes ending trace delivery says = says.1
@@ -37,7 +34,7 @@ module _ (batch : Bool) (c : Circuit) where
 
   -- the sink took all of the dump
   whole : (ran : Result (Unit {0}) Stopped) (bytes : List ℕ) (ending : Ending) (trace : List ℕ) (delivery : Delivery)
-      → ¬ IsCut delivery → Says ran bytes ending trace delivery
+      → ¬ IsCut delivery → TraceSaysAs batch c Properties ran bytes ending trace delivery
       → DumpSays batch c ran bytes ending (wave_text c (meant trace delivery) (is_ok ran)) All
   whole (Err stops.WriteFailed) bytes ending trace delivery not_cut says =
       absurd (not_cut (cut_where_told batch bytes ending trace delivery says))
@@ -62,7 +59,7 @@ module _ (batch : Bool) (c : Circuit) where
     answered : {T E : Type 0} (r : Result T E) (answer : Result (Unit {0}) Stopped) (bytes : List ℕ) (ending : Ending)
         → end.failed ≡ is_err r → (now.output.failed ≡ true → is_err r ≡ true)
         → answer ≡ cond (is_err r) (Err stops.WriteFailed) ran
-        → Taken Dumps (Says ran bytes ending) from now now.output.failed
+        → Taken Dumps (TraceSaysAs batch c Properties ran bytes ending) from now now.output.failed
         → Sent (DumpSays batch c answer bytes ending) new.history end.history
     answered (Ok x) answer bytes ending fails tells is t =
         rw is (record {
@@ -84,11 +81,12 @@ module _ (batch : Bool) (c : Circuit) where
     pub dumped : {T E : Type 0} (r : Result T E) (answer : Result (Unit {0}) Stopped) (failed : Bool)
         (s s_now o_now : History) → end.failed ≡ is_err r → (now.output.failed ≡ true → is_err r ≡ true)
         → failed ≡ is_err r → answer ≡ cond failed (Err stops.WriteFailed) ran
-        → Ran Dumps (Says ran) s s_now from now now.output.failed → o_now ≡ end.history
+        → Ran Dumps (TraceSaysAs batch c Properties ran) s s_now from now now.output.failed → o_now ≡ end.history
         → Transferred (DumpSays batch c answer) s s_now new.history o_now
     dumped r answer failed s s_now o_now fails tells told is run output =
         rw output
-        (read_weaker (λ bytes ending. Taken Dumps (Says ran bytes ending) from now now.output.failed)
+        (read_weaker
+        (λ bytes ending. Taken Dumps (TraceSaysAs batch c Properties ran bytes ending) from now now.output.failed)
         (λ bytes ending. Sent (DumpSays batch c answer bytes ending) new.history end.history) s s_now
         (λ bytes ending. answered r answer bytes ending fails tells
         (is ∙ ap (λ (b : Bool). cond b (Err stops.WriteFailed) ran) told)) run)

@@ -1,10 +1,10 @@
 -- A dump grows with its trace text, whose bytes are cut into lines, and its lines told as frames.
-use Rattle.std.proofs.Common.{◌≡◌, ◌≢◌, ◌==◌, ◌∙◌, ◌+◌, ◌≤◌, ◌&&◌, ◌||◌, ◌∷◌, ◌++◌, ◌-◌, ◌<◌, if◌then◌else◌, ℕ, List}
+use Rattle.std.proofs.Common.{◌≡◌, ◌≢◌, ◌==◌, ◌∙◌, ◌+◌, ◌≤◌, ◌&&◌, ◌∷◌, ◌++◌, ◌-◌, ◌<◌, if◌then◌else◌, ℕ, List}
 use Rattle.std.proofs.Common.{[], Bool, true, false, filter, length, map, take, refl, sym, ap, ap₂, append_assoc}
 use Rattle.std.proofs.Common.{append-nil, arith, inl, inr, suc, fold, min, nat_lt}
-use Rattle.std.proofs.lemmas.Bool.{cases_lt, ne_eqb, cases_Bool, ltb-false, ltb-true}
+use Rattle.std.proofs.lemmas.Bool.{ne_eqb, cases_Bool, ltb-false, ltb-true}
 use Rattle.std.proofs.lemmas.Bool.Decides.{eqb_tells}
-use Rattle.std.proofs.lemmas.List.{length-take-le, take_all, length-append, length-take, take-append-le}
+use Rattle.std.proofs.lemmas.List.{take_all, length-append, length-take, take-append-le}
 use Rattle.std.proofs.lemmas.List.Sums.{fold-append}
 use Rattle.std.proofs.Math.Seq.{take-nil}
 use Rattle.std.proofs.lemmas.List.Elements.{filter-append}

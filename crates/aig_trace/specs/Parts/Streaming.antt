@@ -1,5 +1,5 @@
 -- What came of bytes and of the text for them.
-use Rattle.std.specs.Prelude.{◌≡◌, ℕ, List, Bool, false, true, None, Some, Result, Err, Ok, if◌then◌else◌}
+use Rattle.std.specs.Prelude.{ℕ, List, Bool, false, true, None, Some, Result, Err, Ok, if◌then◌else◌}
 use Rattle.aig_circuit.specs.declared.circuit.Circuit.{Circuit}
 use Rattle.aig_lines.specs.Feeders.{Feeder}
 use Rattle.aig_fault.specs.declared.stopped.Stopped.{Stopped}

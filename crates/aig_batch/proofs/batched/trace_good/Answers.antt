@@ -1,4 +1,3 @@
-use Rattle.std.proofs.Common.{rules, refl}
 use Rattle.aig_batch.proofs.Batching.{put_behind, taken_so}
 use Rattle.aig_batch.proofs.batched.trace_good.Goals as goal
 

@@ -1,7 +1,4 @@
-use Rattle.std.proofs.Common.{refl}
 use Rattle.aig_io.proofs.Runs.{read_weaker}
-use Rattle.aig_trace.specs.Taken.{Taken}
-use Rattle.aig_trace.proofs.Taken.{ran_none}
 use Rattle.aig_trace.proofs.Ending.{trace_says_too}
 use Rattle.aig_trace.proofs.stream.simulate_into.Goals as goal
 
