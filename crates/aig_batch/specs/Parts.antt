@@ -1,1 +1,2 @@
 pub mod RunsRead
+pub mod Sent

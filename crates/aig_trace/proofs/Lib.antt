@@ -1,4 +1,3 @@
-pub mod Taken
 pub mod RunTexts
 pub mod Shows
 pub mod Traced

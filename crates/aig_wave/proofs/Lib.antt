@@ -5,6 +5,7 @@ pub mod Counting
 pub mod Waved
 pub mod Plain
 pub mod Alike
+pub mod Standing
 pub mod Tagged
 pub mod Decoding
 pub mod Columns

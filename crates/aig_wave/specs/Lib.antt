@@ -6,5 +6,6 @@ pub mod Layout
 pub mod Frames
 pub mod Wave
 pub mod Dumping
+pub mod Standing
 pub mod Laws
 pub mod Parts

@@ -2,5 +2,6 @@
 -- files.
 pub mod Points
 pub mod Cuts
+pub mod Taking
 pub mod SignalCodes
 pub mod Groups
