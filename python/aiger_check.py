@@ -779,6 +779,8 @@ class Search:
         self.left = tools.limits.limit
         self.refuted = 0
         self.rows: List[str] = []
+        #: of a miter the gates of its first half, and which latches are equal
+        self.halves: Optional[Tuple[int, Sequence["Equality"]]] = None
         self.reasons: List[str] = []
         self.notes: List[str] = []
 
@@ -911,7 +913,38 @@ class Search:
 
     def without_latches(self) -> Optional[Verdict]:
         """An assertion that depends on no latch never fails if no step breaks it, which needs no invariant."""
-        return self.by_invariant([]) if self.tools.solver and not self.part.latches else None
+        if not self.tools.solver or self.part.latches:
+            return None
+        return self.by_gates([]) if self.halves else self.by_invariant([])
+
+    #: how long the solver alone is asked where gates can be swept
+    SHORT = 2.0
+
+    def by_gates(self, rows: Sequence[str]) -> Optional[Verdict]:
+        """The same of a miter: if the solver alone does not see it soon, gate by gate."""
+        left = self.left
+        self.left = min(left, self.SHORT)
+        verdict = self.by_invariant(rows)
+        is_late, self.left = self.left <= 0, left - self.SHORT
+        if verdict or not is_late:
+            return verdict
+        self.reasons.clear()
+        verdict = self.by_sweep(*self.halves)
+        return verdict if verdict or self.whole.bad is None else self.by_invariant(rows)
+
+    def by_sweep(self, first_gates: int, equalities: Sequence["Equality"]) -> Optional[Verdict]:
+        """Whether a refutation that goes from the inputs on shows it."""
+        self.progress.tell(self.assertion, "gates")
+        clauses, invariant = self.folder / "sweep.cnf", self.folder / "never.pla"
+        if self.unroll(self.whole, "--invariant", invariant, "--cnf", self.whole.path, clauses).status != 0:
+            return None
+        begun = time.monotonic()
+        sweep = Sweep(self.tools.solver, clauses, first_gates, equalities, self.left)
+        is_refuted = sweep.refutes(self.folder / "never.drat")
+        self.left -= time.monotonic() - begun
+        if not is_refuted or not self.is_shown("never", "never", "--invariant", invariant):
+            return None
+        return Verdict(Answer.NEVER, refutation=self.folder / "never.drat", invariant=invariant)
 
     def by_rows(self) -> Optional[Verdict]:
         """What is shown by an invariant that was found for all bad states at once."""
@@ -1187,9 +1220,11 @@ class Sweep:
     #: a variable that is false
     FALSE = 1
 
-    def __init__(self, solver: Solver, clauses: Path, halves: Tuple[int, Sequence[Equality]], seconds: float) -> None:
+    def __init__(
+        self, solver: Solver, clauses: Path, first_gates: int, equalities: Sequence[Equality], seconds: float
+    ) -> None:
         self.solver, self.folder, self.end = solver, clauses.parent, time.monotonic() + seconds
-        self.first_gates, self.equalities = halves
+        self.first_gates, self.equalities = first_gates, equalities
         self.gates: Dict[int, Tuple[int, int]] = {}
         self.to: Dict[int, int] = {}
         self.leaders: Dict[int, List[Tuple[int, int]]] = {}
@@ -1240,8 +1275,9 @@ class Sweep:
 
     def begin(self) -> None:
         """Has all latches that are equal be one, which the constraints say, and gives each literal its patterns."""
-        operands = [set(self.gates[it]) for it in self.bad if it in self.gates]
-        self.held = next(iter(set.intersection(*operands) - {-self.FALSE}), -self.FALSE) if len(operands) > 1 else -1
+        # the gate of a bad state has the end of the chain of constraints, which stands behind all else, or 1
+        operands = self.gates[self.bad[0]]
+        self.held = -self.FALSE if -self.FALSE in operands else max(operands, key=abs)
         if self.equalities:
             self.add(self.held)
         for one, other, opposite, later in self.equalities:
@@ -1299,10 +1335,11 @@ class Sweep:
     # What is shown
 
     def sweep(self) -> bool:
-        """Goes through all gates, if time allows."""
+        """Goes through all gates on which the last clause depends, if time allows."""
         waiting: List[Tuple[int, List[int]]] = []
+        cone = self.cone()
         for at, variable in enumerate(self.gates):
-            if self.is_plain(variable):
+            if not cone[variable] or self.is_plain(variable):
                 continue
             guesses = self.guesses(variable) if at >= self.first_gates else []
             if guesses:
@@ -1314,6 +1351,16 @@ class Sweep:
                     return False
                 waiting = []
         return self.show(waiting)
+
+    def cone(self) -> bytearray:
+        """A mark for each variable on which the last clause depends."""
+        needed, left = bytearray(self.count + 1), [abs(it) for it in self.bad]
+        while left:
+            variable = left.pop()
+            if not needed[variable]:
+                needed[variable] = 1
+                left += map(abs, self.gates.get(variable, ()))
+        return needed
 
     def is_plain(self, variable: int) -> bool:
         """Whether its operands say at once what it is."""
@@ -1417,16 +1464,25 @@ class Window:
 
     def differing(self, answer: Path) -> int:
         """The first pair that differs by the solver's answer."""
-        true = {int(it) for line in answer.read_text().split("\n") if line[:1] == "v" for it in line.split()[1:]}
+        lines = re.findall(rb"(?m)^v([-0-9 ]*)$", bytes_of(answer))
+        true = {int(it) for line in lines for it in re.findall(rb"-?[0-9]+", line)}
         return next((at for at, cube in enumerate(self.cubes) if true.issuperset(cube)), 0) // 2
 
     def lemmas(self, refutation: Path) -> List[List[int]]:
         """What the solver learnt, over the variables of the whole. What it deletes is kept until all is used."""
         found = []
-        for line in binary_lemmas(refutation.read_bytes()):
+        for line in binary_lemmas(bytes_of(refutation)):
             if all(abs(it) < len(self.variables) for it in line):
                 found.append([self.variables[it] if it > 0 else -self.variables[-it] for it in line])
         return [lemma for lemma in found if lemma]
+
+
+def bytes_of(path: Path) -> bytes:
+    """What a program has written there, if it is a file."""
+    try:
+        return path.read_bytes()
+    except OSError:
+        return b""
 
 
 def binary_lemmas(data: bytes) -> Iterator[List[int]]:
@@ -1453,8 +1509,8 @@ class Together(Search):
     """Asks of all bad states of a miter at once whether none is reached: what two designs have in common is then gone
     through once, and not for each pair again."""
 
-    #: how long the solver alone is asked where gates can be swept
-    SHORT, LONG = 2.0, 60.0
+    #: how long a solver is asked whose refutations are not put together here
+    LONG = 60.0
 
     def __init__(self, sides: Sides, model: Model, tools: Tools, folder: Path, progress: "Progress") -> None:
         super().__init__(Assertion("all", "together", 0), model, tools, folder, progress)
@@ -1470,29 +1526,17 @@ class Together(Search):
         alike = Alike(self.model, self.sides)
         alike.find()
         self.rows = alike.rows()
-        self.left = min(self.left, self.SHORT if solver.kind == "cadical" else self.LONG)
-        verdict = self.by_invariant(self.rows)
-        if not verdict and self.left <= 0 and solver.kind == "cadical":
-            verdict = self.by_sweep(alike.equalities())
+        if solver.kind == "cadical":
+            self.halves = len(self.sides.first.circuit.gates), alike.equalities()
+            verdict = self.by_gates(self.rows)
+        else:
+            self.left = min(self.left, self.LONG)
+            verdict = self.by_invariant(self.rows)
         if verdict:
             verdict.of_all = True
         elif self.rows and not self.are_kept():
             self.rows = []
         return verdict
-
-    def by_sweep(self, equalities: List[Equality]) -> Optional[Verdict]:
-        """Whether a refutation that goes from the inputs on shows it."""
-        self.progress.tell(self.assertion, "gates")
-        clauses, invariant = self.folder / "sweep.cnf", self.folder / "never.pla"
-        if self.unroll(self.whole, "--invariant", invariant, "--cnf", self.whole.path, clauses).status != 0:
-            return None
-        halves = len(self.sides.first.circuit.gates), equalities
-        sweep = Sweep(self.tools.solver, clauses, halves, self.tools.limits.limit)
-        if not sweep.refutes(self.folder / "never.drat"):
-            return None
-        if not self.is_shown("never", "never", "--invariant", invariant):
-            return None
-        return Verdict(Answer.NEVER, refutation=self.folder / "never.drat", invariant=invariant)
 
     def are_kept(self) -> bool:
         """Whether the rows are an invariant, by the solver's word."""
@@ -2541,7 +2585,7 @@ class Run:
         together = Together(self.sides, model, tools, self.folder / TOGETHER, self.progress)
         self.of_all = together.verdict()
         for search in searches:
-            search.rows = together.rows
+            search.rows, search.halves = together.rows, together.halves
 
     def answer(self, search: Search) -> Verdict:
         """The answer for an assertion; a counterexample is replayed."""
