@@ -539,6 +539,106 @@ def differs_in(room, it):
     return seen[0][:-1] == seen[1][:-1] and seen[0][-1] != seen[1][-1]
 
 
+# ---------------------------------------------------------------- gate by gate
+
+
+def multiplier(bits):
+    """A multiplier of two numbers, which a solver alone does not compare with another one in time."""
+    gates, spare = [], itertools.count(2 * bits + 1)
+
+    def both(left, right):
+        if 0 in (left, right):
+            return 0
+        own = 2 * next(spare)
+        gates.append((own, left, right))
+        return own
+
+    def either(left, right):
+        return both(left ^ 1, right ^ 1) ^ 1
+
+    def added(left, right, carry):
+        one = either(both(left, right ^ 1), both(left ^ 1, right))
+        total = either(both(one, carry ^ 1), both(one ^ 1, carry))
+        return total, either(both(left, right), both(one, carry))
+
+    left, right = ([2 * it for it in range(1 + first, 1 + first + bits)] for first in (0, bits))
+    line, outputs = [both(left[0], it) for it in right] + [0], []
+    for factor in left[1:]:
+        outputs.append(line[0])
+        carry, following = 0, []
+        for one, other in zip(line[1:], [both(factor, it) for it in right]):
+            total, carry = added(one, other, carry)
+            following.append(total)
+        line = [*following, carry]
+    largest = next(spare) - 1
+    return images.Circuit(
+        largest=largest, inputs=list(range(1, 2 * bits + 1)), latches=[], nexts=[], resets=[],
+        outputs=[*outputs, *line], bad=[], constraints=[], justice=[], fairness=[], gates=gates, symbols="", comment=None,
+    )
+
+
+BITS = 11
+
+
+def put_multipliers(room, commands, bits=BITS):
+    """A multiplier, and what ABC makes of it."""
+    design_rows.need_tools("berkeley-abc", "cadical")
+    put(room, model_rows.binary(room, images.ascii_text(multiplier(bits)).decode()), AND)
+    commands = f"read_aiger {room.here / 'old'}; {commands}; write_aiger {room.folder / 'new.aig'}"
+    subprocess.run(["berkeley-abc", "-q", commands], check=True, capture_output=True)
+
+
+def by_gates(commands, room):
+    """What one solver's call does not decide is shown from the inputs on, and kept once."""
+    put_multipliers(room, commands)
+    shutil.copy(room.folder / "new.aig", room.here / "new")
+    room.may_write.add("kept")
+    said = room.run("--equal", "--limit", "100", "--keep", "kept", "old", "new")
+    found = judge(said, [(f"o{it}", None) for it in range(2 * BITS)])
+    kept = room.here / "kept"
+    checked.need(len(list(kept.glob("*.drat"))) == 1, f"kept {sorted(os.listdir(kept))}", said)
+    for script in sorted(kept.glob("*.check.sh"))[: len(found) : 7]:
+        checked.need(checked.succeeds(str(script), room, room.folder), f"{script.name} fails", said)
+
+
+def by_gates_changed(room):
+    """With a gate changed near the inputs there are differences, and each is so."""
+    put_multipliers(room, "strash; dc2")
+    changed_gate(room, random.Random(3))
+    shutil.copy(room.folder / "new.aig", room.here / "new")
+    said = room.run("--equal", "--limit", "20", "old", "new")
+    bad = [it for it in of_lines(said, checked.FRAMES) if it.answer == "reached"]
+    checked.need(bad and said.status == 1, "no difference", said)
+    checked.need(all(it.steps == 0 for it in bad) and differs_in(room, bad[0]), f"{bad[0]} is not so", said)
+
+
+def lying_by_gates(body, room):
+    """A solver that does not decide, and lies where it is asked gate by gate: no output that differs is equal."""
+    put_multipliers(room, "strash; dc2", 4)
+    changed_gate(room, random.Random(3))
+    shutil.copy(room.folder / "new.aig", room.here / "new")
+    steps = "".join(f"{it:08b}\n" for it in range(256))
+    (room.folder / "steps").write_text(steps, encoding="ascii")
+    lines = [ask(room, "aigsim", room.here / name, room.folder / "steps").stdout.split(b"\n") for name in ("old", "new")]
+    outputs = [[line.split(b" ")[2].decode() for line in its[:256]] for its in lines]
+    differ = {f"o{at}" for one, other in zip(*outputs) for at in range(8) if one[at] != other[at]}
+    body = f'{stand_ins.FILES}grep -q inccnf "$clauses" || exec sleep 100\n{body}'
+    changes = {"SOLVER": stand_ins.put(room.folder / "lies", "cadical", body), "ABC": "false"}
+    said = room.run("--equal", "--limit", "0.5", "--jobs", "8", "old", "new", changes=changes)
+    found = judge(said, [(f"o{it}", 0 if f"o{it}" in differ else None) for it in range(8)], checked.SAFE)
+    checked.need(differ and any(it.answer == "unknown" for it in found), "it was not lied to", said)
+
+
+GATE_LIES = {
+    "no refutation": stand_ins.UNSAT,
+    "an empty refutation": f': > "$refutation"; {stand_ins.UNSAT}',
+    "any bytes": f'head -c 3000 /dev/urandom > "$refutation"; {stand_ins.UNSAT}',
+    "a folder": f'rm -rf "$refutation"; mkdir "$refutation"; {stand_ins.UNSAT}',
+    "wrong values": f"{stand_ins.SAT}; echo 'v 1 -2 99999999 x 0'; exit 10",
+    "no values": f"{stand_ins.SAT}; exit 10",
+    "that it failed": "exit 1",
+}
+
 # ---------------------------------------------------------------- Verilog
 
 COUNTER = """module m(input clk, input reset, input up, output reg [3:0] count, output full);
@@ -830,6 +930,11 @@ def rows():
     for at, which in enumerate(SHORTER):
         yield f"equal: {which} of ABC", each(by_abc, which, at, False)
         yield f"equal: {which} of ABC, changed", each(by_abc, which, at, True)
+    yield "equal: gate by gate, dc2", each(by_gates, SHORTER["dc2"])
+    yield "equal: gate by gate, resyn2", each(by_gates, SHORTER["resyn2"])
+    yield "equal: gate by gate, changed", by_gates_changed
+    for called, body in GATE_LIES.items():
+        yield f"equal: gate by gate, the solver gives {called}", each(lying_by_gates, body)
     for which in DESIGNS:
         yield f"equal designs: {which}", each(of_design, which)
     for called, of in PORTS.items():
