@@ -482,6 +482,11 @@ class Model:
         return needed
 
 
+def named_by_symbols(circuit: Any, kind: str) -> Dict[int, str]:
+    """What the symbols name of a kind, by position."""
+    return {it.position: it.name.decode(errors="surrogateescape") for it in circuit.symbols if it.kind == kind}
+
+
 class Gates:
     """AND gates, whose variables are numbered as they are made."""
 
@@ -993,6 +998,37 @@ class Search:
         return Verdict(Answer.NEVER, refutation=self.folder / "never.drat", invariant=invariant)
 
 
+def aiger_failure(told: Finished) -> str:
+    """Why aiger gave no answer."""
+    if told.late:
+        return f"aiger gave no answer in {told.seconds:.0f} s"
+    words = told.errors.strip().splitlines()
+    return words[-1] if words else f"aiger ended with status {told.status}"
+
+
+class Progress:
+    """Which assertion is looked at, and how: on standard error, where that is a terminal."""
+
+    def __init__(self, shown: bool) -> None:
+        self.shown, self.lock, self.begun, self.width = shown, threading.Lock(), time.monotonic(), 0
+
+    def tell(self, assertion: Assertion, what: str) -> None:
+        if self.shown:
+            self.put(f"{assertion}: {what}, {time.monotonic() - self.begun:.0f} s")
+
+    def put(self, line: str) -> None:
+        with self.lock:
+            line = line[: shutil.get_terminal_size().columns - 1]
+            sys.stderr.write("\r" + line.ljust(self.width))
+            sys.stderr.flush()
+            self.width = len(line)
+
+    def clear(self) -> None:
+        if self.width:
+            self.put("")
+            self.put("")
+
+
 # ---------------------------------------------------------------- two designs
 
 
@@ -1006,8 +1042,7 @@ class Side:
 
     def symbols(self, kind: str) -> Dict[int, str]:
         """What its symbols name of a kind, by position."""
-        found = (it for it in self.circuit.symbols if it.kind == kind)
-        return {it.position: it.name.decode(errors="surrogateescape") for it in found}
+        return named_by_symbols(self.circuit, kind)
 
     def names(self, kind: str, count: int) -> List[str]:
         symbols = self.symbols(kind)
@@ -1094,7 +1129,7 @@ class Patterns:
 
 
 class Equality(NamedTuple):
-    """Of two latches, of which the first may be the constant 0, as -1: they are equal, or opposite, where a third is 1."""
+    """Two latches are equal, or opposite, where a third is 1. The first may be the constant 0, as -1."""
 
     one: int
     other: int
@@ -1399,8 +1434,8 @@ class Sweep:
         return bool(self.ask([(abs(literal), self.FALSE if literal > 0 else -self.FALSE)], self.count))
 
     def ask(self, pairs: List[Tuple[int, int]], depth: int) -> Optional[int]:
-        """How many of these pairs the solver shows to be equal, up to the first that may differ in this depth; None if it
-        fails."""
+        """How many of these pairs the solver shows to be equal, up to the first that may differ in this depth. None if
+        it fails."""
         window = Window(self, pairs, depth)
         clauses = self.folder / "window.cnf"
         clauses.write_text(window.text(), encoding="ascii")
@@ -1424,8 +1459,8 @@ class Sweep:
 
 
 class Window:
-    """What some pairs depend on, up to a depth, as clauses over numbers of its own, with cubes that ask for a difference
-    of each (iCNF)."""
+    """What some pairs depend on, up to a depth, as clauses over numbers of its own, with cubes that ask for a
+    difference of each (iCNF)."""
 
     def __init__(self, sweep: Sweep, pairs: List[Tuple[int, int]], depth: int) -> None:
         self.sweep, self.numbers, self.variables = sweep, {}, [0]
@@ -1546,37 +1581,6 @@ class Together(Search):
         path.write_bytes(aigtools().Circuit(bad=[0], **parts).write())
         options = ("--invariant", self.folder / "never.pla")
         return self.ask(Target(path, None), "rows", "an invariant", *options) is Said.UNSATISFIABLE
-
-
-def aiger_failure(told: Finished) -> str:
-    """Why aiger gave no answer."""
-    if told.late:
-        return f"aiger gave no answer in {told.seconds:.0f} s"
-    words = told.errors.strip().splitlines()
-    return words[-1] if words else f"aiger ended with status {told.status}"
-
-
-class Progress:
-    """Which assertion is looked at, and how: on standard error, where that is a terminal."""
-
-    def __init__(self, shown: bool) -> None:
-        self.shown, self.lock, self.begun, self.width = shown, threading.Lock(), time.monotonic(), 0
-
-    def tell(self, assertion: Assertion, what: str) -> None:
-        if self.shown:
-            self.put(f"{assertion}: {what}, {time.monotonic() - self.begun:.0f} s")
-
-    def put(self, line: str) -> None:
-        with self.lock:
-            line = line[: shutil.get_terminal_size().columns - 1]
-            sys.stderr.write("\r" + line.ljust(self.width))
-            sys.stderr.flush()
-            self.width = len(line)
-
-    def clear(self) -> None:
-        if self.width:
-            self.put("")
-            self.put("")
 
 
 # ---------------------------------------------------------------- Yosys
@@ -2070,7 +2074,7 @@ class Ports(Front):
                 if symbol in symbols:
                     raise Trouble(f"{visible(self.called)}: which {direction} is {visible(symbol)} cannot be told")
                 symbols[symbol] = name
-        found = {it.position: it.name.decode(errors="surrogateescape") for it in self.circuit.symbols if it.kind == kind}
+        found = named_by_symbols(self.circuit, kind)
         names = [symbols.get(found[at], "") if at in found else "" for at in range(len(literals))]
         if sorted(filter(None, names)) != sorted(symbols.values()) or len(found) != len(symbols):
             raise Trouble(f"{visible(self.called)}: which {direction} is which cannot be told")
@@ -2092,7 +2096,7 @@ class Ports(Front):
 
     def unset(self) -> List[Tuple[int, Set[str]]]:
         """The latches without initial value, each with its names."""
-        names = {it.position: it.name.decode(errors="surrogateescape") for it in self.circuit.symbols if it.kind == "l"}
+        names = named_by_symbols(self.circuit, "l")
         latches = enumerate(self.circuit.latches)
         return [(at, set(names.get(at, "").split())) for at, latch in latches if latch.reset > 1]
 
@@ -2102,10 +2106,8 @@ class Ports(Front):
         circuit, own, asserted = self.circuit, dict(zip(self.inputs, self.circuit.inputs)), dict(self.asserted)
         free = self.undriven()
         spare = [2 * (circuit.max_var + 1 + at) for at in range(undriven - len(free))]
-        compared, order = dict(zip(self.outputs, circuit.outputs)), start + [
-            at for at in range(len(circuit.latches)) if at not in set(start)
-        ]
-        latches = list(circuit.latches)
+        compared, latches, first = dict(zip(self.outputs, circuit.outputs)), list(circuit.latches), set(start)
+        order = start + [at for at in range(len(latches)) if at not in first]
         symbols = [("i", at, name) for at, name in enumerate([*inputs, *(f"undriven {at}" for at in range(undriven))])]
         symbols += [("o", at, name) for at, name in enumerate(outputs)]
         symbols += [("b", at, f"assertion {name}") for at, name in enumerate(bad)]
@@ -2749,7 +2751,7 @@ class Run:
         if not circuit.bad:
             hint = "; of its outputs aiger aigtoaig --outputs-as-bad makes some" if circuit.outputs else ""
             self.must_say(f"{visible(name)}: there is no bad state{hint}")
-        names = {it.position: it.name.decode(errors="surrogateescape") for it in circuit.symbols if it.kind == "b"}
+        names = named_by_symbols(circuit, "b")
         return Model(path), [Assertion(names.get(at, f"b{at}"), name, at) for at in range(len(circuit.bad))]
 
     def must_say(self, words: str) -> None:
@@ -2766,14 +2768,15 @@ class Run:
         path.write_bytes(aigtools().Circuit(bad=[1], **parts).write())
         told = tools.aiger.run("aigunroll", "--frames", 1, "--cnf", path, clauses, folder=self.folder)
         if told.status == 0 and tools.solver.solve(clauses, tools.limits.time)[0] is Said.UNSATISFIABLE:
-            self.note("the assumptions contradict one another in the first step, so no run breaks anything")
+            nothing = "shows a difference" if self.given.equal else "breaks anything"
+            self.note(f"the assumptions contradict one another in the first step, so no run {nothing}")
 
     def records(self) -> Dict[str, List[Dict[str, Any]]]:
         """What --json says."""
         if not self.given.equal:
             return {"assertions": [{**self.record(*it, source=it[0].place)} for it in self.verdicts]}
-        kinds = {"pairs": Pair, "assumptions": Assumption}
-        return {name: [self.record(*it) for it in self.verdicts if isinstance(it[0], kind)] for name, kind in kinds.items()}
+        pairs, assumed = ([it for it in self.verdicts if isinstance(it[0], kind)] for kind in (Pair, Assumption))
+        return {"pairs": [self.record(*it) for it in pairs], "assumptions": [self.record(*it) for it in assumed]}
 
     def record(self, assertion: Assertion, verdict: Verdict, **more: Any) -> Dict[str, Any]:
         told = {"name": assertion.name, **more, "answer": assertion.called(verdict.answer)}
@@ -2799,8 +2802,8 @@ class Run:
 
 
 def in_order_of(first: Side, second: Side) -> Side:
-    """The second with inputs and what is compared in the order in which the first one names them; as it is where names do
-    not fit, since aiger says why."""
+    """The second with inputs and what is compared in the order in which the first one names them. Where names do not
+    fit it stays as it is, since aiger says why."""
     circuit, outputs = second.circuit, len(first.circuit.outputs)
     named, literals = second.symbols_compared(), [*circuit.outputs, *circuit.bad]
     inputs = places_by_name(first.symbols("i"), second.symbols("i"), len(circuit.inputs))

@@ -136,7 +136,7 @@ def judge_kept(room, kept, found, said):
     shown = [it for it in found if it.answer in ("never", "none within")]
     checked.need(len(scripts) == len(shown), f"{names} for {len(shown)} certificates", said)
     for script in scripts:
-        checked.need(checked.succeeds(str(script), room, room.folder), f"{script.name} fails: {script.read_text()}", said)
+        checked.need(checked.succeeds(str(script), room, room.folder), f"{script.name} fails", said)
     for changed in (first, second) if scripts else ():
         data = changed.read_bytes()
         changed.write_bytes(b"aag 0 0 0 1 0\n0\n")
@@ -160,11 +160,15 @@ PAIRS = {
     "other numbers": (AND, EXCHANGED, [("o0", None)]),
     "names": (NAMED, EXCHANGED, [("both", None)]),
     "an operand negated": (NAMED, AND.replace("6 4 2\n", "6 4 3\n"), [("both", 0)]),
-    "De Morgan": (
-        "aag 5 2 0 1 3\n2\n4\n10\n6 4 3\n8 5 2\n10 9 7\n", "aag 5 2 0 1 3\n2\n4\n11\n6 4 2\n8 5 3\n10 9 7\n", [("o0", None)],
+    "equivalence in two ways": (
+        "aag 5 2 0 1 3\n2\n4\n10\n6 4 3\n8 5 2\n10 9 7\n",
+        "aag 5 2 0 1 3\n2\n4\n11\n6 4 2\n8 5 3\n10 9 7\n",
+        [("o0", None)],
     ),
     "exclusive or in two ways": (
-        "aag 5 2 0 1 3\n2\n4\n11\n6 4 3\n8 5 2\n10 9 7\n", "aag 5 2 0 1 3\n2\n4\n10\n6 4 2\n8 5 3\n10 9 7\n", [("o0", None)],
+        "aag 5 2 0 1 3\n2\n4\n11\n6 4 3\n8 5 2\n10 9 7\n",
+        "aag 5 2 0 1 3\n2\n4\n10\n6 4 2\n8 5 3\n10 9 7\n",
+        [("o0", None)],
     ),
     "outputs and bad states": (
         "aag 2 2 0 1 0 1\n2\n4\n2\n4\nb0 broken\n", "aag 2 2 0 2 0\n2\n4\n2\n5\n", [("o0", None), ("broken", 0)],
@@ -272,7 +276,7 @@ NOT_BY_NAME = {
     "one name twice": (STRAIGHT, TURNED.replace("o1 some", "o1 no"), ["new: output 1: name given twice"]),
     "one twice in the first": (STRAIGHT.replace("b0 no", "b0 some"), TURNED, ["old: bad state 0: name given twice"]),
     "another name": (STRAIGHT, TURNED.replace("i1 x", "i1 z"), ["new: input 1: no such name in the other file"]),
-    "another output": (STRAIGHT, TURNED.replace("o1 some", "o1 any"), ["new: output 1: no such name in the other file"]),
+    "another output": (STRAIGHT, TURNED.replace("o1 some", "o1 any"), ["new: output 1: no such name in the other"]),
 }
 
 # ---------------------------------------------------------------- what is refused
@@ -468,7 +472,8 @@ def others_named(room):
 
 SHORTER = {
     "dc2": "strash; dc2",
-    "resyn2": "strash; balance; rewrite; refactor; balance; rewrite; rewrite -z; balance; refactor -z; rewrite -z; balance",
+    "resyn2": "strash; balance; rewrite; refactor; balance; rewrite; rewrite -z; balance; refactor -z; rewrite -z; "
+    "balance",
     "scorr": "strash; scorr",
     "retime": "strash; retime -M 1; strash",
 }
@@ -533,7 +538,8 @@ def differs_in(room, it):
     said = room.run("--equal", "--frames", "10", "--time", "5", "--keep", "kept", "old", "new")
     found = next(other for other in of_lines(said, 10) if other.name == it.name)
     stimulus = (room.here / found.witness).with_suffix(".stimulus")
-    lines = [ask(room, "aigsim", "--properties", room.here / name, stimulus).stdout.decode().split("\n") for name in ("old", "new")]
+    ran = [ask(room, "aigsim", "--properties", room.here / name, stimulus) for name in ("old", "new")]
+    lines = [it.stdout.decode().split("\n") for it in ran]
     place = int(it.name[1:])
     seen = [["".join(line.split(" ")[2:5:2])[place] for line in its[: found.steps + 1]] for its in lines]
     return seen[0][:-1] == seen[1][:-1] and seen[0][-1] != seen[1][-1]
@@ -573,7 +579,8 @@ def multiplier(bits):
     largest = next(spare) - 1
     return images.Circuit(
         largest=largest, inputs=list(range(1, 2 * bits + 1)), latches=[], nexts=[], resets=[],
-        outputs=[*outputs, *line], bad=[], constraints=[], justice=[], fairness=[], gates=gates, symbols="", comment=None,
+        outputs=[*outputs, *line], bad=[], constraints=[], justice=[], fairness=[], gates=gates, symbols="",
+        comment=None,
     )
 
 
@@ -619,8 +626,8 @@ def lying_by_gates(body, room):
     shutil.copy(room.folder / "new.aig", room.here / "new")
     steps = "".join(f"{it:08b}\n" for it in range(256))
     (room.folder / "steps").write_text(steps, encoding="ascii")
-    lines = [ask(room, "aigsim", room.here / name, room.folder / "steps").stdout.split(b"\n") for name in ("old", "new")]
-    outputs = [[line.split(b" ")[2].decode() for line in its[:256]] for its in lines]
+    ran = [ask(room, "aigsim", room.here / name, room.folder / "steps") for name in ("old", "new")]
+    outputs = [[line.split(" ")[2] for line in it.stdout.decode().split("\n")[:256]] for it in ran]
     differ = {f"o{at}" for one, other in zip(*outputs) for at in range(8) if one[at] != other[at]}
     body = f'{stand_ins.FILES}grep -q inccnf "$clauses" || exec sleep 100\n{body}'
     changes = {"SOLVER": stand_ins.put(room.folder / "lies", "cadical", body), "ABC": "false"}
@@ -696,7 +703,9 @@ DESIGNS = {
         (STARTED, OTHER_COUNTER.replace("left <= 15", "left <= 14")), [],
         [("count[0]", 1), ("count[1]", 2), ("count[2]", 4), ("count[3]", 8), ("full", 15)],
     ),
-    "a counter without initial values": ((COUNTER, COUNTER.replace("count + 1", "1 + count")), [], [(it, None) for it in NAMES]),
+    "a counter without initial values": (
+        (COUNTER, COUNTER.replace("count + 1", "1 + count")), [], [(it, None) for it in NAMES],
+    ),
     "assumptions": (
         (ASSUMED % "a ^ b", ASSUMED % "a | b"), [],
         [("o", None), ("assertion kept", None), ("assertion here", None), ("assumption both of new.sv", None)],
