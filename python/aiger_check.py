@@ -786,6 +786,8 @@ class Search:
         self.rows: List[str] = []
         #: of a miter the gates of its first half, and which latches are equal
         self.halves: Optional[Tuple[int, Sequence["Equality"]]] = None
+        #: whether the solver alone had no answer soon
+        self.is_undecided = False
         self.reasons: List[str] = []
         self.notes: List[str] = []
 
@@ -920,22 +922,24 @@ class Search:
         """An assertion that depends on no latch never fails if no step breaks it, which needs no invariant."""
         if not self.tools.solver or self.part.latches:
             return None
-        return self.by_gates([]) if self.halves else self.by_invariant([])
+        if not self.halves:
+            return self.by_invariant([])
+        return self.by_gates([]) or (self.by_invariant([]) if self.is_undecided else None)
 
     #: how long the solver alone is asked where gates can be swept
     SHORT = 2.0
 
     def by_gates(self, rows: Sequence[str]) -> Optional[Verdict]:
-        """The same of a miter: if the solver alone does not see it soon, gate by gate."""
+        """What an invariant shows of a miter: if the solver alone does not see it soon, gate by gate."""
         left = self.left
-        self.left = min(left, self.SHORT)
+        self.left = given = min(left, self.SHORT)
         verdict = self.by_invariant(rows)
-        is_late, self.left = self.left <= 0, left - self.SHORT
-        if verdict or not is_late:
+        self.is_undecided, self.left = self.left <= 0, left - given + self.left
+        if verdict or not self.is_undecided:
             return verdict
         self.reasons.clear()
-        verdict = self.by_sweep(*self.halves)
-        return verdict if verdict or self.whole.bad is None else self.by_invariant(rows)
+        first_gates, equalities = self.halves
+        return self.by_sweep(first_gates, equalities if rows else [])
 
     def by_sweep(self, first_gates: int, equalities: Sequence["Equality"]) -> Optional[Verdict]:
         """Whether a refutation that goes from the inputs on shows it."""
@@ -956,7 +960,7 @@ class Search:
         if not self.rows:
             return None
         reasons = len(self.reasons)
-        verdict = self.by_invariant(self.rows)
+        verdict = self.by_gates(self.rows) if self.halves else self.by_invariant(self.rows)
         del self.reasons[reasons:]
         return verdict
 
@@ -1252,6 +1256,8 @@ class Sweep:
     """
 
     WIDTH, CHUNK, DEPTH, TRIES = 2048, 200, 10, 6
+    #: in so many patterns the constraints have to hold
+    LEAST = 64
     #: a variable that is false
     FALSE = 1
 
@@ -1267,7 +1273,7 @@ class Sweep:
         self.read(clauses)
 
     def read(self, clauses: Path) -> None:
-        """The gates of the clauses, and their last clause: one of these literals is true."""
+        """The gates of the clauses, and their last clause: one of these gates of bad states is true."""
         with open(clauses, encoding="ascii") as file:
             self.count, rows = (int(word) for word in file.readline().split()[2:])
             next(file)
@@ -1280,7 +1286,7 @@ class Sweep:
         """Whether it comes to a refutation, which it writes."""
         with open(refutation, "w", encoding="ascii") as self.proof:
             self.begin()
-            if any(self.key_of_value(abs(literal))[0] for literal in self.bad):
+            if bin(self.mask).count("1") < self.LEAST or any(self.key_of_value(it)[0] for it in self.bad):
                 return False
             if not self.sweep() or not all(self.find(it) == self.FALSE or self.is_false(it) for it in self.bad):
                 return False
@@ -1429,9 +1435,9 @@ class Sweep:
                 self.lead(variable)
         return True
 
-    def is_false(self, literal: int) -> bool:
+    def is_false(self, variable: int) -> bool:
         """Whether it is shown to be false, by all that it depends on."""
-        return bool(self.ask([(abs(literal), self.FALSE if literal > 0 else -self.FALSE)], self.count))
+        return bool(self.ask([(variable, self.FALSE)], self.count))
 
     def ask(self, pairs: List[Tuple[int, int]], depth: int) -> Optional[int]:
         """How many of these pairs the solver shows to be equal, up to the first that may differ in this depth. None if
