@@ -967,7 +967,8 @@ class Search:
     def by_abc(self) -> Optional[Verdict]:
         """What ABC's pdr shows: an invariant, or a run."""
         abc, limits = self.tools.abc, self.tools.limits
-        if not abc:
+        # of two designs without latches a solver that does not decide is not helped by pdr
+        if not abc or self.tools.solver and not self.part.latches and isinstance(self.assertion, (Pair, Assumption)):
             return None
         self.progress.tell(self.assertion, "pdr")
         circuit = ForAbc(self.part)
