@@ -1157,8 +1157,9 @@ class Alike:
     #: an invariant has two rows for each latch, and a row a character for each
     MOST = 4000
 
-    def __init__(self, model: Model, sides: Sides) -> None:
+    def __init__(self, model: Model, sides: Sides, tools: Tools) -> None:
         self.latches, self.patterns = model.latches, Patterns(model)
+        self.children, self.end = tools.aiger.children, time.monotonic() + tools.limits.time
         first, second = sides.first.unset(), sides.second.unset()
         before = len(sides.first.circuit.latches)
         self.pairs = [(one, before + other) for one, other in zip(first, second)]
@@ -1222,6 +1223,8 @@ class Alike:
         self.classes, kept = [list(self.phases)], patterns.ones
         for _ in range(self.STEPS):
             self.split(state, kept)
+            if self.is_over():
+                break
             state, now = patterns.step(state)
             kept &= now
         self.split(state, kept)
@@ -1232,8 +1235,14 @@ class Alike:
         for _ in range(self.ROUNDS):
             state, kept = self.patterns.step(self.any_state())
             quiet = 0 if self.split(state, kept) else quiet + 1
-            if quiet == self.QUIET:
+            if quiet == self.QUIET or self.is_over():
                 break
+
+    def is_over(self) -> bool:
+        """Whether this has taken long enough; ends where the run is to end."""
+        if self.children.stopped:
+            raise Stopped
+        return time.monotonic() > self.end
 
     def any_state(self) -> List[int]:
         ones = self.patterns.ones
@@ -1565,7 +1574,7 @@ class Together(Search):
         if not solver or not solver.refutes:
             return None
         self.progress.tell(self.assertion, "invariant")
-        alike = Alike(self.model, self.sides)
+        alike = Alike(self.model, self.sides, self.tools)
         alike.find()
         self.rows = alike.rows()
         if solver.kind == "cadical":
