@@ -482,6 +482,11 @@ class Model:
         return needed
 
 
+def named_by_symbols(circuit: Any, kind: str) -> Dict[int, str]:
+    """What the symbols name of a kind, by position."""
+    return {it.position: it.name.decode(errors="surrogateescape") for it in circuit.symbols if it.kind == kind}
+
+
 class Gates:
     """AND gates, whose variables are numbered as they are made."""
 
@@ -779,6 +784,10 @@ class Search:
         self.left = tools.limits.limit
         self.refuted = 0
         self.rows: List[str] = []
+        #: of a miter the gates of its first half, and which latches are equal
+        self.halves: Optional[Tuple[int, Sequence["Equality"]]] = None
+        #: whether the solver alone had no answer soon
+        self.is_undecided = False
         self.reasons: List[str] = []
         self.notes: List[str] = []
 
@@ -911,21 +920,55 @@ class Search:
 
     def without_latches(self) -> Optional[Verdict]:
         """An assertion that depends on no latch never fails if no step breaks it, which needs no invariant."""
-        return self.by_invariant([]) if self.tools.solver and not self.part.latches else None
+        if not self.tools.solver or self.part.latches:
+            return None
+        if not self.halves:
+            return self.by_invariant([])
+        return self.by_gates([]) or (self.by_invariant([]) if self.is_undecided else None)
+
+    #: how long the solver alone is asked where gates can be swept
+    SHORT = 2.0
+
+    def by_gates(self, rows: Sequence[str]) -> Optional[Verdict]:
+        """What an invariant shows of a miter: if the solver alone does not see it soon, gate by gate."""
+        left = self.left
+        self.left = given = min(left, self.SHORT)
+        verdict = self.by_invariant(rows)
+        self.is_undecided, self.left = self.left <= 0, left - given + self.left
+        if verdict or not self.is_undecided:
+            return verdict
+        self.reasons.clear()
+        first_gates, equalities = self.halves
+        return self.by_sweep(first_gates, equalities if rows else [])
+
+    def by_sweep(self, first_gates: int, equalities: Sequence["Equality"]) -> Optional[Verdict]:
+        """Whether a refutation that goes from the inputs on shows it."""
+        self.progress.tell(self.assertion, "gates")
+        clauses, invariant = self.folder / "sweep.cnf", self.folder / "never.pla"
+        if self.unroll(self.whole, "--invariant", invariant, "--cnf", self.whole.path, clauses).status != 0:
+            return None
+        begun = time.monotonic()
+        sweep = Sweep(self.tools.solver, clauses, first_gates, equalities, self.left)
+        is_refuted = sweep.refutes(self.folder / "never.drat")
+        self.left -= time.monotonic() - begun
+        if not is_refuted or not self.is_shown("never", "never", "--invariant", invariant):
+            return None
+        return Verdict(Answer.NEVER, refutation=self.folder / "never.drat", invariant=invariant)
 
     def by_rows(self) -> Optional[Verdict]:
         """What is shown by an invariant that was found for all bad states at once."""
         if not self.rows:
             return None
         reasons = len(self.reasons)
-        verdict = self.by_invariant(self.rows)
+        verdict = self.by_gates(self.rows) if self.halves else self.by_invariant(self.rows)
         del self.reasons[reasons:]
         return verdict
 
     def by_abc(self) -> Optional[Verdict]:
         """What ABC's pdr shows: an invariant, or a run."""
         abc, limits = self.tools.abc, self.tools.limits
-        if not abc:
+        # of two designs without latches a solver that does not decide is not helped by pdr
+        if not abc or self.tools.solver and not self.part.latches and isinstance(self.assertion, (Pair, Assumption)):
             return None
         self.progress.tell(self.assertion, "pdr")
         circuit = ForAbc(self.part)
@@ -960,6 +1003,37 @@ class Search:
         return Verdict(Answer.NEVER, refutation=self.folder / "never.drat", invariant=invariant)
 
 
+def aiger_failure(told: Finished) -> str:
+    """Why aiger gave no answer."""
+    if told.late:
+        return f"aiger gave no answer in {told.seconds:.0f} s"
+    words = told.errors.strip().splitlines()
+    return words[-1] if words else f"aiger ended with status {told.status}"
+
+
+class Progress:
+    """Which assertion is looked at, and how: on standard error, where that is a terminal."""
+
+    def __init__(self, shown: bool) -> None:
+        self.shown, self.lock, self.begun, self.width = shown, threading.Lock(), time.monotonic(), 0
+
+    def tell(self, assertion: Assertion, what: str) -> None:
+        if self.shown:
+            self.put(f"{assertion}: {what}, {time.monotonic() - self.begun:.0f} s")
+
+    def put(self, line: str) -> None:
+        with self.lock:
+            line = line[: shutil.get_terminal_size().columns - 1]
+            sys.stderr.write("\r" + line.ljust(self.width))
+            sys.stderr.flush()
+            self.width = len(line)
+
+    def clear(self) -> None:
+        if self.width:
+            self.put("")
+            self.put("")
+
+
 # ---------------------------------------------------------------- two designs
 
 
@@ -973,8 +1047,7 @@ class Side:
 
     def symbols(self, kind: str) -> Dict[int, str]:
         """What its symbols name of a kind, by position."""
-        found = (it for it in self.circuit.symbols if it.kind == kind)
-        return {it.position: it.name.decode(errors="surrogateescape") for it in found}
+        return named_by_symbols(self.circuit, kind)
 
     def names(self, kind: str, count: int) -> List[str]:
         symbols = self.symbols(kind)
@@ -1060,6 +1133,22 @@ class Patterns:
         return [values[latch.next] for latch in self.latches], kept
 
 
+class Equality(NamedTuple):
+    """Two latches are equal, or opposite, where a third is 1. The first may be the constant 0, as -1."""
+
+    one: int
+    other: int
+    opposite: int
+    later: Optional[int]
+
+    def asked(self) -> List[Dict[int, int]]:
+        """The values of latches that are not to be."""
+        last = {} if self.later is None else {self.later: 1}
+        if self.one < 0:
+            return [{self.other: self.opposite ^ 1, **last}]
+        return [{self.one: value, self.other: value ^ self.opposite ^ 1, **last} for value in (0, 1)]
+
+
 class Alike:
     """Latches of a miter that have one value in each step, or opposite ones, or always the same: as far as some runs by
     chance tell. So it is believed by nobody, and the invariant that they make has to be proved."""
@@ -1068,8 +1157,9 @@ class Alike:
     #: an invariant has two rows for each latch, and a row a character for each
     MOST = 4000
 
-    def __init__(self, model: Model, sides: Sides) -> None:
+    def __init__(self, model: Model, sides: Sides, tools: Tools) -> None:
         self.latches, self.patterns = model.latches, Patterns(model)
+        self.children, self.end = tools.aiger.children, time.monotonic() + tools.limits.time
         first, second = sides.first.unset(), sides.second.unset()
         before = len(sides.first.circuit.latches)
         self.pairs = [(one, before + other) for one, other in zip(first, second)]
@@ -1079,13 +1169,38 @@ class Alike:
         self.phases: Dict[int, int] = {}
         self.classes: List[List[int]] = []
 
+    def find(self) -> None:
+        """Looks for what is alike, where there are latches."""
+        if 0 < len(self.latches) <= self.MOST:
+            self.from_start()
+            self.by_induction()
+
+    def equalities(self) -> List["Equality"]:
+        """Which latch is which other one, or a constant, in each step, or in all but the first."""
+        found = []
+        for group in self.classes:
+            for at in group[1:]:
+                one = Equality(group[0], at, self.phases[group[0]] ^ self.phases[at], None)
+                if not all(map(self.is_kept_at_start, one.asked())):
+                    one = one._replace(later=self.later)
+                if all(map(self.is_kept_at_start, one.asked())):
+                    found.append(one)
+        return found
+
+    def is_kept_at_start(self, asked: Dict[int, int]) -> bool:
+        """Whether no first state has these values."""
+        return any(self.latches[at].reset == value ^ 1 for at, value in asked.items())
+
     def rows(self) -> List[str]:
         """The rows of an invariant."""
-        if not 0 < len(self.latches) <= self.MOST:
-            return []
-        self.from_start()
-        self.by_induction()
-        return [row for group in self.classes for at in group[1:] for row in self.rows_of(group[0], at)]
+        rows = []
+        for equality in self.equalities():
+            for asked in equality.asked():
+                row = ["-"] * len(self.latches)
+                for at, value in asked.items():
+                    row[at] = str(value)
+                rows.append("".join(row))
+        return rows
 
     def split(self, state: Sequence[int], kept: int) -> bool:
         """Parts what differs in one of the runs that are kept, and tells whether something did. Constants are the
@@ -1108,6 +1223,8 @@ class Alike:
         self.classes, kept = [list(self.phases)], patterns.ones
         for _ in range(self.STEPS):
             self.split(state, kept)
+            if self.is_over():
+                break
             state, now = patterns.step(state)
             kept &= now
         self.split(state, kept)
@@ -1118,8 +1235,14 @@ class Alike:
         for _ in range(self.ROUNDS):
             state, kept = self.patterns.step(self.any_state())
             quiet = 0 if self.split(state, kept) else quiet + 1
-            if quiet == self.QUIET:
+            if quiet == self.QUIET or self.is_over():
                 break
+
+    def is_over(self) -> bool:
+        """Whether this has taken long enough; ends where the run is to end."""
+        if self.children.stopped:
+            raise Stopped
+        return time.monotonic() > self.end
 
     def any_state(self) -> List[int]:
         ones = self.patterns.ones
@@ -1133,40 +1256,333 @@ class Alike:
             state[self.later] = ones
         return state
 
-    def rows_of(self, one: int, other: int) -> Iterator[str]:
-        """That these two are not different. Where a first state may have them differ, it is said of later steps."""
-        opposite = self.phases[one] ^ self.phases[other]
-        for value in (0, 1) if one >= 0 else (0,):
-            asked = {other: value ^ opposite ^ 1, **({one: value} if one >= 0 else {})}
-            if not any(self.latches[at].reset == value ^ 1 for at, value in asked.items()):
-                if self.later is None:
-                    continue
-                asked[self.later] = 1
-            row = ["-"] * len(self.latches)
-            for at, value_of in asked.items():
-                row[at] = str(value_of)
-            yield "".join(row)
+
+class Sweep:
+    """Refutes the clauses of a miter whose two halves have much in common, from the inputs on.
+
+    Gates that have one value in many patterns are taken for equal, and a solver shows it for some of them at a time, in
+    a window of what they depend on: it is asked for a difference of each, and what it learns goes into one refutation.
+    What was shown makes the next windows small. That all is right, aiger sees.
+    """
+
+    WIDTH, CHUNK, DEPTH, TRIES = 2048, 200, 10, 6
+    #: in so many patterns the constraints have to hold
+    LEAST = 64
+    #: a variable that is false
+    FALSE = 1
+
+    def __init__(
+        self, solver: Solver, clauses: Path, first_gates: int, equalities: Sequence[Equality], seconds: float
+    ) -> None:
+        self.solver, self.folder, self.end = solver, clauses.parent, time.monotonic() + seconds
+        self.first_gates, self.equalities = first_gates, equalities
+        self.gates: Dict[int, Tuple[int, int]] = {}
+        self.to: Dict[int, int] = {}
+        self.leaders: Dict[int, List[Tuple[int, int]]] = {}
+        self.known: Dict[Tuple[int, int], int] = {}
+        self.read(clauses)
+
+    def read(self, clauses: Path) -> None:
+        """The gates of the clauses, and their last clause: one of these gates of bad states is true."""
+        with open(clauses, encoding="ascii") as file:
+            self.count, rows = (int(word) for word in file.readline().split()[2:])
+            next(file)
+            for _ in range((rows - 2) // 3):
+                left, right, _ = next(file).split(), next(file).split(), next(file)
+                self.gates[-int(left[0])] = (int(left[1]), int(right[1]))
+            self.bad = [int(word) for word in next(file).split()[:-1]]
+
+    def refutes(self, refutation: Path) -> bool:
+        """Whether it comes to a refutation, which it writes."""
+        with open(refutation, "w", encoding="ascii") as self.proof:
+            self.begin()
+            if bin(self.mask).count("1") < self.LEAST or any(self.key_of_value(it)[0] for it in self.bad):
+                return False
+            if not self.sweep() or not all(self.find(it) == self.FALSE or self.is_false(it) for it in self.bad):
+                return False
+            self.add()
+        return True
+
+    # What is known
+
+    def add(self, *literals: int) -> None:
+        self.proof.write(" ".join(map(str, (*literals, 0))) + "\n")
+
+    def find(self, literal: int) -> int:
+        """The literal that a literal was shown to be."""
+        sign, variable = (1, literal) if literal > 0 else (-1, -literal)
+        known = self.to.get(variable)
+        while known is not None:
+            if known < 0:
+                sign, known = -sign, -known
+            variable = known
+            known = self.to.get(variable)
+        return sign * variable
+
+    def merge(self, variable: int, literal: int) -> None:
+        self.add(-variable, literal)
+        self.add(variable, -literal)
+        self.to[variable] = literal
+
+    def begin(self) -> None:
+        """Has all latches that are equal be one, which the constraints say, and gives each literal its patterns."""
+        # the gate of a bad state has the end of the chain of constraints, which stands behind all else, or 1
+        operands = self.gates[self.bad[0]]
+        self.held = -self.FALSE if -self.FALSE in operands else max(operands, key=abs)
+        if self.equalities:
+            self.add(self.held)
+        for one, other, opposite, later in self.equalities:
+            variable, literal = other + 2, (-1 if opposite else 1) * (one + 2 if one >= 0 else self.FALSE)
+            for sign in (1, -1) if later is not None else ():
+                self.add(-variable, literal, sign * (later + 2))
+                self.add(variable, -literal, sign * (later + 2))
+            self.merge(variable, literal)
+        self.simulate()
+
+    def simulate(self) -> None:
+        chance, ones = random.Random(1), (1 << self.WIDTH) - 1
+        values = [0] * (self.count + 1)
+        free = [it for it in range(2, self.count + 1) if it not in self.gates]
+        for variable in free:
+            values[variable] = chance.getrandbits(self.WIDTH)
+        self.ones, self.values = ones, values
+        for variable in free:
+            values[variable] = self.value(self.find(variable))
+        for variable, (left, right) in self.gates.items():
+            one = values[left] if left > 0 else values[-left] ^ ones
+            values[variable] = one & (values[right] if right > 0 else values[-right] ^ ones)
+        # patterns in which the constraints do not hold say nothing
+        self.mask = self.value(self.held)
+        self.lowest = self.mask & -self.mask
+        for variable in [self.FALSE, *free]:
+            if variable not in self.to:
+                self.lead(variable)
+
+    def value(self, literal: int) -> int:
+        return self.values[literal] if literal > 0 else self.values[-literal] ^ self.ones
+
+    def key_of_value(self, variable: int) -> Tuple[int, int]:
+        """The patterns of a variable, or of its negation, and which of both."""
+        value = self.values[variable] & self.mask
+        return (value ^ self.mask, 1) if value & self.lowest else (value, 0)
+
+    def key(self, variable: int) -> Tuple[int, int]:
+        left, right = map(self.find, self.gates[variable])
+        return (left, right) if left < right else (right, left)
+
+    def lead(self, variable: int) -> None:
+        """Takes it for different from all before."""
+        value, sign = self.key_of_value(variable)
+        self.leaders.setdefault(value, []).append((variable, sign))
+        if variable in self.gates:
+            self.known.setdefault(self.key(variable), variable)
+
+    def guesses(self, variable: int) -> List[int]:
+        """The literals that it may be equal to, the last ones first."""
+        value, sign = self.key_of_value(variable)
+        found = self.leaders.get(value, [])[-self.TRIES :]
+        return [other if its == sign else -other for other, its in reversed(found) if other != variable]
+
+    # What is shown
+
+    def sweep(self) -> bool:
+        """Goes through all gates on which the last clause depends, if time allows."""
+        waiting: List[Tuple[int, List[int]]] = []
+        cone = self.cone()
+        for at, variable in enumerate(self.gates):
+            if not cone[variable] or self.is_plain(variable):
+                continue
+            guesses = self.guesses(variable) if at >= self.first_gates else []
+            if guesses:
+                waiting.append((variable, guesses))
+            else:
+                self.lead(variable)
+            if len(waiting) == self.CHUNK:
+                if not self.show(waiting):
+                    return False
+                waiting = []
+        return self.show(waiting)
+
+    def cone(self) -> bytearray:
+        """A mark for each variable on which the last clause depends."""
+        needed, left = bytearray(self.count + 1), [abs(it) for it in self.bad]
+        while left:
+            variable = left.pop()
+            if not needed[variable]:
+                needed[variable] = 1
+                left += map(abs, self.gates.get(variable, ()))
+        return needed
+
+    def is_plain(self, variable: int) -> bool:
+        """Whether its operands say at once what it is."""
+        left, right = self.key(variable)
+        if left == -right or self.FALSE in (left, right):
+            self.merge(variable, self.FALSE)
+        elif left == right or left == -self.FALSE:
+            self.merge(variable, right)
+        elif right == -self.FALSE:
+            self.merge(variable, left)
+        elif (left, right) in self.known:
+            self.merge(variable, self.known[left, right])
+        else:
+            return False
+        return True
+
+    def show(self, waiting: List[Tuple[int, List[int]]]) -> bool:
+        """Shows what each of these is equal to, as far as that can be shown; whether the solver and time allow it."""
+        while waiting:
+            shown = self.ask([(variable, guesses[0]) for variable, guesses in waiting], self.DEPTH)
+            if shown is None:
+                return False
+            if shown == len(waiting):
+                break
+            (variable, guesses), waiting = waiting[shown], waiting[shown + 1 :]
+            if self.is_plain(variable):
+                continue
+            if len(guesses) > 1:
+                waiting.insert(0, (variable, guesses[1:]))
+            elif not any(self.ask([(variable, it)], 4 * self.DEPTH) for it in self.guesses(variable)[-3:]):
+                self.lead(variable)
+        return True
+
+    def is_false(self, variable: int) -> bool:
+        """Whether it is shown to be false, by all that it depends on."""
+        return bool(self.ask([(variable, self.FALSE)], self.count))
+
+    def ask(self, pairs: List[Tuple[int, int]], depth: int) -> Optional[int]:
+        """How many of these pairs the solver shows to be equal, up to the first that may differ in this depth. None if
+        it fails."""
+        window = Window(self, pairs, depth)
+        clauses = self.folder / "window.cnf"
+        clauses.write_text(window.text(), encoding="ascii")
+        left = self.end - time.monotonic()
+        if left <= 0:
+            return None
+        said, _ = self.solver.solve(clauses, left)
+        if said is Said.NOTHING:
+            return None
+        count = len(pairs) if said is Said.UNSATISFIABLE else window.differing(clauses.with_suffix(".answer"))
+        lemmas = window.lemmas(clauses.with_suffix(".drat"))
+        for lemma in lemmas:
+            self.add(*lemma)
+        for variable, literal in pairs[:count]:
+            self.merge(variable, literal)
+        for lemma in lemmas:
+            if len(lemma) > 2:
+                self.proof.write("d ")
+                self.add(*lemma)
+        return count
+
+
+class Window:
+    """What some pairs depend on, up to a depth, as clauses over numbers of its own, with cubes that ask for a
+    difference of each (iCNF)."""
+
+    def __init__(self, sweep: Sweep, pairs: List[Tuple[int, int]], depth: int) -> None:
+        self.sweep, self.numbers, self.variables = sweep, {}, [0]
+        self.lines, self.cubes = ["p inccnf", f"{-self.number(Sweep.FALSE)} 0"], []
+        ends = [(variable, sweep.find(literal)) for variable, literal in pairs]
+        layer, done = [abs(it) for pair in ends for it in pair], {Sweep.FALSE}
+        for _ in range(depth):
+            layer = self.gates_of(layer, done)
+            if not layer:
+                break
+        for variable, literal in ends:
+            one, other = self.number(variable), self.number(literal)
+            self.cubes += [(one, -other), (-one, other)]
+
+    def number(self, literal: int) -> int:
+        variable = abs(literal)
+        if variable not in self.numbers:
+            self.numbers[variable] = len(self.variables)
+            self.variables.append(variable)
+        return self.numbers[variable] if literal > 0 else -self.numbers[variable]
+
+    def gates_of(self, layer: List[int], done: Set[int]) -> List[int]:
+        """The clauses of these gates, and what they depend on."""
+        below = []
+        for variable in layer:
+            if variable in self.sweep.gates and variable not in done:
+                left, right = map(self.sweep.find, self.sweep.gates[variable])
+                own, one, other = self.number(variable), self.number(left), self.number(right)
+                self.lines.append(f"{-own} {one} 0\n{-own} {other} 0\n{own} {-one} {-other} 0")
+                below += [abs(left), abs(right)]
+            done.add(variable)
+        return below
+
+    def text(self) -> str:
+        return "\n".join([*self.lines, *(f"a {one} {other} 0" for one, other in self.cubes), ""])
+
+    def differing(self, answer: Path) -> int:
+        """The first pair that differs by the solver's answer."""
+        lines = re.findall(rb"(?m)^v([-0-9 ]*)$", bytes_of(answer))
+        true = {int(it) for line in lines for it in re.findall(rb"-?[0-9]+", line)}
+        return next((at for at, cube in enumerate(self.cubes) if true.issuperset(cube)), 0) // 2
+
+    def lemmas(self, refutation: Path) -> List[List[int]]:
+        """What the solver learnt, over the variables of the whole. What it deletes is kept until all is used."""
+        found = []
+        for line in binary_lemmas(bytes_of(refutation)):
+            if all(abs(it) < len(self.variables) for it in line):
+                found.append([self.variables[it] if it > 0 else -self.variables[-it] for it in line])
+        return [lemma for lemma in found if lemma]
+
+
+def bytes_of(path: Path) -> bytes:
+    """What a program has written there, if it is a file."""
+    try:
+        return path.read_bytes()
+    except OSError:
+        return b""
+
+
+def binary_lemmas(data: bytes) -> Iterator[List[int]]:
+    """The clauses that a binary refutation adds."""
+    literals: List[int] = []
+    value = shift = 0
+    kind = 0
+    for byte in data:
+        if not kind:
+            kind = byte
+        elif byte & 128:
+            value, shift = value | (byte & 127) << shift, shift + 7
+        elif byte or shift:
+            value |= byte << shift
+            literals.append(-(value >> 1) if value & 1 else value >> 1)
+            value = shift = 0
+        else:
+            if kind == ord("a"):
+                yield literals
+            literals, kind = [], 0
 
 
 class Together(Search):
     """Asks of all bad states of a miter at once whether none is reached: what two designs have in common is then gone
     through once, and not for each pair again."""
 
-    LONGEST = 60.0
+    #: how long a solver is asked whose refutations are not put together here
+    LONG = 60.0
 
     def __init__(self, sides: Sides, model: Model, tools: Tools, folder: Path, progress: "Progress") -> None:
         super().__init__(Assertion("all", "together", 0), model, tools, folder, progress)
         self.whole, self.sides = Target(model.path, None), sides
-        self.left = min(self.left, self.LONGEST)
 
     def verdict(self) -> Optional[Verdict]:
         """That none is; else the rows are kept for the single ones, if they are an invariant."""
         self.folder.mkdir()
-        if not self.tools.solver or not self.tools.solver.refutes:
+        solver = self.tools.solver
+        if not solver or not solver.refutes:
             return None
         self.progress.tell(self.assertion, "invariant")
-        self.rows = Alike(self.model, self.sides).rows()
-        verdict = self.by_invariant(self.rows)
+        alike = Alike(self.model, self.sides, self.tools)
+        alike.find()
+        self.rows = alike.rows()
+        if solver.kind == "cadical":
+            self.halves = len(self.sides.first.circuit.gates), alike.equalities()
+            verdict = self.by_gates(self.rows)
+        else:
+            self.left = min(self.left, self.LONG)
+            verdict = self.by_invariant(self.rows)
         if verdict:
             verdict.of_all = True
         elif self.rows and not self.are_kept():
@@ -1181,37 +1597,6 @@ class Together(Search):
         path.write_bytes(aigtools().Circuit(bad=[0], **parts).write())
         options = ("--invariant", self.folder / "never.pla")
         return self.ask(Target(path, None), "rows", "an invariant", *options) is Said.UNSATISFIABLE
-
-
-def aiger_failure(told: Finished) -> str:
-    """Why aiger gave no answer."""
-    if told.late:
-        return f"aiger gave no answer in {told.seconds:.0f} s"
-    words = told.errors.strip().splitlines()
-    return words[-1] if words else f"aiger ended with status {told.status}"
-
-
-class Progress:
-    """Which assertion is looked at, and how: on standard error, where that is a terminal."""
-
-    def __init__(self, shown: bool) -> None:
-        self.shown, self.lock, self.begun, self.width = shown, threading.Lock(), time.monotonic(), 0
-
-    def tell(self, assertion: Assertion, what: str) -> None:
-        if self.shown:
-            self.put(f"{assertion}: {what}, {time.monotonic() - self.begun:.0f} s")
-
-    def put(self, line: str) -> None:
-        with self.lock:
-            line = line[: shutil.get_terminal_size().columns - 1]
-            sys.stderr.write("\r" + line.ljust(self.width))
-            sys.stderr.flush()
-            self.width = len(line)
-
-    def clear(self) -> None:
-        if self.width:
-            self.put("")
-            self.put("")
 
 
 # ---------------------------------------------------------------- Yosys
@@ -1705,7 +2090,7 @@ class Ports(Front):
                 if symbol in symbols:
                     raise Trouble(f"{visible(self.called)}: which {direction} is {visible(symbol)} cannot be told")
                 symbols[symbol] = name
-        found = {it.position: it.name.decode(errors="surrogateescape") for it in self.circuit.symbols if it.kind == kind}
+        found = named_by_symbols(self.circuit, kind)
         names = [symbols.get(found[at], "") if at in found else "" for at in range(len(literals))]
         if sorted(filter(None, names)) != sorted(symbols.values()) or len(found) != len(symbols):
             raise Trouble(f"{visible(self.called)}: which {direction} is which cannot be told")
@@ -1727,7 +2112,7 @@ class Ports(Front):
 
     def unset(self) -> List[Tuple[int, Set[str]]]:
         """The latches without initial value, each with its names."""
-        names = {it.position: it.name.decode(errors="surrogateescape") for it in self.circuit.symbols if it.kind == "l"}
+        names = named_by_symbols(self.circuit, "l")
         latches = enumerate(self.circuit.latches)
         return [(at, set(names.get(at, "").split())) for at, latch in latches if latch.reset > 1]
 
@@ -1737,10 +2122,8 @@ class Ports(Front):
         circuit, own, asserted = self.circuit, dict(zip(self.inputs, self.circuit.inputs)), dict(self.asserted)
         free = self.undriven()
         spare = [2 * (circuit.max_var + 1 + at) for at in range(undriven - len(free))]
-        compared, order = dict(zip(self.outputs, circuit.outputs)), start + [
-            at for at in range(len(circuit.latches)) if at not in set(start)
-        ]
-        latches = list(circuit.latches)
+        compared, latches, first = dict(zip(self.outputs, circuit.outputs)), list(circuit.latches), set(start)
+        order = start + [at for at in range(len(latches)) if at not in first]
         symbols = [("i", at, name) for at, name in enumerate([*inputs, *(f"undriven {at}" for at in range(undriven))])]
         symbols += [("o", at, name) for at, name in enumerate(outputs)]
         symbols += [("b", at, f"assertion {name}") for at, name in enumerate(bad)]
@@ -2220,7 +2603,7 @@ class Run:
         together = Together(self.sides, model, tools, self.folder / TOGETHER, self.progress)
         self.of_all = together.verdict()
         for search in searches:
-            search.rows = together.rows
+            search.rows, search.halves = together.rows, together.halves
 
     def answer(self, search: Search) -> Verdict:
         """The answer for an assertion; a counterexample is replayed."""
@@ -2384,7 +2767,7 @@ class Run:
         if not circuit.bad:
             hint = "; of its outputs aiger aigtoaig --outputs-as-bad makes some" if circuit.outputs else ""
             self.must_say(f"{visible(name)}: there is no bad state{hint}")
-        names = {it.position: it.name.decode(errors="surrogateescape") for it in circuit.symbols if it.kind == "b"}
+        names = named_by_symbols(circuit, "b")
         return Model(path), [Assertion(names.get(at, f"b{at}"), name, at) for at in range(len(circuit.bad))]
 
     def must_say(self, words: str) -> None:
@@ -2401,14 +2784,15 @@ class Run:
         path.write_bytes(aigtools().Circuit(bad=[1], **parts).write())
         told = tools.aiger.run("aigunroll", "--frames", 1, "--cnf", path, clauses, folder=self.folder)
         if told.status == 0 and tools.solver.solve(clauses, tools.limits.time)[0] is Said.UNSATISFIABLE:
-            self.note("the assumptions contradict one another in the first step, so no run breaks anything")
+            nothing = "shows a difference" if self.given.equal else "breaks anything"
+            self.note(f"the assumptions contradict one another in the first step, so no run {nothing}")
 
     def records(self) -> Dict[str, List[Dict[str, Any]]]:
         """What --json says."""
         if not self.given.equal:
             return {"assertions": [{**self.record(*it, source=it[0].place)} for it in self.verdicts]}
-        kinds = {"pairs": Pair, "assumptions": Assumption}
-        return {name: [self.record(*it) for it in self.verdicts if isinstance(it[0], kind)] for name, kind in kinds.items()}
+        pairs, assumed = ([it for it in self.verdicts if isinstance(it[0], kind)] for kind in (Pair, Assumption))
+        return {"pairs": [self.record(*it) for it in pairs], "assumptions": [self.record(*it) for it in assumed]}
 
     def record(self, assertion: Assertion, verdict: Verdict, **more: Any) -> Dict[str, Any]:
         told = {"name": assertion.name, **more, "answer": assertion.called(verdict.answer)}
@@ -2434,8 +2818,8 @@ class Run:
 
 
 def in_order_of(first: Side, second: Side) -> Side:
-    """The second with inputs and what is compared in the order in which the first one names them; as it is where names do
-    not fit, since aiger says why."""
+    """The second with inputs and what is compared in the order in which the first one names them. Where names do not
+    fit it stays as it is, since aiger says why."""
     circuit, outputs = second.circuit, len(first.circuit.outputs)
     named, literals = second.symbols_compared(), [*circuit.outputs, *circuit.bad]
     inputs = places_by_name(first.symbols("i"), second.symbols("i"), len(circuit.inputs))

@@ -1,7 +1,7 @@
 #!/usr/bin/env python3
 """aiger-check: what it says of designs, beside Yosys's own `sat` and ABC; of models made by chance, beside all their
-states; whether two designs are equal; and that no tool that lies, fails, sleeps or is missing, no full disk and no interrupt gives a wrong line or
-leaves anything.
+states; whether two designs are equal; and that no tool that lies, fails, sleeps or is missing, no full disk and no
+interrupt gives a wrong line or leaves anything.
 
     tests/run/check.py PROGRAM [NAME]         all rows, or those that have this in their names
     tests/run/check.py PROGRAM --part K N     every Nth row from number K on

@@ -136,7 +136,7 @@ def judge_kept(room, kept, found, said):
     shown = [it for it in found if it.answer in ("never", "none within")]
     checked.need(len(scripts) == len(shown), f"{names} for {len(shown)} certificates", said)
     for script in scripts:
-        checked.need(checked.succeeds(str(script), room, room.folder), f"{script.name} fails: {script.read_text()}", said)
+        checked.need(checked.succeeds(str(script), room, room.folder), f"{script.name} fails", said)
     for changed in (first, second) if scripts else ():
         data = changed.read_bytes()
         changed.write_bytes(b"aag 0 0 0 1 0\n0\n")
@@ -160,11 +160,15 @@ PAIRS = {
     "other numbers": (AND, EXCHANGED, [("o0", None)]),
     "names": (NAMED, EXCHANGED, [("both", None)]),
     "an operand negated": (NAMED, AND.replace("6 4 2\n", "6 4 3\n"), [("both", 0)]),
-    "De Morgan": (
-        "aag 5 2 0 1 3\n2\n4\n10\n6 4 3\n8 5 2\n10 9 7\n", "aag 5 2 0 1 3\n2\n4\n11\n6 4 2\n8 5 3\n10 9 7\n", [("o0", None)],
+    "equivalence in two ways": (
+        "aag 5 2 0 1 3\n2\n4\n10\n6 4 3\n8 5 2\n10 9 7\n",
+        "aag 5 2 0 1 3\n2\n4\n11\n6 4 2\n8 5 3\n10 9 7\n",
+        [("o0", None)],
     ),
     "exclusive or in two ways": (
-        "aag 5 2 0 1 3\n2\n4\n11\n6 4 3\n8 5 2\n10 9 7\n", "aag 5 2 0 1 3\n2\n4\n10\n6 4 2\n8 5 3\n10 9 7\n", [("o0", None)],
+        "aag 5 2 0 1 3\n2\n4\n11\n6 4 3\n8 5 2\n10 9 7\n",
+        "aag 5 2 0 1 3\n2\n4\n10\n6 4 2\n8 5 3\n10 9 7\n",
+        [("o0", None)],
     ),
     "outputs and bad states": (
         "aag 2 2 0 1 0 1\n2\n4\n2\n4\nb0 broken\n", "aag 2 2 0 2 0\n2\n4\n2\n5\n", [("o0", None), ("broken", 0)],
@@ -272,7 +276,7 @@ NOT_BY_NAME = {
     "one name twice": (STRAIGHT, TURNED.replace("o1 some", "o1 no"), ["new: output 1: name given twice"]),
     "one twice in the first": (STRAIGHT.replace("b0 no", "b0 some"), TURNED, ["old: bad state 0: name given twice"]),
     "another name": (STRAIGHT, TURNED.replace("i1 x", "i1 z"), ["new: input 1: no such name in the other file"]),
-    "another output": (STRAIGHT, TURNED.replace("o1 some", "o1 any"), ["new: output 1: no such name in the other file"]),
+    "another output": (STRAIGHT, TURNED.replace("o1 some", "o1 any"), ["new: output 1: no such name in the other"]),
 }
 
 # ---------------------------------------------------------------- what is refused
@@ -468,7 +472,8 @@ def others_named(room):
 
 SHORTER = {
     "dc2": "strash; dc2",
-    "resyn2": "strash; balance; rewrite; refactor; balance; rewrite; rewrite -z; balance; refactor -z; rewrite -z; balance",
+    "resyn2": "strash; balance; rewrite; refactor; balance; rewrite; rewrite -z; balance; refactor -z; rewrite -z; "
+    "balance",
     "scorr": "strash; scorr",
     "retime": "strash; retime -M 1; strash",
 }
@@ -533,11 +538,113 @@ def differs_in(room, it):
     said = room.run("--equal", "--frames", "10", "--time", "5", "--keep", "kept", "old", "new")
     found = next(other for other in of_lines(said, 10) if other.name == it.name)
     stimulus = (room.here / found.witness).with_suffix(".stimulus")
-    lines = [ask(room, "aigsim", "--properties", room.here / name, stimulus).stdout.decode().split("\n") for name in ("old", "new")]
+    ran = [ask(room, "aigsim", "--properties", room.here / name, stimulus) for name in ("old", "new")]
+    lines = [it.stdout.decode().split("\n") for it in ran]
     place = int(it.name[1:])
     seen = [["".join(line.split(" ")[2:5:2])[place] for line in its[: found.steps + 1]] for its in lines]
     return seen[0][:-1] == seen[1][:-1] and seen[0][-1] != seen[1][-1]
 
+
+# ---------------------------------------------------------------- gate by gate
+
+
+def multiplier(bits):
+    """A multiplier of two numbers, which a solver alone does not compare with another one in time."""
+    gates, spare = [], itertools.count(2 * bits + 1)
+
+    def both(left, right):
+        if 0 in (left, right):
+            return 0
+        own = 2 * next(spare)
+        gates.append((own, left, right))
+        return own
+
+    def either(left, right):
+        return both(left ^ 1, right ^ 1) ^ 1
+
+    def added(left, right, carry):
+        one = either(both(left, right ^ 1), both(left ^ 1, right))
+        total = either(both(one, carry ^ 1), both(one ^ 1, carry))
+        return total, either(both(left, right), both(one, carry))
+
+    left, right = ([2 * it for it in range(1 + first, 1 + first + bits)] for first in (0, bits))
+    line, outputs = [both(left[0], it) for it in right] + [0], []
+    for factor in left[1:]:
+        outputs.append(line[0])
+        carry, following = 0, []
+        for one, other in zip(line[1:], [both(factor, it) for it in right]):
+            total, carry = added(one, other, carry)
+            following.append(total)
+        line = [*following, carry]
+    largest = next(spare) - 1
+    return images.Circuit(
+        largest=largest, inputs=list(range(1, 2 * bits + 1)), latches=[], nexts=[], resets=[],
+        outputs=[*outputs, *line], bad=[], constraints=[], justice=[], fairness=[], gates=gates, symbols="",
+        comment=None,
+    )
+
+
+BITS = 11
+
+
+def put_multipliers(room, commands, bits=BITS):
+    """A multiplier, and what ABC makes of it."""
+    design_rows.need_tools("berkeley-abc", "cadical")
+    put(room, model_rows.binary(room, images.ascii_text(multiplier(bits)).decode()), AND)
+    commands = f"read_aiger {room.here / 'old'}; {commands}; write_aiger {room.folder / 'new.aig'}"
+    subprocess.run(["berkeley-abc", "-q", commands], check=True, capture_output=True)
+
+
+def by_gates(commands, room):
+    """What one solver's call does not decide is shown from the inputs on, and kept once."""
+    put_multipliers(room, commands)
+    shutil.copy(room.folder / "new.aig", room.here / "new")
+    room.may_write.add("kept")
+    said = room.run("--equal", "--limit", "100", "--keep", "kept", "old", "new")
+    found = judge(said, [(f"o{it}", None) for it in range(2 * BITS)])
+    kept = room.here / "kept"
+    checked.need(len(list(kept.glob("*.drat"))) == 1, f"kept {sorted(os.listdir(kept))}", said)
+    for script in sorted(kept.glob("*.check.sh"))[: len(found) : 7]:
+        checked.need(checked.succeeds(str(script), room, room.folder), f"{script.name} fails", said)
+
+
+def by_gates_changed(room):
+    """With a gate changed near the inputs there are differences, and each is so."""
+    put_multipliers(room, "strash; dc2")
+    changed_gate(room, random.Random(3))
+    shutil.copy(room.folder / "new.aig", room.here / "new")
+    said = room.run("--equal", "--limit", "20", "old", "new")
+    bad = [it for it in of_lines(said, checked.FRAMES) if it.answer == "reached"]
+    checked.need(bad and said.status == 1, "no difference", said)
+    checked.need(all(it.steps == 0 for it in bad) and differs_in(room, bad[0]), f"{bad[0]} is not so", said)
+
+
+def lying_by_gates(body, room):
+    """A solver that does not decide, and lies where it is asked gate by gate: no output that differs is equal."""
+    put_multipliers(room, "strash; dc2", 4)
+    changed_gate(room, random.Random(3))
+    shutil.copy(room.folder / "new.aig", room.here / "new")
+    steps = "".join(f"{it:08b}\n" for it in range(256))
+    (room.folder / "steps").write_text(steps, encoding="ascii")
+    ran = [ask(room, "aigsim", room.here / name, room.folder / "steps") for name in ("old", "new")]
+    outputs = [[line.split(" ")[2] for line in it.stdout.decode().split("\n")[:256]] for it in ran]
+    differ = {f"o{at}" for one, other in zip(*outputs) for at in range(8) if one[at] != other[at]}
+    body = f'{stand_ins.FILES}grep -q inccnf "$clauses" || exec sleep 100\n{body}'
+    changes = {"SOLVER": stand_ins.put(room.folder / "lies", "cadical", body), "ABC": "false"}
+    said = room.run("--equal", "--limit", "0.5", "--jobs", "8", "old", "new", changes=changes)
+    found = judge(said, [(f"o{it}", 0 if f"o{it}" in differ else None) for it in range(8)], checked.SAFE)
+    checked.need(differ and any(it.answer == "unknown" for it in found), "it was not lied to", said)
+
+
+GATE_LIES = {
+    "no refutation": stand_ins.UNSAT,
+    "an empty refutation": f': > "$refutation"; {stand_ins.UNSAT}',
+    "any bytes": f'head -c 3000 /dev/urandom > "$refutation"; {stand_ins.UNSAT}',
+    "a folder": f'rm -rf "$refutation"; mkdir "$refutation"; {stand_ins.UNSAT}',
+    "wrong values": f"{stand_ins.SAT}; echo 'v 1 -2 99999999 x 0'; exit 10",
+    "no values": f"{stand_ins.SAT}; exit 10",
+    "that it failed": "exit 1",
+}
 
 # ---------------------------------------------------------------- Verilog
 
@@ -596,7 +703,9 @@ DESIGNS = {
         (STARTED, OTHER_COUNTER.replace("left <= 15", "left <= 14")), [],
         [("count[0]", 1), ("count[1]", 2), ("count[2]", 4), ("count[3]", 8), ("full", 15)],
     ),
-    "a counter without initial values": ((COUNTER, COUNTER.replace("count + 1", "1 + count")), [], [(it, None) for it in NAMES]),
+    "a counter without initial values": (
+        (COUNTER, COUNTER.replace("count + 1", "1 + count")), [], [(it, None) for it in NAMES],
+    ),
     "assumptions": (
         (ASSUMED % "a ^ b", ASSUMED % "a | b"), [],
         [("o", None), ("assertion kept", None), ("assertion here", None), ("assumption both of new.sv", None)],
@@ -830,6 +939,11 @@ def rows():
     for at, which in enumerate(SHORTER):
         yield f"equal: {which} of ABC", each(by_abc, which, at, False)
         yield f"equal: {which} of ABC, changed", each(by_abc, which, at, True)
+    yield "equal: gate by gate, dc2", each(by_gates, SHORTER["dc2"])
+    yield "equal: gate by gate, resyn2", each(by_gates, SHORTER["resyn2"])
+    yield "equal: gate by gate, changed", by_gates_changed
+    for called, body in GATE_LIES.items():
+        yield f"equal: gate by gate, the solver gives {called}", each(lying_by_gates, body)
     for which in DESIGNS:
         yield f"equal designs: {which}", each(of_design, which)
     for called, of in PORTS.items():

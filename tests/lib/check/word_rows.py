@@ -53,7 +53,8 @@ def usage(words, patterns, room):
     checked.refused(room.run(*words, changes=model_rows.honest(room)), *patterns)
 
 
-OPTIONS = "--top -D -I --frames --time --limit --jobs --solver -s --keep --json --quiet --help --version"
+OPTIONS = "--equal --by-name --top -D -I --frames --time --limit --jobs --solver -s --keep --json --quiet --help "
+OPTIONS += "--version"
 VARIABLES = "AIGER YOSYS ABC SOLVER"
 
 
