@@ -24,25 +24,32 @@ module _ {V : Type 0} (items : V → List ℕ) (options max_var : ℕ) (one : Li
   miter_answered (Ok v) comes why placed kept =
       let (first, is_first, then) = makes in
       let request = comparison options max_var in
-      inl (inr (can, inl (record {
-        text = items v;
-        is_text = record {
-          first = first;
-          is_first = is_first;
-          is_text = miter_text inputs request first (items v) (subst (λ j. Comes inputs j (Ok (items v))) then comes);
-        };
-        placed = placed;
-      })))
+      inl (inr (
+        can,
+        inl (record {
+          text = items v;
+          is_text = record {
+            first = first;
+            is_first = is_first;
+            is_text = miter_text inputs request first (items v) (subst (λ j. Comes inputs j (Ok (items v))) then comes);
+          };
+          placed = placed;
+        }),
+      ))
   miter_answered (Err (stops.Refused fault)) comes why placed kept =
       let (first, is_first, then) = makes in
       let request = comparison options max_var in
-      inr (can, kept.0, record {
-        first = first;
-        fault = fault;
-        is_first = is_first;
-        is_fault = miter_refused inputs request first fault (subst (λ j. Comes inputs j (Err fault)) then why);
-        told = kept.1;
-      })
+      inr (
+        can,
+        kept.0,
+        record {
+          first = first;
+          fault = fault;
+          is_first = is_first;
+          is_fault = miter_refused inputs request first fault (subst (λ j. Comes inputs j (Err fault)) then why);
+          told = kept.1;
+        },
+      )
   miter_answered (Err stops.OutOfMemory) comes why placed kept = inl (inr (can, inr (kept.0, inr kept.1)))
   miter_answered (Err stops.ReadFailed) comes why placed kept = inl (inr (can, inr (kept.0, inr kept.1)))
   miter_answered (Err stops.WriteFailed) comes why placed kept = inl (inr (can, inr (kept.0, inr kept.1)))
