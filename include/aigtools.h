@@ -33,7 +33,7 @@ extern "C" {
 #endif
 
 /* The version of this header, as aigtools_version tells that of the library: a byte each for major, minor and patch. */
-#define AIGTOOLS_VERSION 0x010200u
+#define AIGTOOLS_VERSION 0x010300u
 
 /* The largest `max_var`: a file with a larger index, or with more of a kind, is refused with AIGTOOLS_TOO_LARGE. */
 #define AIGTOOLS_LARGEST 2147483647u
@@ -51,23 +51,25 @@ enum aigtools_status {
                                    refutation shows nothing: see kind, place, number and subject */
     AIGTOOLS_OUT_OF_MEMORY = 3, /* memory was refused; nothing is said of the input */
     AIGTOOLS_BAD_OPTIONS = 4,   /* options exclude each other or are not known, or a number is out of its range */
-    AIGTOOLS_NOT_CONFIRMED = 5  /* the witness file is right, and the model does not do what it claims: its waveform
+    AIGTOOLS_NOT_CONFIRMED = 5, /* the witness file is right, and the model does not do what it claims: its waveform
                                    was written, if one was asked for */
+    AIGTOOLS_SECOND_REFUSED = 6 /* aigtools_miter: as AIGTOOLS_REFUSED, of the second circuit */
 };
 
 /* Options, a bit each. */
 enum aigtools_option {
-    AIGTOOLS_ASCII = 1,     /* convert, unroll, write: write ASCII, and not binary */
+    AIGTOOLS_ASCII = 1,     /* convert, unroll, miter, write: write ASCII, and not binary */
     AIGTOOLS_STRIP = 2,     /* convert: leave out symbols and comment */
     AIGTOOLS_KEEP_MAP = 4,  /* convert: begin the comment with a map that undoes the conversion; with no other option */
     AIGTOOLS_UNDO_MAP = 8,  /* convert: undo a conversion by the map of its image */
     AIGTOOLS_PROPERTIES = 16, /* simulate: show bad states and constraints too */
     AIGTOOLS_VCD = 32,      /* simulate: write the trace as a waveform, with them; without AIGTOOLS_PROPERTIES */
     AIGTOOLS_OUTPUTS_AS_BAD = 64, /* convert: write outputs as bad states; with no map */
-    AIGTOOLS_ORDERED = 128  /* read: the circuit as a binary file has it, and how its variables are numbered there */
+    AIGTOOLS_ORDERED = 128, /* read: the circuit as a binary file has it, and how its variables are numbered there */
+    AIGTOOLS_BY_NAME = 256  /* miter: pair inputs, outputs and bad states by their symbols */
 };
 
-/* What is wrong, where the status is AIGTOOLS_REFUSED. */
+/* What is wrong, where the status is AIGTOOLS_REFUSED or AIGTOOLS_SECOND_REFUSED. */
 enum aigtools_kind {
     AIGTOOLS_NO_FAULT = 0,
     AIGTOOLS_NOT_AIGER = 1,           /* the first word is neither aag nor aig */
@@ -109,7 +111,14 @@ enum aigtools_kind {
     AIGTOOLS_MET_AT_START = 37,       /* so is this line, whose cube a first state may meet */
     AIGTOOLS_TOO_LARGE_INVARIANT = 38, /* the model and the invariant together have too many gates or cubes */
     AIGTOOLS_BAD_COUNTS = 39,         /* the counts are out of range, or not those of these words, bytes and names */
-    AIGTOOLS_BAD_VALUE = 40           /* a value is neither 0, 1 nor 2 */
+    AIGTOOLS_BAD_VALUE = 40,          /* a value is neither 0, 1 nor 2 */
+    AIGTOOLS_NOT_COMPARABLE = 41,     /* justice or fairness cannot be compared */
+    AIGTOOLS_OTHER_INPUTS = 42,       /* the circuits have not as many inputs */
+    AIGTOOLS_OTHER_OUTPUTS = 43,      /* they have not as many outputs and bad states */
+    AIGTOOLS_TOO_LARGE_TO_COMPARE = 44,
+    AIGTOOLS_NO_NAME = 45,            /* an input, an output or a bad state has no symbol */
+    AIGTOOLS_NAME_TWICE = 46,         /* it has the name of one before it */
+    AIGTOOLS_NO_SUCH_NAME = 47        /* nothing of the first circuit has its name */
 };
 
 /* Where it is wrong. */
@@ -119,7 +128,10 @@ enum aigtools_place {
     AIGTOOLS_GATE = 2,    /* outcome.number is a gate of a binary file, whose gates stand in no line */
     AIGTOOLS_MAP_LINE = 3, /* outcome.number is a line of the map */
     AIGTOOLS_WORD = 4,    /* outcome.number is the first word of the entry */
-    AIGTOOLS_VALUE = 5    /* outcome.number is the value of an input or a latch: that of variable 1 is value 1 */
+    AIGTOOLS_VALUE = 5,   /* outcome.number is the value of an input or a latch: that of variable 1 is value 1 */
+    AIGTOOLS_INPUT = 6,   /* outcome.number is an input, counted from 0 */
+    AIGTOOLS_OUTPUT = 7,  /* outcome.number is an output, counted from 0 */
+    AIGTOOLS_BAD = 8      /* outcome.number is a bad state, counted from 0 */
 };
 
 /* What came of a call. A field that says nothing is 0. */
@@ -128,7 +140,8 @@ typedef struct aigtools_outcome {
     uint32_t kind;    /* enum aigtools_kind */
     uint32_t place;   /* enum aigtools_place */
     uint32_t subject; /* the variable, the literal or the bad state that the fault names */
-    uint64_t number;  /* the line, the gate, the word or the value; or the step at which a witness is confirmed */
+    uint64_t number;  /* the line, the gate, the word, the value, the input, the output or the bad state; or the step at
+                         which a witness is confirmed */
     uint64_t length;  /* how long the text is, where it was written or has no room; so also the words or the values */
 } aigtools_outcome;
 
@@ -217,6 +230,21 @@ uint32_t aigtools_invariant_clauses(uint32_t bad, uint32_t max_var, const uint8_
 uint32_t aigtools_never(uint32_t bad, uint32_t max_var, const uint8_t *model, size_t model_length,
                         const uint8_t *invariant, size_t invariant_length,
                         const uint8_t *refutation, size_t refutation_length, aigtools_outcome *outcome);
+
+/*
+ * Makes one circuit of those of two AIGER files, their miter, as `aiger aigmiter`: it has the inputs of the first, and
+ * its bad states say where the two differ. Where aigtools_refute finds none of them within K steps, the two are equal
+ * for K steps; where aigtools_never finds none, at every step.
+ *
+ *     size_t room = 2 * (first_length + second_length) + 64;
+ *     uint8_t *miter = malloc(room);
+ *     if (aigtools_miter(0, AIGTOOLS_LARGEST, first, first_length, second, second_length,
+ *                        miter, room, &outcome) == AIGTOOLS_DONE)
+ *         fwrite(miter, 1, outcome.length, stdout);
+ */
+uint32_t aigtools_miter(uint32_t options, uint32_t max_var, const uint8_t *first, size_t first_length,
+                        const uint8_t *second, size_t second_length,
+                        uint8_t *output, size_t output_length, aigtools_outcome *outcome);
 
 /*
  * Simulates the circuit of an AIGER file over a stimulus, as `aiger aigsim --batch`. The text is the trace, or, with
@@ -331,7 +359,7 @@ uint32_t aigtools_step(const aigtools_counts *counts, const uint32_t *words, siz
 /*
  * Puts the words for an outcome into the output, as the program reports it, without a file's name or a line feed:
  * "line 3: bad line". Returns how many bytes they have, at most 80; with less room nothing is written. It is 0 where
- * the status tells of no fault. This call takes no memory.
+ * the status tells of no fault. For AIGTOOLS_SECOND_REFUSED set it to AIGTOOLS_REFUSED before. This call takes no memory.
  */
 size_t aigtools_message(const aigtools_outcome *outcome, uint8_t *output, size_t output_length);
 

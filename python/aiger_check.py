@@ -1,9 +1,11 @@
 #!/usr/bin/env python3
-"""aiger-check: from Verilog, or from an AIGER model, to an answer for each assertion.
+"""aiger-check: from Verilog, or from an AIGER model, to an answer for each assertion; and of two of these whether they
+are equal.
 
 Yosys writes the design as an AIGER model. For each assertion ABC looks for an invariant, and a SAT solver for a run
 that breaks it. What they say is not believed: each answer that is printed is one that the program ``aiger`` gave of
-the model, by a witness, a refutation or an invariant.
+the model, by a witness, a refutation or an invariant. For two designs the model is their miter, which ``aiger`` makes:
+its bad states say where they differ.
 """
 
 import argparse
@@ -15,6 +17,7 @@ import hashlib
 import importlib
 import json
 import os
+import random
 import re
 import secrets
 import shutil
@@ -26,21 +29,29 @@ import threading
 import time
 from array import array
 from concurrent.futures import Future, ThreadPoolExecutor, wait
-from dataclasses import dataclass
+from dataclasses import dataclass, replace
 from pathlib import Path
 from typing import Any, Dict, Iterable, Iterator, List, NamedTuple, Optional, Sequence, Set, Tuple
 
-VERSION = "1.2.0"
+VERSION = "1.3.0"
 PROGRAM = "aiger-check"
 
 HELP = """\
-Check each assertion of a design: is it kept for ever, for some steps, or broken?
+Check each assertion of a design: is it kept for ever, for some steps, or
+broken? Or compare two designs: are their outputs equal?
 
 Usage: aiger-check [OPTION].. --top NAME FILE.sv..    Verilog or SystemVerilog
        aiger-check [OPTION].. MODEL                   an AIGER file
+       aiger-check --equal [OPTION].. OLD NEW         two of either kind
 
 Options:
-      --top <NAME>         The top module of the Verilog files
+      --equal              Compare two designs. Each is one file; several of
+                           Verilog have commas between
+      --by-name            Pair two AIGER files by their symbols, and not by
+                           their places
+      --top <NAME>         The top module of the Verilog files; with --equal
+                           twice if that of NEW has another name. Of one file
+                           with --top twice the two modules are compared
   -D <NAME[=VALUE]>        Define a macro; may be given many times
   -I <DIR>                 Look for included files there; many times too
       --frames <K>         Search runs of at most K steps (default: 50)
@@ -67,6 +78,18 @@ The answer for an assertion is one of these.
 
 The assertions of an AIGER file are its bad states, by symbol, or as b0, b1, ..
 
+With --equal a pair of outputs, or of bad states, has one of these answers.
+  equal               in every step, while the assumptions of OLD are kept
+  equal for K steps   in the first K steps of each run
+  differs at N        not in step N of a run, the least, counted from 0; with
+                      --keep its stimulus is there
+  unknown             neither was shown; the reason follows
+A line for each assumption of NEW follows: that OLD keeps it holds, holds for K
+steps, fails at N or is unknown.
+
+Verilog designs need the same inputs and outputs, which are paired by name; so
+are assertions that both have. Registers without initial value start alike.
+
 What is trusted: that Yosys translates the Verilog as it is meant is not proved.
 All behind it is: each answer is one that aiger, a proved program, gave of the
 model that Yosys wrote. What ABC and the solver say is checked.
@@ -85,16 +108,18 @@ The variables AIGER, YOSYS, ABC and SOLVER name other programs than aiger,
 yosys, berkeley-abc and cadical.
 
 Exit status:
-  0  each answer is never or none within K
-  1  an assertion is broken: reached at N
-  2  anything else: an answer is unknown, there is no assertion, a tool or a
-     file is missing, or the command line was refused
+  0  each answer is never or none within K; equal, equal for K steps, holds
+  1  an assertion is broken: reached at N; a pair differs; an assumption fails
+  2  anything else: an answer is unknown, there is no assertion or pair, a tool
+     or a file is missing, or the command line was refused
   130, 143  ended by an interrupt, or by a signal to end
 
 Examples:
   aiger-check --top queue queue.sv arbiter.sv
   aiger-check --top queue -D DEPTH=8 -I include --keep out queue.sv
   aiger-check --frames 100 model.aig
+  aiger-check --equal old.aig new.aig
+  aiger-check --equal --top queue old.sv new.sv,fifo.sv
 """
 
 
@@ -130,6 +155,15 @@ def visible(text: str) -> str:
     return "".join(c if c.isprintable() else c.encode("unicode_escape").decode() for c in text)
 
 
+class Words(NamedTuple):
+    """What answers are called where something is said of a design."""
+
+    never: str
+    within: str
+    reached: str
+    unit: str = ""
+
+
 @dataclass(frozen=True)
 class Assertion:
     """An assertion, which is a bad state of the model."""
@@ -139,8 +173,56 @@ class Assertion:
     bad: int
     cell: str = ""
 
+    words = Words("never", "none within", "reached")
+
     def __str__(self) -> str:
         return f"{visible(self.name)} ({visible(self.place)})"
+
+    @property
+    def file(self) -> str:
+        """What its files are called, before that is made safe."""
+        return self.name
+
+    def said(self, verdict: "Verdict") -> str:
+        """The answer in words."""
+        if verdict.answer is Answer.REACHED:
+            kept = f", {visible(str(verdict.kept))}" if verdict.kept else ""
+            return f"{self.words.reached} at {verdict.steps}{kept}"
+        if verdict.answer is Answer.NONE_WITHIN:
+            return f"{self.words.within} {counted(verdict.steps, self.words.unit)}"
+        return self.called(verdict.answer) + (f": {visible(verdict.reason)}" if verdict.reason else "")
+
+    def called(self, answer: Answer) -> str:
+        """The word for an answer, without its number."""
+        words = {Answer.NEVER: self.words.never, Answer.NONE_WITHIN: self.words.within}
+        return {**words, Answer.REACHED: self.words.reached}.get(answer, answer.value)
+
+
+def counted(count: Optional[int], unit: str) -> str:
+    """A number, with the word for what it counts if there is one."""
+    return f"{count} {unit}{'' if count == 1 else 's'}" if unit else str(count)
+
+
+class Pair(Assertion):
+    """Two outputs or bad states, one of each design, which are to be equal: a bad state of the miter."""
+
+    words = Words("equal", "equal for", "differs", "step")
+
+    def __str__(self) -> str:
+        return visible(self.name)
+
+
+class Assumption(Assertion):
+    """A constraint of the second design, which the first one is to keep: a bad state of the miter."""
+
+    words = Words("holds", "holds for", "fails", "step")
+
+    def __str__(self) -> str:
+        return f"assumption {visible(self.name)} of {visible(self.place)}"
+
+    @property
+    def file(self) -> str:
+        return f"assumption-{self.name}"
 
 
 @dataclass
@@ -154,13 +236,12 @@ class Verdict:
     refutation: Optional[Path] = None
     invariant: Optional[Path] = None
     kept: Optional[Path] = None
+    #: whether the refutation is one for all bad states at once
+    of_all: bool = False
 
-    def __str__(self) -> str:
-        if self.answer is Answer.REACHED:
-            return f"reached at {self.steps}" + (f", {visible(str(self.kept))}" if self.kept else "")
-        if self.answer is Answer.NONE_WITHIN:
-            return f"none within {self.steps}"
-        return self.answer.value + (f": {visible(self.reason)}" if self.reason else "")
+    def claim(self) -> str:
+        """What aiger says where it shows this."""
+        return f"none within {self.steps}" if self.answer is Answer.NONE_WITHIN else self.answer.value
 
 
 # ---------------------------------------------------------------- programs
@@ -270,6 +351,15 @@ class Aiger:
             return None
         words = told.errors.strip() or f"{self.program} ended with status {told.status}"
         return words.replace(f"aiger: {source}: ", "")
+
+    def miter(self, first: Path, second: Path, destination: Path, by_name: bool) -> Optional[Tuple[Path, str]]:
+        """Writes the miter of two models, or tells of which one what is wrong."""
+        told = self.run("aigmiter", *["--by-name"] * by_name, first, second, destination, folder=destination.parent)
+        if told.status == 0:
+            return None
+        words = aiger_failure(told)
+        which = first if words.startswith(f"aiger: {first}: ") else second
+        return which, words.replace(f"aiger: {which}: ", "")
 
     def confirmed(self, model: Path, witness: Path) -> Optional[int]:
         """The step at which a witness reaches its bad state."""
@@ -390,6 +480,11 @@ class Model:
             elif variable > inputs:
                 waiting.append(self.latches[variable - inputs - 1].next >> 1)
         return needed
+
+
+def named_by_symbols(circuit: Any, kind: str) -> Dict[int, str]:
+    """What the symbols name of a kind, by position."""
+    return {it.position: it.name.decode(errors="surrogateescape") for it in circuit.symbols if it.kind == kind}
 
 
 class Gates:
@@ -670,10 +765,10 @@ FEW = 4
 
 
 class Target(NamedTuple):
-    """A bad state of a file, of which something is asked."""
+    """A bad state of a file, or all, of which something is asked."""
 
     path: Path
-    bad: int
+    bad: Optional[int]
 
 
 class Search:
@@ -688,6 +783,11 @@ class Search:
         self.model, self.whole = model, Target(model.path, assertion.bad)
         self.left = tools.limits.limit
         self.refuted = 0
+        self.rows: List[str] = []
+        #: of a miter the gates of its first half, and which latches are equal
+        self.halves: Optional[Tuple[int, Sequence["Equality"]]] = None
+        #: whether the solver alone had no answer soon
+        self.is_undecided = False
         self.reasons: List[str] = []
         self.notes: List[str] = []
 
@@ -701,6 +801,7 @@ class Search:
         return (
             self.without_latches()
             or self.bounded(steps[:few])
+            or self.by_rows()
             or self.by_abc()
             or self.bounded(steps[few:])
             or self.none_within()
@@ -713,7 +814,8 @@ class Search:
             self.reasons.append(reason)
 
     def unroll(self, target: Target, *options: Any) -> Finished:
-        return self.tools.aiger.run("aigunroll", "--bad", target.bad, *options, folder=self.folder)
+        bad = () if target.bad is None else ("--bad", target.bad)
+        return self.tools.aiger.run("aigunroll", *bad, *options, folder=self.folder)
 
     def ask(self, target: Target, name: str, what: str, *options: Any) -> Said:
         """What the solver says of the clauses that aiger writes by these options; if nothing, the reason is noted."""
@@ -818,12 +920,55 @@ class Search:
 
     def without_latches(self) -> Optional[Verdict]:
         """An assertion that depends on no latch never fails if no step breaks it, which needs no invariant."""
-        return self.by_invariant([]) if self.tools.solver and not self.part.latches else None
+        if not self.tools.solver or self.part.latches:
+            return None
+        if not self.halves:
+            return self.by_invariant([])
+        return self.by_gates([]) or (self.by_invariant([]) if self.is_undecided else None)
+
+    #: how long the solver alone is asked where gates can be swept
+    SHORT = 2.0
+
+    def by_gates(self, rows: Sequence[str]) -> Optional[Verdict]:
+        """What an invariant shows of a miter: if the solver alone does not see it soon, gate by gate."""
+        left = self.left
+        self.left = given = min(left, self.SHORT)
+        verdict = self.by_invariant(rows)
+        self.is_undecided, self.left = self.left <= 0, left - given + self.left
+        if verdict or not self.is_undecided:
+            return verdict
+        self.reasons.clear()
+        first_gates, equalities = self.halves
+        return self.by_sweep(first_gates, equalities if rows else [])
+
+    def by_sweep(self, first_gates: int, equalities: Sequence["Equality"]) -> Optional[Verdict]:
+        """Whether a refutation that goes from the inputs on shows it."""
+        self.progress.tell(self.assertion, "gates")
+        clauses, invariant = self.folder / "sweep.cnf", self.folder / "never.pla"
+        if self.unroll(self.whole, "--invariant", invariant, "--cnf", self.whole.path, clauses).status != 0:
+            return None
+        begun = time.monotonic()
+        sweep = Sweep(self.tools.solver, clauses, first_gates, equalities, self.left)
+        is_refuted = sweep.refutes(self.folder / "never.drat")
+        self.left -= time.monotonic() - begun
+        if not is_refuted or not self.is_shown("never", "never", "--invariant", invariant):
+            return None
+        return Verdict(Answer.NEVER, refutation=self.folder / "never.drat", invariant=invariant)
+
+    def by_rows(self) -> Optional[Verdict]:
+        """What is shown by an invariant that was found for all bad states at once."""
+        if not self.rows:
+            return None
+        reasons = len(self.reasons)
+        verdict = self.by_gates(self.rows) if self.halves else self.by_invariant(self.rows)
+        del self.reasons[reasons:]
+        return verdict
 
     def by_abc(self) -> Optional[Verdict]:
         """What ABC's pdr shows: an invariant, or a run."""
         abc, limits = self.tools.abc, self.tools.limits
-        if not abc:
+        # of two designs without latches a solver that does not decide is not helped by pdr
+        if not abc or self.tools.solver and not self.part.latches and isinstance(self.assertion, (Pair, Assumption)):
             return None
         self.progress.tell(self.assertion, "pdr")
         circuit = ForAbc(self.part)
@@ -887,6 +1032,571 @@ class Progress:
         if self.width:
             self.put("")
             self.put("")
+
+
+# ---------------------------------------------------------------- two designs
+
+
+@dataclass(frozen=True)
+class Side:
+    """One of two designs: what it is called, and its model."""
+
+    called: str
+    path: Path
+    circuit: Any
+
+    def symbols(self, kind: str) -> Dict[int, str]:
+        """What its symbols name of a kind, by position."""
+        return named_by_symbols(self.circuit, kind)
+
+    def names(self, kind: str, count: int) -> List[str]:
+        symbols = self.symbols(kind)
+        return [symbols.get(at, f"{kind}{at}") for at in range(count)]
+
+    def compared(self) -> List[str]:
+        """The names of what is compared: outputs, then bad states."""
+        return self.names("o", len(self.circuit.outputs)) + self.names("b", len(self.circuit.bad))
+
+    def symbols_compared(self) -> Dict[int, str]:
+        """What symbols name of these, by place."""
+        outputs = len(self.circuit.outputs)
+        return {**self.symbols("o"), **{outputs + at: name for at, name in self.symbols("b").items()}}
+
+    def assumed(self) -> List[str]:
+        return self.names("c", len(self.circuit.constraints))
+
+    def unset(self) -> List[int]:
+        """The latches without initial value."""
+        return [at for at, latch in enumerate(self.circuit.latches) if latch.reset > 1]
+
+
+@dataclass(frozen=True)
+class Sides:
+    """Two designs, and whether their inputs and outputs are paired by name."""
+
+    first: Side
+    second: Side
+    by_name: bool
+
+    def claims(self) -> List[Assertion]:
+        """What is said by the bad states of the miter, one after another."""
+        names, assumed = self.first.compared(), self.second.assumed()
+        pairs = [Pair(name, self.first.called, at) for at, name in enumerate(names)]
+        count = len(pairs)
+        return pairs + [Assumption(name, self.second.called, count + at) for at, name in enumerate(assumed)]
+
+    def other_name(self) -> Optional[Tuple[str, str]]:
+        """The first two that are paired by their places while their symbols differ."""
+        first, second = self.first.symbols_compared(), self.second.symbols_compared()
+        both = ((first[at], second[at]) for at in sorted(first.keys() & second.keys()))
+        return None if self.by_name else next((pair for pair in both if pair[0] != pair[1]), None)
+
+
+class Patterns:
+    """The values of a model in many runs at once: each bit of a number is one run."""
+
+    WIDTH = 512
+    #: how often inputs are chosen again for the runs whose inputs break a constraint
+    TRIES = 6
+
+    def __init__(self, model: Model) -> None:
+        self.circuit, self.latches, self.chance = model.circuit, model.latches, random.Random(1)
+        self.ones = (1 << self.WIDTH) - 1
+        words = self.circuit.gates.words
+        self.gates = list(zip(words[0::3], words[1::3], words[2::3]))
+
+    def any(self) -> int:
+        return self.chance.getrandbits(self.WIDTH)
+
+    def values(self, inputs: Iterable[int], state: Iterable[int]) -> List[int]:
+        """The value of each literal."""
+        ones, values = self.ones, [0] * (2 * self.circuit.max_var + 2)
+        values[1] = ones
+        literals = (*self.circuit.inputs, *(latch.literal for latch in self.latches))
+        for literal, value in zip(literals, (*inputs, *state)):
+            values[literal], values[literal ^ 1] = value, value ^ ones
+        for literal, left, right in self.gates:
+            value = values[left] & values[right]
+            values[literal], values[literal ^ 1] = value, value ^ ones
+        return values
+
+    def step(self, state: Sequence[int]) -> Tuple[List[int], int]:
+        """The next state by some inputs, and a mark for the runs that keep the constraints."""
+        kept, inputs = 0, [0] * len(self.circuit.inputs)
+        for _ in range(self.TRIES):
+            inputs = [old & kept | self.any() & (self.ones ^ kept) for old in inputs]
+            values, kept = self.values(inputs, state), self.ones
+            for literal in self.circuit.constraints:
+                kept &= values[literal]
+            if kept == self.ones:
+                break
+        return [values[latch.next] for latch in self.latches], kept
+
+
+class Equality(NamedTuple):
+    """Two latches are equal, or opposite, where a third is 1. The first may be the constant 0, as -1."""
+
+    one: int
+    other: int
+    opposite: int
+    later: Optional[int]
+
+    def asked(self) -> List[Dict[int, int]]:
+        """The values of latches that are not to be."""
+        last = {} if self.later is None else {self.later: 1}
+        if self.one < 0:
+            return [{self.other: self.opposite ^ 1, **last}]
+        return [{self.one: value, self.other: value ^ self.opposite ^ 1, **last} for value in (0, 1)]
+
+
+class Alike:
+    """Latches of a miter that have one value in each step, or opposite ones, or always the same: as far as some runs by
+    chance tell. So it is believed by nobody, and the invariant that they make has to be proved."""
+
+    STEPS, ROUNDS, QUIET = 24, 60, 4
+    #: an invariant has two rows for each latch, and a row a character for each
+    MOST = 4000
+
+    def __init__(self, model: Model, sides: Sides, tools: Tools) -> None:
+        self.latches, self.patterns = model.latches, Patterns(model)
+        self.children, self.end = tools.aiger.children, time.monotonic() + tools.limits.time
+        first, second = sides.first.unset(), sides.second.unset()
+        before = len(sides.first.circuit.latches)
+        self.pairs = [(one, before + other) for one, other in zip(first, second)]
+        count = before + len(sides.second.circuit.latches)
+        #: the latch that is 0 in the first step alone, where there is a pair
+        self.later = count if self.pairs and len(self.latches) == count + 1 else None
+        self.phases: Dict[int, int] = {}
+        self.classes: List[List[int]] = []
+
+    def find(self) -> None:
+        """Looks for what is alike, where there are latches."""
+        if 0 < len(self.latches) <= self.MOST:
+            self.from_start()
+            self.by_induction()
+
+    def equalities(self) -> List["Equality"]:
+        """Which latch is which other one, or a constant, in each step, or in all but the first."""
+        found = []
+        for group in self.classes:
+            for at in group[1:]:
+                one = Equality(group[0], at, self.phases[group[0]] ^ self.phases[at], None)
+                if not all(map(self.is_kept_at_start, one.asked())):
+                    one = one._replace(later=self.later)
+                if all(map(self.is_kept_at_start, one.asked())):
+                    found.append(one)
+        return found
+
+    def is_kept_at_start(self, asked: Dict[int, int]) -> bool:
+        """Whether no first state has these values."""
+        return any(self.latches[at].reset == value ^ 1 for at, value in asked.items())
+
+    def rows(self) -> List[str]:
+        """The rows of an invariant."""
+        rows = []
+        for equality in self.equalities():
+            for asked in equality.asked():
+                row = ["-"] * len(self.latches)
+                for at, value in asked.items():
+                    row[at] = str(value)
+                rows.append("".join(row))
+        return rows
+
+    def split(self, state: Sequence[int], kept: int) -> bool:
+        """Parts what differs in one of the runs that are kept, and tells whether something did. Constants are the
+        latch -1."""
+        before, self.classes = self.classes, []
+        for group in before:
+            parts: Dict[int, List[int]] = {}
+            for at in group:
+                value = (0 if at < 0 else state[at]) ^ self.phases[at] * self.patterns.ones
+                parts.setdefault(value & kept, []).append(at)
+            self.classes += [part for part in parts.values() if len(part) > 1]
+        return self.classes != before
+
+    def from_start(self) -> None:
+        patterns = self.patterns
+        state = [latch.reset * patterns.ones if latch.reset < 2 else patterns.any() for latch in self.latches]
+        for one, other in self.pairs:
+            state[other] = state[one]
+        self.phases = {-1: 0, **{at: value & 1 for at, value in enumerate(state)}}
+        self.classes, kept = [list(self.phases)], patterns.ones
+        for _ in range(self.STEPS):
+            self.split(state, kept)
+            if self.is_over():
+                break
+            state, now = patterns.step(state)
+            kept &= now
+        self.split(state, kept)
+
+    def by_induction(self) -> None:
+        """Steps from any states in which they are alike, until they stay so."""
+        quiet = 0
+        for _ in range(self.ROUNDS):
+            state, kept = self.patterns.step(self.any_state())
+            quiet = 0 if self.split(state, kept) else quiet + 1
+            if quiet == self.QUIET or self.is_over():
+                break
+
+    def is_over(self) -> bool:
+        """Whether this has taken long enough; ends where the run is to end."""
+        if self.children.stopped:
+            raise Stopped
+        return time.monotonic() > self.end
+
+    def any_state(self) -> List[int]:
+        ones = self.patterns.ones
+        state = [self.patterns.any() for _ in self.latches]
+        for group in self.classes:
+            value = 0 if group[0] < 0 else self.patterns.any()
+            for at in group:
+                if at >= 0:
+                    state[at] = value ^ self.phases[at] * ones
+        if self.later is not None:
+            state[self.later] = ones
+        return state
+
+
+class Sweep:
+    """Refutes the clauses of a miter whose two halves have much in common, from the inputs on.
+
+    Gates that have one value in many patterns are taken for equal, and a solver shows it for some of them at a time, in
+    a window of what they depend on: it is asked for a difference of each, and what it learns goes into one refutation.
+    What was shown makes the next windows small. That all is right, aiger sees.
+    """
+
+    WIDTH, CHUNK, DEPTH, TRIES = 2048, 200, 10, 6
+    #: in so many patterns the constraints have to hold
+    LEAST = 64
+    #: a variable that is false
+    FALSE = 1
+
+    def __init__(
+        self, solver: Solver, clauses: Path, first_gates: int, equalities: Sequence[Equality], seconds: float
+    ) -> None:
+        self.solver, self.folder, self.end = solver, clauses.parent, time.monotonic() + seconds
+        self.first_gates, self.equalities = first_gates, equalities
+        self.gates: Dict[int, Tuple[int, int]] = {}
+        self.to: Dict[int, int] = {}
+        self.leaders: Dict[int, List[Tuple[int, int]]] = {}
+        self.known: Dict[Tuple[int, int], int] = {}
+        self.read(clauses)
+
+    def read(self, clauses: Path) -> None:
+        """The gates of the clauses, and their last clause: one of these gates of bad states is true."""
+        with open(clauses, encoding="ascii") as file:
+            self.count, rows = (int(word) for word in file.readline().split()[2:])
+            next(file)
+            for _ in range((rows - 2) // 3):
+                left, right, _ = next(file).split(), next(file).split(), next(file)
+                self.gates[-int(left[0])] = (int(left[1]), int(right[1]))
+            self.bad = [int(word) for word in next(file).split()[:-1]]
+
+    def refutes(self, refutation: Path) -> bool:
+        """Whether it comes to a refutation, which it writes."""
+        with open(refutation, "w", encoding="ascii") as self.proof:
+            self.begin()
+            if bin(self.mask).count("1") < self.LEAST or any(self.key_of_value(it)[0] for it in self.bad):
+                return False
+            if not self.sweep() or not all(self.find(it) == self.FALSE or self.is_false(it) for it in self.bad):
+                return False
+            self.add()
+        return True
+
+    # What is known
+
+    def add(self, *literals: int) -> None:
+        self.proof.write(" ".join(map(str, (*literals, 0))) + "\n")
+
+    def find(self, literal: int) -> int:
+        """The literal that a literal was shown to be."""
+        sign, variable = (1, literal) if literal > 0 else (-1, -literal)
+        known = self.to.get(variable)
+        while known is not None:
+            if known < 0:
+                sign, known = -sign, -known
+            variable = known
+            known = self.to.get(variable)
+        return sign * variable
+
+    def merge(self, variable: int, literal: int) -> None:
+        self.add(-variable, literal)
+        self.add(variable, -literal)
+        self.to[variable] = literal
+
+    def begin(self) -> None:
+        """Has all latches that are equal be one, which the constraints say, and gives each literal its patterns."""
+        # the gate of a bad state has the end of the chain of constraints, which stands behind all else, or 1
+        operands = self.gates[self.bad[0]]
+        self.held = -self.FALSE if -self.FALSE in operands else max(operands, key=abs)
+        if self.equalities:
+            self.add(self.held)
+        for one, other, opposite, later in self.equalities:
+            variable, literal = other + 2, (-1 if opposite else 1) * (one + 2 if one >= 0 else self.FALSE)
+            for sign in (1, -1) if later is not None else ():
+                self.add(-variable, literal, sign * (later + 2))
+                self.add(variable, -literal, sign * (later + 2))
+            self.merge(variable, literal)
+        self.simulate()
+
+    def simulate(self) -> None:
+        chance, ones = random.Random(1), (1 << self.WIDTH) - 1
+        values = [0] * (self.count + 1)
+        free = [it for it in range(2, self.count + 1) if it not in self.gates]
+        for variable in free:
+            values[variable] = chance.getrandbits(self.WIDTH)
+        self.ones, self.values = ones, values
+        for variable in free:
+            values[variable] = self.value(self.find(variable))
+        for variable, (left, right) in self.gates.items():
+            one = values[left] if left > 0 else values[-left] ^ ones
+            values[variable] = one & (values[right] if right > 0 else values[-right] ^ ones)
+        # patterns in which the constraints do not hold say nothing
+        self.mask = self.value(self.held)
+        self.lowest = self.mask & -self.mask
+        for variable in [self.FALSE, *free]:
+            if variable not in self.to:
+                self.lead(variable)
+
+    def value(self, literal: int) -> int:
+        return self.values[literal] if literal > 0 else self.values[-literal] ^ self.ones
+
+    def key_of_value(self, variable: int) -> Tuple[int, int]:
+        """The patterns of a variable, or of its negation, and which of both."""
+        value = self.values[variable] & self.mask
+        return (value ^ self.mask, 1) if value & self.lowest else (value, 0)
+
+    def key(self, variable: int) -> Tuple[int, int]:
+        left, right = map(self.find, self.gates[variable])
+        return (left, right) if left < right else (right, left)
+
+    def lead(self, variable: int) -> None:
+        """Takes it for different from all before."""
+        value, sign = self.key_of_value(variable)
+        self.leaders.setdefault(value, []).append((variable, sign))
+        if variable in self.gates:
+            self.known.setdefault(self.key(variable), variable)
+
+    def guesses(self, variable: int) -> List[int]:
+        """The literals that it may be equal to, the last ones first."""
+        value, sign = self.key_of_value(variable)
+        found = self.leaders.get(value, [])[-self.TRIES :]
+        return [other if its == sign else -other for other, its in reversed(found) if other != variable]
+
+    # What is shown
+
+    def sweep(self) -> bool:
+        """Goes through all gates on which the last clause depends, if time allows."""
+        waiting: List[Tuple[int, List[int]]] = []
+        cone = self.cone()
+        for at, variable in enumerate(self.gates):
+            if not cone[variable] or self.is_plain(variable):
+                continue
+            guesses = self.guesses(variable) if at >= self.first_gates else []
+            if guesses:
+                waiting.append((variable, guesses))
+            else:
+                self.lead(variable)
+            if len(waiting) == self.CHUNK:
+                if not self.show(waiting):
+                    return False
+                waiting = []
+        return self.show(waiting)
+
+    def cone(self) -> bytearray:
+        """A mark for each variable on which the last clause depends."""
+        needed, left = bytearray(self.count + 1), [abs(it) for it in self.bad]
+        while left:
+            variable = left.pop()
+            if not needed[variable]:
+                needed[variable] = 1
+                left += map(abs, self.gates.get(variable, ()))
+        return needed
+
+    def is_plain(self, variable: int) -> bool:
+        """Whether its operands say at once what it is."""
+        left, right = self.key(variable)
+        if left == -right or self.FALSE in (left, right):
+            self.merge(variable, self.FALSE)
+        elif left == right or left == -self.FALSE:
+            self.merge(variable, right)
+        elif right == -self.FALSE:
+            self.merge(variable, left)
+        elif (left, right) in self.known:
+            self.merge(variable, self.known[left, right])
+        else:
+            return False
+        return True
+
+    def show(self, waiting: List[Tuple[int, List[int]]]) -> bool:
+        """Shows what each of these is equal to, as far as that can be shown; whether the solver and time allow it."""
+        while waiting:
+            shown = self.ask([(variable, guesses[0]) for variable, guesses in waiting], self.DEPTH)
+            if shown is None:
+                return False
+            if shown == len(waiting):
+                break
+            (variable, guesses), waiting = waiting[shown], waiting[shown + 1 :]
+            if self.is_plain(variable):
+                continue
+            if len(guesses) > 1:
+                waiting.insert(0, (variable, guesses[1:]))
+            elif not any(self.ask([(variable, it)], 4 * self.DEPTH) for it in self.guesses(variable)[-3:]):
+                self.lead(variable)
+        return True
+
+    def is_false(self, variable: int) -> bool:
+        """Whether it is shown to be false, by all that it depends on."""
+        return bool(self.ask([(variable, self.FALSE)], self.count))
+
+    def ask(self, pairs: List[Tuple[int, int]], depth: int) -> Optional[int]:
+        """How many of these pairs the solver shows to be equal, up to the first that may differ in this depth. None if
+        it fails."""
+        window = Window(self, pairs, depth)
+        clauses = self.folder / "window.cnf"
+        clauses.write_text(window.text(), encoding="ascii")
+        left = self.end - time.monotonic()
+        if left <= 0:
+            return None
+        said, _ = self.solver.solve(clauses, left)
+        if said is Said.NOTHING:
+            return None
+        count = len(pairs) if said is Said.UNSATISFIABLE else window.differing(clauses.with_suffix(".answer"))
+        lemmas = window.lemmas(clauses.with_suffix(".drat"))
+        for lemma in lemmas:
+            self.add(*lemma)
+        for variable, literal in pairs[:count]:
+            self.merge(variable, literal)
+        for lemma in lemmas:
+            if len(lemma) > 2:
+                self.proof.write("d ")
+                self.add(*lemma)
+        return count
+
+
+class Window:
+    """What some pairs depend on, up to a depth, as clauses over numbers of its own, with cubes that ask for a
+    difference of each (iCNF)."""
+
+    def __init__(self, sweep: Sweep, pairs: List[Tuple[int, int]], depth: int) -> None:
+        self.sweep, self.numbers, self.variables = sweep, {}, [0]
+        self.lines, self.cubes = ["p inccnf", f"{-self.number(Sweep.FALSE)} 0"], []
+        ends = [(variable, sweep.find(literal)) for variable, literal in pairs]
+        layer, done = [abs(it) for pair in ends for it in pair], {Sweep.FALSE}
+        for _ in range(depth):
+            layer = self.gates_of(layer, done)
+            if not layer:
+                break
+        for variable, literal in ends:
+            one, other = self.number(variable), self.number(literal)
+            self.cubes += [(one, -other), (-one, other)]
+
+    def number(self, literal: int) -> int:
+        variable = abs(literal)
+        if variable not in self.numbers:
+            self.numbers[variable] = len(self.variables)
+            self.variables.append(variable)
+        return self.numbers[variable] if literal > 0 else -self.numbers[variable]
+
+    def gates_of(self, layer: List[int], done: Set[int]) -> List[int]:
+        """The clauses of these gates, and what they depend on."""
+        below = []
+        for variable in layer:
+            if variable in self.sweep.gates and variable not in done:
+                left, right = map(self.sweep.find, self.sweep.gates[variable])
+                own, one, other = self.number(variable), self.number(left), self.number(right)
+                self.lines.append(f"{-own} {one} 0\n{-own} {other} 0\n{own} {-one} {-other} 0")
+                below += [abs(left), abs(right)]
+            done.add(variable)
+        return below
+
+    def text(self) -> str:
+        return "\n".join([*self.lines, *(f"a {one} {other} 0" for one, other in self.cubes), ""])
+
+    def differing(self, answer: Path) -> int:
+        """The first pair that differs by the solver's answer."""
+        lines = re.findall(rb"(?m)^v([-0-9 ]*)$", bytes_of(answer))
+        true = {int(it) for line in lines for it in re.findall(rb"-?[0-9]+", line)}
+        return next((at for at, cube in enumerate(self.cubes) if true.issuperset(cube)), 0) // 2
+
+    def lemmas(self, refutation: Path) -> List[List[int]]:
+        """What the solver learnt, over the variables of the whole. What it deletes is kept until all is used."""
+        found = []
+        for line in binary_lemmas(bytes_of(refutation)):
+            if all(abs(it) < len(self.variables) for it in line):
+                found.append([self.variables[it] if it > 0 else -self.variables[-it] for it in line])
+        return [lemma for lemma in found if lemma]
+
+
+def bytes_of(path: Path) -> bytes:
+    """What a program has written there, if it is a file."""
+    try:
+        return path.read_bytes()
+    except OSError:
+        return b""
+
+
+def binary_lemmas(data: bytes) -> Iterator[List[int]]:
+    """The clauses that a binary refutation adds."""
+    literals: List[int] = []
+    value = shift = 0
+    kind = 0
+    for byte in data:
+        if not kind:
+            kind = byte
+        elif byte & 128:
+            value, shift = value | (byte & 127) << shift, shift + 7
+        elif byte or shift:
+            value |= byte << shift
+            literals.append(-(value >> 1) if value & 1 else value >> 1)
+            value = shift = 0
+        else:
+            if kind == ord("a"):
+                yield literals
+            literals, kind = [], 0
+
+
+class Together(Search):
+    """Asks of all bad states of a miter at once whether none is reached: what two designs have in common is then gone
+    through once, and not for each pair again."""
+
+    #: how long a solver is asked whose refutations are not put together here
+    LONG = 60.0
+
+    def __init__(self, sides: Sides, model: Model, tools: Tools, folder: Path, progress: "Progress") -> None:
+        super().__init__(Assertion("all", "together", 0), model, tools, folder, progress)
+        self.whole, self.sides = Target(model.path, None), sides
+
+    def verdict(self) -> Optional[Verdict]:
+        """That none is; else the rows are kept for the single ones, if they are an invariant."""
+        self.folder.mkdir()
+        solver = self.tools.solver
+        if not solver or not solver.refutes:
+            return None
+        self.progress.tell(self.assertion, "invariant")
+        alike = Alike(self.model, self.sides, self.tools)
+        alike.find()
+        self.rows = alike.rows()
+        if solver.kind == "cadical":
+            self.halves = len(self.sides.first.circuit.gates), alike.equalities()
+            verdict = self.by_gates(self.rows)
+        else:
+            self.left = min(self.left, self.LONG)
+            verdict = self.by_invariant(self.rows)
+        if verdict:
+            verdict.of_all = True
+        elif self.rows and not self.are_kept():
+            self.rows = []
+        return verdict
+
+    def are_kept(self) -> bool:
+        """Whether the rows are an invariant, by the solver's word."""
+        self.left = self.tools.limits.time
+        circuit, path = self.model.circuit, self.folder / "rows.aig"
+        parts = {name: getattr(circuit, name) for name in ("max_var", "inputs", "latches", "constraints", "gates")}
+        path.write_bytes(aigtools().Circuit(bad=[0], **parts).write())
+        options = ("--invariant", self.folder / "never.pla")
+        return self.ask(Target(path, None), "rows", "an invariant", *options) is Said.UNSATISFIABLE
 
 
 # ---------------------------------------------------------------- Yosys
@@ -1162,6 +1872,12 @@ class Clocks:
         clocks = [[bit] for bit, _ in self.edges]
         return next((name for name, port in ports if port["direction"] == "input" and port["bits"] in clocks), None)
 
+    def inputs(self) -> List[str]:
+        """The bits of inputs that are clocks."""
+        clocks, ports = {bit for bit, _ in self.edges}, self.module["ports"]
+        bits = [bit for port in ports.values() for bit in port["bits"]]
+        return [name for (_, _, name), bit in zip(port_bits(ports), bits) if bit in clocks]
+
     def reason(self) -> Optional[str]:
         """Why the steps are not those of one clock."""
         bits = {bit for bit, _ in self.edges}
@@ -1213,35 +1929,47 @@ class Front:
         "opt_clean",
     )
 
-    def __init__(self, yosys: Yosys, top: str) -> None:
-        self.yosys, self.top, self.sources = yosys, top, yosys.sources
+    def __init__(self, yosys: Yosys, top: str, keeps_outputs: bool = False) -> None:
+        self.yosys, self.top, self.sources, self.keeps_outputs = yosys, top, yosys.sources, keeps_outputs
         self.notes: List[str] = []
+        #: why the steps are not those of one clock, or that clock
+        self.reason: Optional[str] = None
         self.clock: Optional[str] = None
         self.replays = False
 
     def translate(self) -> List[Assertion]:
         """Writes model.aig into the folder of the sources, and gives its assertions."""
-        yosys, alias = self.yosys, self.sources.alias
+        self.flatten()
+        self.write(self.reason)
+        return self.assertions()
+
+    def flatten(self) -> None:
+        """Reads the files, makes one module of all, and looks at its clocks."""
         self.read()
-        self.refuse_conflicts(yosys.do("check"))
-        self.refuse_conflicts(yosys.do(*self.FLAT))
-        flat = yosys.netlist("flat")
-        clocks = Clocks(flat[top_of(flat)])
-        reason = clocks.reason()
+        self.refuse_conflicts(self.yosys.do("check"))
+        commands = (it for it in self.FLAT if not (self.keeps_outputs and it == "delete -output"))
+        self.refuse_conflicts(self.yosys.do(*commands))
+        flat = self.yosys.netlist("flat")
+        module = flat[top_of(flat)]
+        clocks = Clocks(module)
+        self.reason, self.asynchronous = clocks.reason(), clocks.asynchronous
+        self.clock = None if self.reason else clocks.port()
+        self.clocks = clocks.inputs()
+        kinds = {cell["type"] for cell in module["cells"].values()}
+        self.replays = self.clock is not None and "$initstate" not in kinds
+
+    def write(self, reason: Optional[str]) -> None:
+        """Writes model.aig, whose steps are those of a global clock where there is a reason for it."""
+        yosys, alias = self.yosys, self.sources.alias
         if reason:
             self.notes.append(f"{reason}: a step is one of a global clock, by Yosys's clk2fflogic")
-        else:
-            self.clock = clocks.port()
-            if clocks.asynchronous:
-                self.notes.append("asynchronous sets and resets change with the clock alone, by Yosys's async2sync")
-        kinds = {cell["type"] for cell in flat[top_of(flat)]["cells"].values()}
-        self.replays = self.clock is not None and "$initstate" not in kinds
+        elif self.asynchronous:
+            self.notes.append("asynchronous sets and resets change with the clock alone, by Yosys's async2sync")
         yosys.do(*(self.GLOBAL_CLOCK if reason else self.ONE_CLOCK))
         yosys.do("setundef -undriven -anyseq", "opt -noff -keepdc -fast", f"write_rtlil {alias}/prepared.il")
         yosys.do(*self.GATES)
         self.refuse_loops(yosys.do("check"))
         yosys.do(f"write_aiger -symbols -map {alias}/model.map {alias}/model.aig")
-        return self.assertions()
 
     def read(self) -> None:
         """Reads the files, and looks at the properties before they are flattened."""
@@ -1279,42 +2007,207 @@ class Front:
 
     def assertions(self) -> List[Assertion]:
         """The assertions in the order of the source, each with its bad state."""
-        bad = self.bad_states()
+        (bad,) = self.positions("$assert")
         asked = [it for it in self.properties if it.kind == "$assert"]
         if sorted(bad) != sorted(it.cell for it in asked):
             raise Trouble("which bad state is which assertion cannot be told")
-        # a stable sort: instances stay as they stand in the design
-        asked.sort(key=lambda it: (self.sources.order(it.file), it.line, it.column))
-        return [Assertion(f"{self.top}.{it.name}", self.place(it), bad[it.cell], it.cell) for it in asked]
+        return [Assertion(f"{self.top}.{it.name}", self.place(it), bad[it.cell], it.cell) for it in self.sorted(asked)]
 
-    def bad_states(self) -> Dict[str, int]:
-        """The bad state of each assertion, by the name of its cell: in a second model of the same netlist the value of
-        each is an input by a name of its own, so nothing depends on Yosys's order."""
+    def sorted(self, asked: List[Property]) -> List[Property]:
+        """Properties in the order of the source. The sort is stable: instances stay as they stand in the design."""
+        return sorted(asked, key=lambda it: (self.sources.order(it.file), it.line, it.column))
+
+    def positions(self, *kinds: str) -> List[Dict[str, int]]:
+        """Of each kind of cell the bad state or the constraint that it is, by the cell's name: in a second model of the
+        same netlist the value of each is an input by a name of its own, so nothing depends on Yosys's order."""
         modules = self.yosys.netlist("final")
         top = top_of(modules)
-        cells = [name for name, cell in modules[top]["cells"].items() if cell["type"] == "$assert"]
+        self.ports = modules[top]["ports"]
+        cells = [(name, it["type"]) for name, it in modules[top]["cells"].items() if it["type"] in kinds]
         if not cells:
-            return {}
+            return [{} for _ in kinds]
         value = f"aiger_check_{secrets.token_hex(4)}_"
         commands = [f"cd {quoted(top)}"]
-        for at, name in enumerate(cells):
+        for at, (name, _) in enumerate(cells):
             commands.append(f"add -input {value}{at} 1")
             commands += [f"connect -nomap -port {quoted(name)} {port}" for port in (f"A {value}{at}", "EN 1'1")]
         self.yosys.do(*commands, f"write_aiger -symbols {self.sources.alias}/told.aig")
         told, model = (aigtools().read((self.sources.folder / name).read_bytes()) for name in ("told.aig", "model.aig"))
-        which = [told_input(told, literal) for literal in told.bad]
-        wanted = {f"{value}{at}".encode(): bare(name) for at, name in enumerate(cells)}
-        if sorted(which) != sorted(wanted) or len(model.bad) != len(cells):
-            raise Trouble("which bad state is which assertion cannot be told")
-        return {wanted[name]: position for position, name in enumerate(which)}
+        found = []
+        for kind in kinds:
+            wanted = {f"{value}{at}".encode(): bare(name) for at, (name, its) in enumerate(cells) if its == kind}
+            which = told_inputs(told, kind)
+            if sorted(which) != sorted(wanted) or len(which) != len(told_literals(model, kind)):
+                raise Trouble(f"which {'bad state' if kind == '$assert' else 'constraint'} is which cannot be told")
+            found.append({wanted[name]: position for position, name in enumerate(which)})
+        return found
 
 
-def told_input(circuit: Any, literal: int) -> bytes:
-    """The name of the input whose negation a literal is, or nothing."""
+def told_literals(circuit: Any, kind: str) -> Sequence[int]:
+    """The literals that are 1 where the cells of a kind are violated."""
+    return circuit.bad if kind == "$assert" else [literal ^ 1 for literal in circuit.constraints]
+
+
+def told_inputs(circuit: Any, kind: str) -> List[bytes]:
+    """Of each of these the name of the input that is its negation, or nothing."""
     gates = {gate.literal: {gate.left, gate.right} - {1} for gate in circuit.gates}
     names = {circuit.inputs[it.position]: it.name for it in circuit.symbols if it.kind == "i"}
-    operands = gates.get(literal, {literal})
-    return names.get(min(operands) ^ 1, b"") if len(operands) == 1 else b""
+    operands = (gates.get(literal, {literal}) for literal in told_literals(circuit, kind))
+    return [names.get(min(it) ^ 1, b"") if len(it) == 1 else b"" for it in operands]
+
+
+def port_bits(ports: Dict[str, Any]) -> Iterator[Tuple[str, str, str]]:
+    """Of each bit of a port its direction, the symbol that Yosys writes for it, and the name that it has in Verilog."""
+    for name, port in ports.items():
+        width = len(port["bits"])
+        for at in range(width):
+            index = port.get("offset", 0) + (width - 1 - at if port.get("upto") else at)
+            one = width == 1
+            yield port["direction"], name if one else f"{name}[{at}]", name if one else f"{name}[{index}]"
+
+
+class Ports(Front):
+    """A Verilog design that is compared with another one: its outputs, and the assertions that both have."""
+
+    def __init__(self, yosys: Yosys, top: str, called: str) -> None:
+        super().__init__(yosys, top, keeps_outputs=True)
+        self.called = called
+
+    def read_model(self) -> None:
+        """Reads the model that was written, and names what it has."""
+        bad, assumed = self.positions("$assert", "$assume")
+        self.circuit = aigtools().read((self.sources.folder / "model.aig").read_bytes())
+        self.inputs = self.told("input", "i", self.circuit.inputs)
+        self.outputs = self.told("output", "o", self.circuit.outputs)
+        self.asserted = self.placed("$assert", bad)
+        self.assumed = self.placed("$assume", assumed)
+
+    def told(self, direction: str, kind: str, literals: Sequence[int]) -> List[str]:
+        """The name of each input or output. What is undriven or x is an input without a name."""
+        symbols: Dict[str, str] = {}
+        for its, symbol, name in port_bits(self.ports):
+            if its in (direction, "inout"):
+                if symbol in symbols:
+                    raise Trouble(f"{visible(self.called)}: which {direction} is {visible(symbol)} cannot be told")
+                symbols[symbol] = name
+        found = named_by_symbols(self.circuit, kind)
+        names = [symbols.get(found[at], "") if at in found else "" for at in range(len(literals))]
+        if sorted(filter(None, names)) != sorted(symbols.values()) or len(found) != len(symbols):
+            raise Trouble(f"{visible(self.called)}: which {direction} is which cannot be told")
+        return names
+
+    def placed(self, kind: str, positions: Dict[str, int]) -> List[Tuple[str, int]]:
+        """Its properties of a kind, by name and position."""
+        asked = self.sorted([it for it in self.properties if it.kind == kind])
+        if sorted(positions) != sorted(it.cell for it in asked):
+            raise Trouble(f"{visible(self.called)}: which {kind[1:]} is which cannot be told")
+        return [(it.name, positions[it.cell]) for it in asked]
+
+    def named(self, direction: str) -> List[str]:
+        """The names of its inputs or outputs, as they are declared."""
+        return [name for its, _, name in port_bits(self.ports) if its in (direction, "inout")]
+
+    def undriven(self) -> List[int]:
+        return [literal for name, literal in zip(self.inputs, self.circuit.inputs) if not name]
+
+    def unset(self) -> List[Tuple[int, Set[str]]]:
+        """The latches without initial value, each with its names."""
+        names = named_by_symbols(self.circuit, "l")
+        latches = enumerate(self.circuit.latches)
+        return [(at, set(names.get(at, "").split())) for at, latch in latches if latch.reset > 1]
+
+    def arranged(self, inputs: List[str], undriven: int, start: List[int], outputs: List[str], bad: List[str]) -> Any:
+        """Its model with these inputs, then so many of what is undriven; these latches before others; these outputs;
+        and these assertions as bad states."""
+        circuit, own, asserted = self.circuit, dict(zip(self.inputs, self.circuit.inputs)), dict(self.asserted)
+        free = self.undriven()
+        spare = [2 * (circuit.max_var + 1 + at) for at in range(undriven - len(free))]
+        compared, latches, first = dict(zip(self.outputs, circuit.outputs)), list(circuit.latches), set(start)
+        order = start + [at for at in range(len(latches)) if at not in first]
+        symbols = [("i", at, name) for at, name in enumerate([*inputs, *(f"undriven {at}" for at in range(undriven))])]
+        symbols += [("o", at, name) for at, name in enumerate(outputs)]
+        symbols += [("b", at, f"assertion {name}") for at, name in enumerate(bad)]
+        symbols += [("c", at, name) for at, (name, _) in enumerate(self.assumed)]
+        places = {at: new for new, at in enumerate(order)}
+        held = [("l", places[it.position], it.name) for it in circuit.symbols if it.kind == "l"]
+        return aigtools().Circuit(
+            max_var=circuit.max_var + len(spare),
+            inputs=[*(own[name] for name in inputs), *free, *spare],
+            latches=[latches[at] for at in order],
+            outputs=[compared[name] for name in outputs],
+            bad=[circuit.bad[asserted[name]] for name in bad],
+            constraints=[circuit.constraints[position] for _, position in self.assumed],
+            gates=circuit.gates,
+            symbols=held + [(kind, at, name.encode(errors="surrogateescape")) for kind, at, name in symbols],
+        )
+
+
+class TwoPorts:
+    """Two Verilog designs, whose ports, assertions and registers are paired by name."""
+
+    def __init__(self, first: Ports, second: Ports) -> None:
+        self.first, self.second = first, second
+        self.notes: List[str] = []
+
+    def reason(self) -> Optional[str]:
+        """Why the steps of both are not those of one clock."""
+        one, other = self.first, self.second
+        if not one.reason and not other.reason and one.clocks and other.clocks and one.clocks != other.clocks:
+            return f"the clocks are {', '.join(one.clocks)} and {', '.join(other.clocks)}"
+        return one.reason or other.reason
+
+    def models(self) -> List[Any]:
+        """The models of both, with what is paired at one place."""
+        first, second = self.first, self.second
+        for direction in ("input", "output"):
+            self.need_same(direction)
+        bad = self.assertions()
+        undriven = [len(it.undriven()) for it in (first, second)]
+        if any(undriven):
+            counts = f"{undriven[0]} of {visible(first.called)} and {undriven[1]} of {visible(second.called)}"
+            self.notes.append(f"what is undriven, x or z ({counts}) is paired in the order of Yosys")
+        starts = self.starts()
+        inputs, outputs = first.named("input"), first.named("output")
+        return [
+            it.arranged(inputs, max(undriven), start, outputs, bad) for it, start in zip((first, second), starts)
+        ]
+
+    def need_same(self, direction: str) -> None:
+        """Both have the same inputs, or outputs."""
+        for one, other in ((self.first, self.second), (self.second, self.first)):
+            there = set(other.named(direction))
+            missing = [name for name in one.named(direction) if name not in there]
+            if missing:
+                more = ", .." if len(missing) > 3 else ""
+                names = f"{', '.join(missing[:3])}{more}"
+                raise Trouble(visible(f"{other.called} has no {direction} {names}, as {one.called} has"))
+
+    def assertions(self) -> List[str]:
+        """Those that both have, by name; others are noted."""
+        asserted = [[name for name, _ in it.asserted] for it in (self.first, self.second)]
+        names = [name for name in asserted[0] if all(its.count(name) == 1 for its in asserted)]
+        for it, its in zip((self.first, self.second), asserted):
+            for name in dict.fromkeys(its):
+                if name not in names:
+                    why = "is not compared: it is not one of each design"
+                    self.notes.append(f"assertion {visible(name)} of {visible(it.called)} {why}")
+        return names
+
+    def starts(self) -> List[List[int]]:
+        """The latches without initial value that have a name in common, which are to start alike: these come first."""
+        left, pairs = self.second.unset(), []
+        for at, names in self.first.unset():
+            other = next((it for it in left if it[1] & names), None)
+            if other:
+                left.remove(other)
+                pairs.append((at, other[0]))
+        alone = len(self.first.unset()) - len(pairs)
+        if alone and left:
+            self.notes.append(
+                f"{min(alone, len(left))} bits of registers without initial value start alike in their order, since no "
+                "names are the same"
+            )
+        return [[one for one, _ in pairs], [other for _, other in pairs]]
 
 
 @dataclass(frozen=True)
@@ -1376,7 +2269,9 @@ def seconds(text: str) -> float:
 
 def parse_arguments(arguments: Sequence[str]) -> argparse.Namespace:
     parser = Parser(prog=PROGRAM, add_help=False, allow_abbrev=False)
-    parser.add_argument("--top")
+    parser.add_argument("--equal", action="store_true")
+    parser.add_argument("--by-name", action="store_true")
+    parser.add_argument("--top", dest="tops", action="append", default=[])
     parser.add_argument("-D", dest="defines", action="append", default=[], metavar="NAME[=VALUE]")
     parser.add_argument("-I", dest="include", action="append", default=[], metavar="DIR")
     parser.add_argument("--frames", type=at_least(1), default=50)
@@ -1404,34 +2299,69 @@ def is_verilog(name: str) -> bool:
     return name.lower().endswith(SUFFIXES)
 
 
+@dataclass(frozen=True)
+class Design:
+    """Files of one design, in Verilog with their top module, and what it is called."""
+
+    called: str
+    files: List[str]
+    top: str = ""
+
+
 def check_arguments(given: argparse.Namespace) -> argparse.Namespace:
     """The command line, where it can be meant."""
     if not given.files:
         raise Usage("no file is given")
     if given.keep == "":
         raise Usage("--keep needs the name of a folder")
-    given.verilog = any(is_verilog(name) for name in given.files)
+    words = [files_of(word) for word in given.files] if given.equal else [given.files]
+    given.verilog = any(is_verilog(name) for files in words for name in files)
+    if given.by_name and not given.equal:
+        raise Usage("--by-name is for --equal")
     if given.verilog:
-        check_verilog_arguments(given)
-    elif len(given.files) > 1:
-        raise Usage("one AIGER model at a time; Verilog files end in .v, .sv, .vh or .svh")
-    elif given.top is not None or given.defines or given.include:
+        check_verilog_arguments(given, [name for files in words for name in files])
+    elif given.tops or given.defines or given.include:
         raise Usage("--top, -D and -I are for Verilog files: .v, .sv, .vh or .svh")
+    elif not given.equal and len(given.files) > 1:
+        raise Usage("one AIGER model at a time; Verilog files end in .v, .sv, .vh or .svh")
+    if given.equal:
+        given.designs = two_designs(given, words if given.verilog else [[word] for word in given.files])
+    elif len(given.tops) > 1:
+        raise Usage("--top is given twice, which is for --equal")
     return given
 
 
-def check_verilog_arguments(given: argparse.Namespace) -> None:
-    if given.top is None:
+def files_of(word: str) -> List[str]:
+    """The files of a design: one, or several with commas between."""
+    return [word] if os.path.exists(word) else word.split(",")
+
+
+def two_designs(given: argparse.Namespace, words: List[List[str]]) -> List[Design]:
+    """The two designs that are compared; one word is both where two tops are named."""
+    tops, called = given.tops or [""], list(given.files)
+    if len(words) == 1 and len(tops) == 2:
+        words, called = 2 * words, 2 * called
+    if len(words) != 2 or len(tops) > 2:
+        hint = "; of one with --top twice both are taken" if given.verilog and len(words) == 1 else ""
+        raise Usage(f"--equal needs two designs, and {len(words)} {'is' if len(words) == 1 else 'are'} given{hint}")
+    if called[0] == called[1]:
+        called = list(tops) if len(set(tops)) == 2 else ["the first", "the second"]
+    return [Design(*of) for of in zip(called, words, [tops[0], tops[-1]])]
+
+
+def check_verilog_arguments(given: argparse.Namespace, names: List[str]) -> None:
+    if not given.tops:
         raise Usage("--top NAME is needed with Verilog files")
-    other = next((name for name in given.files if not is_verilog(name)), None)
+    other = next((name for name in names if not is_verilog(name)), None)
     if other is not None:
         raise Usage(f"not a Verilog file (.v, .sv, .vh or .svh): {visible(other)}")
-    if not re.fullmatch(r"[^\s;\"'#\\$][^\s;\"#]*", given.top):
-        raise Usage(f"not the name of a module: {visible(given.top)}")
+    for top in given.tops:
+        if not re.fullmatch(r"[^\s;\"'#\\$][^\s;\"#]*", top):
+            raise Usage(f"not the name of a module: {visible(top)}")
     for define in given.defines:
         if not re.fullmatch(r"[A-Za-z_][A-Za-z0-9_$]*(=[^\n\r]*)?", define):
             raise Usage(f"not NAME or NAME=VALUE: -D {visible(define)}")
-    for name in given.files:
+    for name in names:
         with open(name, "rb") as file:
             file.read(1)
 
@@ -1439,16 +2369,33 @@ def check_verilog_arguments(given: argparse.Namespace) -> None:
 # ---------------------------------------------------------------- what is kept
 
 
+#: what the files are called that show the answers of all pairs at once
+TOGETHER = "together"
+
+
 class Keeper:
     """Puts what shows the answers into the user's folder, each file at once."""
+
+    #: what the model's file is called, and of what a script speaks
+    called, shown = "model", "the model with this digest"
 
     def __init__(self, folder: Path, model: Path, aiger: Aiger) -> None:
         self.folder, self.path, self.aiger = folder, model, aiger
         self.names: Set[str] = set()
+        self.has_all = False
+        #: of each kept model the line that says its digest
+        self.digests: List[str] = []
         folder.mkdir(parents=True, exist_ok=True)
-        self.digest = hashlib.sha256(model.read_bytes()).hexdigest()
-        self.model = f"model-{self.digest[:16]}.aig"
-        self.put(self.model, model.read_bytes())
+        self.model = self.put_model(self.called, model)
+
+    def put_model(self, name: str, path: Path) -> str:
+        """Keeps a model by a name that has its digest."""
+        data = path.read_bytes()
+        digest = hashlib.sha256(data).hexdigest()
+        kept = f"{name}-{digest[:16]}.aig"
+        self.put(kept, data)
+        self.digests.append(f"{digest}  {kept}")
+        return kept
 
     def put(self, name: str, data: bytes, mode: int = 0o666) -> Path:
         """Writes a file beside its place, and renames it into that."""
@@ -1466,7 +2413,7 @@ class Keeper:
 
     def name(self, assertion: Assertion) -> str:
         """A name for the files of an assertion, which no other has."""
-        base = re.sub(r"[^A-Za-z0-9_.+-]", "_", assertion.name).lstrip(".-")[:100] or "assertion"
+        base = re.sub(r"[^A-Za-z0-9_.+-]", "_", assertion.file).lstrip(".-")[:100] or "assertion"
         name, count = base, 1
         while name.lower() in self.names:
             count += 1
@@ -1477,33 +2424,118 @@ class Keeper:
     def keep(self, assertion: Assertion, verdict: Verdict) -> None:
         name = self.name(assertion)
         if verdict.witness:
-            waves = verdict.witness.with_suffix(".vcd")
-            words = ("--witness", "--vcd", self.path, verdict.witness)
-            told = self.aiger.run("aigsim", *words, folder=waves.parent, output=waves)
-            if told.status != 0:
-                raise Trouble(aiger_failure(told))
-            self.put(f"{name}.vcd", waves.read_bytes())
+            self.put_run(name, verdict.witness)
             verdict.kept = self.put(f"{name}.aiw", verdict.witness.read_bytes())
         if verdict.refutation:
+            proof = self.put_proof(TOGETHER if verdict.of_all else name, verdict)
+            script = self.script(proof, assertion, verdict).encode(errors="replace")
+            self.put(f"{name}.check.sh", script, 0o777)
+
+    def put_run(self, name: str, witness: Path) -> None:
+        """Keeps what shows the run of a witness."""
+        waves = self.traced("--witness", "--vcd", self.path, witness, output=witness.with_suffix(".vcd"))
+        self.put(f"{name}.vcd", waves)
+
+    def traced(self, *words: Any, output: Path) -> bytes:
+        """What aigsim says."""
+        told = self.aiger.run("aigsim", *words, folder=output.parent, output=output)
+        if told.status != 0:
+            raise Trouble(aiger_failure(told))
+        return output.read_bytes()
+
+    def put_proof(self, name: str, verdict: Verdict) -> str:
+        """Keeps what shows an answer; what shows all answers is kept once."""
+        if not (verdict.of_all and self.has_all):
             self.put(f"{name}.drat", verdict.refutation.read_bytes())
             if verdict.invariant:
                 self.put(f"{name}.pla", verdict.invariant.read_bytes())
-            self.put(f"{name}.check.sh", self.script(name, assertion, verdict).encode(errors="replace"), 0o777)
+        self.has_all = self.has_all or verdict.of_all
+        return name
 
-    def script(self, name: str, assertion: Assertion, verdict: Verdict) -> str:
+    def script(self, proof: str, assertion: Assertion, verdict: Verdict) -> str:
         """Checks the answer again, by aiger alone."""
-        how = f"--invariant {name}.pla" if verdict.invariant else f"--frames {verdict.steps}"
-        options = f"{how} --bad {assertion.bad} --refutation {name}.drat"
+        how = f"--invariant {proof}.pla" if verdict.invariant else f"--frames {verdict.steps}"
+        bad = "" if verdict.of_all else f"--bad {assertion.bad} "
+        checks = [f'echo "{line}" | sha256sum --check --quiet || exit 1' for line in self.digests]
         lines = [
             "#!/bin/sh",
-            f"# {assertion}: {verdict}",
-            "# Ends with 0 exactly if aiger says so again, of the model with this digest.",
+            f"# {assertion}: {assertion.said(verdict)}",
+            f"# Ends with 0 exactly if aiger says so again, of {self.shown}.",
             'CDPATH= cd -- "$(dirname -- "$0")" || exit 2',
-            f'echo "{self.digest}  {self.model}" | sha256sum --check --quiet || exit 1',
-            f'answer=$("${{AIGER:-aiger}}" aigunroll {options} {self.model}) || exit 1',
-            f'[ "$answer" = "{verdict}" ]',
+            *checks,
+            *self.asks(f"{how} {bad}--refutation {proof}.drat"),
+            f'[ "$answer" = "{verdict.claim()}" ]',
         ]
         return "\n".join([*lines, ""])
+
+    def asks(self, options: str) -> List[str]:
+        """The lines that get an answer of the model."""
+        return [f'answer=$("${{AIGER:-aiger}}" aigunroll {options} {self.model}) || exit 1']
+
+
+class KeeperOfTwo(Keeper):
+    """Keeps two designs, and what shows whether they are equal."""
+
+    called, shown = "miter", "the two models with these digests"
+
+    def __init__(self, folder: Path, model: Path, aiger: Aiger, sides: Sides) -> None:
+        super().__init__(folder, model, aiger)
+        self.sides = sides
+        # no pair may have the name of what shows all
+        self.names.add(TOGETHER)
+        self.digests.clear()
+        self.two = [self.put_model("first", sides.first.path), self.put_model("second", sides.second.path)]
+
+    def asks(self, options: str) -> List[str]:
+        by_name = "--by-name " * self.sides.by_name
+        return [
+            'aiger=${AIGER:-aiger}',
+            f'answer=$("$aiger" aigmiter {by_name}{" ".join(self.two)} |',
+            f'  "$aiger" aigunroll {options} -) || exit 1',
+        ]
+
+    def put_run(self, name: str, witness: Path) -> None:
+        """Keeps the stimulus, and one waveform of both designs."""
+        _, _, state, *steps = witness.read_text().split("\n")
+        lines = [*steps[: steps.index(".")], ""]
+        stimulus = witness.with_suffix(".stimulus")
+        stimulus.write_text("\n".join(lines))
+        count, waves = len(self.sides.first.circuit.latches), []
+        for side, start in ((self.sides.first, state), (self.sides.second, state[count:])):
+            started = witness.with_suffix(".aig")
+            started.write_bytes(started_at(side.circuit, start).write())
+            waves.append(self.traced("--vcd", started, stimulus, output=witness.with_suffix(".vcd")))
+        self.put(f"{name}.vcd", waves_beside(*waves))
+        self.put(f"{name}.stimulus", stimulus.read_bytes())
+
+
+def started_at(circuit: Any, state: str) -> Any:
+    """A circuit whose latches start at these values."""
+    parts = {name: getattr(circuit, name) for name in CIRCUIT}
+    latches = [(latch.literal, latch.next, int(value)) for latch, value in zip(circuit.latches, state)]
+    return aigtools().Circuit(**{**parts, "latches": latches})
+
+
+CIRCUIT = ("max_var", "inputs", "outputs", "bad", "constraints", "gates", "symbols")
+
+
+def waves_beside(first: bytes, second: bytes) -> bytes:
+    """One dump of two that have the same times: each is a scope, and its codes begin with a letter of its own."""
+    heads, changes = [], {}
+    for name, letter, dump in ((b"first", b"a", first), (b"second", b"b", second)):
+        head, _, body = dump.partition(b"$enddefinitions $end\n")
+        scoped = head[head.index(b"$scope") :].replace(b"$scope module aiger ", b"$scope module " + name + b" ", 1)
+        heads.append(re.sub(rb"(?m)^(\$var \w+ \d+ )", rb"\1" + letter, scoped))
+        for line in body.splitlines():
+            if line[:1] == b"#":
+                time_ = int(line[1:])
+            else:
+                value, space, code = line.rpartition(b" ") if line[:1] == b"b" else (line[:1], b"", line[1:])
+                changes.setdefault(time_, []).append(value + space + letter + code)
+        changes.setdefault(time_, [])
+    lines = [line for at in sorted(changes) for line in (b"#%d" % at, *changes[at])]
+    start = first[: first.index(b"$scope")]
+    return b"".join([start, *heads, b"$enddefinitions $end\n", b"\n".join([*lines, b""])])
 
 
 # ---------------------------------------------------------------- the run
@@ -1517,6 +2549,8 @@ class Run:
         self.progress = Progress(sys.stderr.isatty() and not given.quiet)
         self.noted: Set[str] = set()
         self.replay: Optional[Replay] = None
+        self.sides: Optional[Sides] = None
+        self.of_all: Optional[Verdict] = None
         self.verdicts: List[Tuple[Assertion, Verdict]] = []
 
     def note(self, words: str) -> None:
@@ -1530,13 +2564,15 @@ class Run:
         # what is blocked here would be in the programs that are started
         signal.pthread_sigmask(signal.SIG_UNBLOCK, SIGNALS)
         tools = self.tools()
-        model, assertions = self.of_verilog() if self.given.verilog else self.of_aiger(tools.aiger)
+        model, assertions = self.asked(tools.aiger)
         self.note_contradiction(model, tools)
-        keeper = Keeper(Path(self.given.keep), model.path, tools.aiger) if self.given.keep is not None else None
+        keeper = self.keeper(model, tools.aiger)
         searches = [
             Search(assertion, model, tools, self.folder / str(at), self.progress)
             for at, assertion in enumerate(assertions)
         ]
+        if self.sides and assertions:
+            self.ask_together(model, tools, searches)
         with ThreadPoolExecutor(self.given.jobs) as pool:
             try:
                 for search, verdict in zip(searches, pool.map(self.answer, searches)):
@@ -1544,15 +2580,34 @@ class Run:
             except BaseException:
                 self.children.stop()
                 raise
-        show(json.dumps({"assertions": [*self.records()]}) if self.given.json else self.summary())
+        show(json.dumps(self.records()) if self.given.json else self.summary())
         answers = {verdict.answer for _, verdict in self.verdicts}
         if Answer.REACHED in answers:
             return 1
         return 2 if not answers or Answer.UNKNOWN in answers else 0
 
+    def asked(self, aiger: Aiger) -> Tuple[Model, List[Assertion]]:
+        """The model, and what is to be said of its bad states."""
+        if self.given.equal:
+            return self.of_two(aiger)
+        return self.of_verilog() if self.given.verilog else self.of_aiger(aiger)
+
+    def keeper(self, model: Model, aiger: Aiger) -> Optional[Keeper]:
+        if self.given.keep is None:
+            return None
+        folder = Path(self.given.keep)
+        return KeeperOfTwo(folder, model.path, aiger, self.sides) if self.sides else Keeper(folder, model.path, aiger)
+
+    def ask_together(self, model: Model, tools: Tools, searches: List[Search]) -> None:
+        """Asks of all pairs at once; what came of it is for each."""
+        together = Together(self.sides, model, tools, self.folder / TOGETHER, self.progress)
+        self.of_all = together.verdict()
+        for search in searches:
+            search.rows, search.halves = together.rows, together.halves
+
     def answer(self, search: Search) -> Verdict:
         """The answer for an assertion; a counterexample is replayed."""
-        verdict = search.verdict()
+        verdict = replace(self.of_all) if self.of_all else search.verdict()
         if verdict.witness and self.replay and not self.given.quiet:
             shown = self.replay.shows(search.assertion, verdict.witness)
             if shown is not None:
@@ -1569,7 +2624,7 @@ class Run:
         self.verdicts.append((search.assertion, verdict))
         self.progress.clear()
         if not self.given.json:
-            show(f"{search.assertion}: {verdict}")
+            show(f"{search.assertion}: {search.assertion.said(verdict)}")
 
     def tools(self) -> Tools:
         """The programs; what is missing is told."""
@@ -1608,35 +2663,103 @@ class Run:
 
     def of_verilog(self) -> Tuple[Model, List[Assertion]]:
         """The model that Yosys writes."""
+        program, place, top = self.yosys(), self.folder / "verilog", self.given.tops[0]
+        with contextlib.ExitStack() as stack:
+            front = Front(self.started(stack, program, self.given.files, place), top)
+            assertions = front.translate()
+        self.note_all(front)
+        if not assertions:
+            self.must_say("there is no assertion")
+        self.replay = Replay(program, self.children, place, top, front.clock, front.replays)
+        return Model(place / "model.aig"), assertions
+
+    def yosys(self) -> str:
         program = self.program("YOSYS", "yosys")
         if not program:
             raise Trouble(f"not found: {visible(os.environ.get('YOSYS') or 'yosys')}")
-        place = self.folder / "verilog"
-        place.mkdir()
-        sources = Sources(self.given.files, self.given.include, self.given.defines, place)
-        try:
-            with Yosys(program, self.children, sources) as yosys:
-                front = Front(yosys, self.given.top)
-                assertions = front.translate()
-        finally:
-            sources.close()
-        for words in (*(f"Yosys: {line}" for line in yosys.warnings()), *front.notes):
-            self.note(words)
-        if not assertions:
-            self.must_say("there is no assertion")
-        self.replay = Replay(program, self.children, place, self.given.top, front.clock, front.replays)
-        return Model(place / "model.aig"), assertions
+        return program
 
-    def of_aiger(self, aiger: Aiger) -> Tuple[Model, List[Assertion]]:
-        """The model that is given, in binary and without justice and fairness, of which nothing is said here."""
-        name = self.given.files[0]
-        given, path = self.folder / "given", self.folder / "model.aig"
+    def started(self, stack: contextlib.ExitStack, program: str, files: List[str], place: Path) -> Yosys:
+        """A Yosys for these files, which ends with the stack."""
+        place.mkdir()
+        sources = Sources(files, self.given.include, self.given.defines, place)
+        stack.callback(sources.close)
+        return stack.enter_context(Yosys(program, self.children, sources))
+
+    def note_all(self, front: Front) -> None:
+        for words in (*(f"Yosys: {line}" for line in front.yosys.warnings()), *front.notes):
+            self.note(words)
+
+    def of_two(self, aiger: Aiger) -> Tuple[Model, List[Assertion]]:
+        """The miter of two designs."""
+        self.sides = sides = self.two_of_verilog() if self.given.verilog else self.two_of_aiger(aiger)
+        path = self.folder / "model.aig"
+        failure = aiger.miter(sides.first.path, sides.second.path, path, sides.by_name)
+        if failure:
+            side = sides.first if failure[0] == sides.first.path else sides.second
+            raise Trouble(visible(f"{side.called}: {failure[1]}"))
+        model, claims = Model(path), sides.claims()
+        if len(model.circuit.bad) != len(claims):
+            raise Trouble("which bad state of the miter is which pair cannot be told")
+        if not any(isinstance(it, Pair) for it in claims):
+            self.must_say("there is no output to compare")
+        other = sides.other_name()
+        if other:
+            names = f"{visible(other[0])} of {visible(sides.first.called)} with {visible(other[1])}"
+            self.note(f"paired by their places, as {names} of {visible(sides.second.called)}; by symbols: --by-name")
+        return model, claims
+
+    def two_of_aiger(self, aiger: Aiger) -> Sides:
+        """Two models that are given."""
+        sides = []
+        for name, design in zip(("first", "second"), self.given.designs):
+            path = self.folder / f"{name}.aig"
+            self.copied(aiger, design.files[0], path)
+            sides.append(Side(design.called, path, aigtools().read(path.read_bytes())))
+        if self.given.by_name:
+            sides[1] = in_order_of(*sides)
+        return Sides(*sides, self.given.by_name)
+
+    def two_of_verilog(self) -> Sides:
+        """The models that Yosys writes of two designs, with the same inputs and outputs."""
+        program, designs = self.yosys(), self.given.designs
+        with contextlib.ExitStack() as stack:
+            fronts = []
+            for at, design in enumerate(designs):
+                yosys = self.started(stack, program, design.files, self.folder / f"verilog{at}")
+                fronts.append(Ports(yosys, design.top, design.called))
+                fronts[-1].flatten()
+            two = TwoPorts(*fronts)
+            reason = two.reason()
+            for front in fronts:
+                front.write(reason)
+                front.read_model()
+        for front in fronts:
+            self.note_all(front)
+        models = two.models()
+        for words in two.notes:
+            self.note(words)
+        sides = []
+        for name, design, circuit in zip(("first", "second"), designs, models):
+            path = self.folder / f"{name}.aig"
+            path.write_bytes(circuit.write())
+            sides.append(Side(design.called, path, aigtools().read(path.read_bytes())))
+        return Sides(*sides, True)
+
+    def copied(self, aiger: Aiger, name: str, path: Path) -> None:
+        """Writes a model that is given, in binary."""
+        given = path.with_name(f"{path.stem}.given")
         with open(name, "rb") as file:
             given.write_bytes(file.read())
         failure = aiger.to_binary(given, path)
         if failure:
             line, what = re.fullmatch(r"(?:line (\d+): )?(.*)", failure, re.DOTALL).groups()
             raise Trouble(visible(f"{name}:{line}: {what}" if line else f"{name}: {what}"))
+
+    def of_aiger(self, aiger: Aiger) -> Tuple[Model, List[Assertion]]:
+        """The model that is given, in binary and without justice and fairness, of which nothing is said here."""
+        name, path = self.given.files[0], self.folder / "model.aig"
+        self.copied(aiger, name, path)
         circuit = aigtools().read(path.read_bytes())
         if circuit.justice_sizes or circuit.fairness:
             self.note(f"{visible(name)}: justice properties and fairness constraints are left out")
@@ -1644,7 +2767,7 @@ class Run:
         if not circuit.bad:
             hint = "; of its outputs aiger aigtoaig --outputs-as-bad makes some" if circuit.outputs else ""
             self.must_say(f"{visible(name)}: there is no bad state{hint}")
-        names = {it.position: it.name.decode(errors="surrogateescape") for it in circuit.symbols if it.kind == "b"}
+        names = named_by_symbols(circuit, "b")
         return Model(path), [Assertion(names.get(at, f"b{at}"), name, at) for at in range(len(circuit.bad))]
 
     def must_say(self, words: str) -> None:
@@ -1657,27 +2780,74 @@ class Run:
         if not circuit.constraints or not circuit.bad or not tools.solver or self.given.quiet:
             return
         parts = {name: getattr(circuit, name) for name in ("max_var", "inputs", "latches", "constraints", "gates")}
-        path, clauses = self.folder / "first.aig", self.folder / "first.cnf"
+        path, clauses = self.folder / "start.aig", self.folder / "start.cnf"
         path.write_bytes(aigtools().Circuit(bad=[1], **parts).write())
         told = tools.aiger.run("aigunroll", "--frames", 1, "--cnf", path, clauses, folder=self.folder)
         if told.status == 0 and tools.solver.solve(clauses, tools.limits.time)[0] is Said.UNSATISFIABLE:
-            self.note("the assumptions contradict one another in the first step, so no run breaks anything")
+            nothing = "shows a difference" if self.given.equal else "breaks anything"
+            self.note(f"the assumptions contradict one another in the first step, so no run {nothing}")
 
-    def records(self) -> Iterator[Dict[str, Any]]:
-        for assertion, verdict in self.verdicts:
-            told = {"name": assertion.name, "source": assertion.place, "answer": verdict.answer.value}
-            more = {"steps": verdict.steps, "witness": verdict.kept and str(verdict.kept), "reason": verdict.reason}
-            yield {**told, **{key: value for key, value in more.items() if value is not None}}
+    def records(self) -> Dict[str, List[Dict[str, Any]]]:
+        """What --json says."""
+        if not self.given.equal:
+            return {"assertions": [{**self.record(*it, source=it[0].place)} for it in self.verdicts]}
+        pairs, assumed = ([it for it in self.verdicts if isinstance(it[0], kind)] for kind in (Pair, Assumption))
+        return {"pairs": [self.record(*it) for it in pairs], "assumptions": [self.record(*it) for it in assumed]}
+
+    def record(self, assertion: Assertion, verdict: Verdict, **more: Any) -> Dict[str, Any]:
+        told = {"name": assertion.name, **more, "answer": assertion.called(verdict.answer)}
+        rest = {"steps": verdict.steps, "witness": verdict.kept and str(verdict.kept), "reason": verdict.reason}
+        return {**told, **{key: value for key, value in rest.items() if value is not None}}
 
     def summary(self) -> str:
-        answers = [verdict.answer for _, verdict in self.verdicts]
-        counts = []
+        if not self.given.equal:
+            return self.sum_of("assertion", self.verdicts)
+        pairs, assumed = ([it for it in self.verdicts if isinstance(it[0], kind)] for kind in (Pair, Assumption))
+        return "; ".join([self.sum_of("pair", pairs), *[self.sum_of("assumption", assumed)] * bool(assumed)])
+
+    def sum_of(self, unit: str, verdicts: List[Tuple[Assertion, Verdict]]) -> str:
+        """How many have each answer."""
+        answers, counts = [verdict.answer for _, verdict in verdicts], []
         for answer in Answer:
             if answer in answers:
-                bound = f" {self.given.frames}" if answer is Answer.NONE_WITHIN else ""
-                counts.append(f"{answers.count(answer)} {answer.value}{bound}")
-        head = f"{len(answers)} assertion{'' if len(answers) == 1 else 's'}"
+                asked = verdicts[0][0]
+                bound = f" {counted(self.given.frames, asked.words.unit)}" if answer is Answer.NONE_WITHIN else ""
+                counts.append(f"{answers.count(answer)} {asked.called(answer)}{bound}")
+        head = counted(len(answers), unit)
         return f"{head}: {', '.join(counts)}" if counts else head
+
+
+def in_order_of(first: Side, second: Side) -> Side:
+    """The second with inputs and what is compared in the order in which the first one names them. Where names do not
+    fit it stays as it is, since aiger says why."""
+    circuit, outputs = second.circuit, len(first.circuit.outputs)
+    named, literals = second.symbols_compared(), [*circuit.outputs, *circuit.bad]
+    inputs = places_by_name(first.symbols("i"), second.symbols("i"), len(circuit.inputs))
+    order = places_by_name(first.symbols_compared(), named, len(literals))
+    if inputs is None or order is None:
+        return second
+    symbols = [(it.kind, it.position, it.name) for it in circuit.symbols if it.kind not in "iob"]
+    names = [("i", at, second.symbols("i")[old]) for at, old in enumerate(inputs)]
+    names += [(*(("o", at) if at < outputs else ("b", at - outputs)), named[old]) for at, old in enumerate(order)]
+    made = aigtools().Circuit(
+        max_var=circuit.max_var,
+        inputs=[circuit.inputs[at] for at in inputs],
+        latches=circuit.latches,
+        outputs=[literals[at] for at in order[:outputs]],
+        bad=[literals[at] for at in order[outputs:]],
+        constraints=circuit.constraints,
+        gates=circuit.gates,
+        symbols=symbols + [(kind, at, name.encode(errors="surrogateescape")) for kind, at, name in names],
+    )
+    second.path.write_bytes(made.write())
+    return Side(second.called, second.path, aigtools().read(second.path.read_bytes()))
+
+
+def places_by_name(first: Dict[int, str], second: Dict[int, str], count: int) -> Optional[List[int]]:
+    """Where the second has each name of the first, if both have the same names, a different one at each place."""
+    places = {name: at for at, name in second.items()}
+    fits = len(first) == len(places) == count and set(first.values()) == set(places)
+    return [places[first[at]] for at in range(count)] if fits else None
 
 
 def without_justice(circuit: Any) -> Any:

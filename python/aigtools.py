@@ -47,8 +47,8 @@ from pathlib import Path
 from typing import Any, Callable, Dict, Iterable, Iterator, List, Mapping, NamedTuple, Optional, Sized, Tuple, Union
 
 __all__ = ["LARGEST", "Circuit", "Entries", "Gate", "Kind", "Latch", "Refused", "Step", "Symbol"]
-__all__ += ["answer", "clauses", "confirm", "convert", "dump", "invariant_clauses", "never", "read", "refute"]
-__all__ += ["simulate", "unroll", "version"]
+__all__ += ["answer", "clauses", "confirm", "convert", "dump", "invariant_clauses", "miter", "never", "read"]
+__all__ += ["refute", "simulate", "unroll", "version"]
 
 Data = Union[bytes, bytearray, memoryview]
 
@@ -102,6 +102,13 @@ class Kind(enum.IntEnum):
     TOO_LARGE_INVARIANT = 38
     BAD_COUNTS = 39
     BAD_VALUE = 40
+    NOT_COMPARABLE = 41
+    OTHER_INPUTS = 42
+    OTHER_OUTPUTS = 43
+    TOO_LARGE_TO_COMPARE = 44
+    NO_NAME = 45
+    NAME_TWICE = 46
+    NO_SUCH_NAME = 47
 
 
 class Refused(ValueError):
@@ -111,7 +118,9 @@ class Refused(ValueError):
     line      the line, counted from 1, where it is wrong in one; for BAD_MAP_LINE a line of the map
     gate      the gate of a binary file, counted from 1, where it is wrong in one
     subject   the variable, the literal or the bad state that the fault names, or 0
-    entry     of a circuit, the name and the index of what is wrong, as ("gates", 0)
+    entry     of a circuit, the name and the index of what is wrong, as ("gates", 0); of two that are paired by names,
+              those of the input, output or bad state, as ("inputs", 0)
+    second    whether it is the second of two circuits
 
     >>> try:
     ...     read(b"aag 3 1 0 0 1\\n2\\n6 4 2\\n")
@@ -128,6 +137,7 @@ class Refused(ValueError):
         gate: Optional[int],
         subject: int,
         entry: Optional[Tuple[str, int]] = None,
+        second: bool = False,
     ) -> None:
         super().__init__(message)
         self.message = message
@@ -136,6 +146,7 @@ class Refused(ValueError):
         self.gate = gate
         self.subject = subject
         self.entry = entry
+        self.second = second
 
 
 class _Outcome(ctypes.Structure):
@@ -159,9 +170,13 @@ class _Counts(ctypes.Structure):
     ]
 
 
-_DONE, _TOO_SHORT, _REFUSED, _OUT_OF_MEMORY, _BAD_OPTIONS, _NOT_CONFIRMED = range(6)
-_WHOLE, _LINE, _GATE, _MAP_LINE, _WORD, _VALUE = range(6)
+_DONE, _TOO_SHORT, _REFUSED, _OUT_OF_MEMORY, _BAD_OPTIONS, _NOT_CONFIRMED, _SECOND_REFUSED = range(7)
+_WHOLE, _LINE, _GATE, _MAP_LINE, _WORD, _VALUE, _INPUT, _OUTPUT, _BAD = range(9)
 _ASCII, _STRIP, _KEEP_MAP, _UNDO_MAP, _PROPERTIES, _VCD, _OUTPUTS_AS_BAD, _ORDERED = 1, 2, 4, 8, 16, 32, 64, 128
+_BY_NAME = 256
+
+# what has a place of its own in a fault
+_LISTS = {_INPUT: "inputs", _OUTPUT: "outputs", _BAD: "bad"}
 
 
 # the number that stands for all bad states
@@ -214,6 +229,7 @@ def _load() -> ctypes.CDLL:
         ("aigtools_refute", (number, number, number, *text, *text, outcome), number),
         ("aigtools_invariant_clauses", (number, number, *text, *text, *room, outcome), number),
         ("aigtools_never", (number, number, *text, *text, *text, outcome), number),
+        ("aigtools_miter", (number, number, *text, *text, *room, outcome), number),
         ("aigtools_simulate", (number, number, *text, *text, *room, outcome), number),
         ("aigtools_witness", (number, *text, *text, outcome), number),
         ("aigtools_dump", (number, *text, *text, *room, outcome), number),
@@ -248,15 +264,20 @@ def _raise(outcome: _Outcome, parts: Optional[Mapping[str, Sized]] = None) -> No
         raise MemoryError
     if outcome.status == _BAD_OPTIONS:
         raise ValueError(f"an option that libaigtools {version()} does not know")
+    second = outcome.status == _SECOND_REFUSED
+    # the library has words for a refused input, whichever of two it is
+    outcome.status = _REFUSED
     room = ctypes.create_string_buffer(80)
     length = _library.aigtools_message(outcome, room, len(room))
     words = room.raw[:length].decode()
     line = outcome.number if outcome.place in (_LINE, _MAP_LINE) else None
     gate = outcome.number if outcome.place == _GATE else None
     entry = _entry(parts or {}, outcome.number) if outcome.place in (_WORD, _VALUE) else None
-    if entry:
+    if outcome.place in _LISTS:
+        entry = _LISTS[outcome.place], outcome.number
+    elif entry:
         words = f"{entry[0]}[{entry[1]}]: {words.partition(': ')[2]}"
-    raise Refused(words, Kind(outcome.kind), line, gate, outcome.subject, entry)
+    raise Refused(words, Kind(outcome.kind), line, gate, outcome.subject, entry, second)
 
 
 def _address(output: bytearray) -> int:
@@ -474,6 +495,30 @@ def never(
     )
     if outcome.status != _DONE:
         _raise(outcome)
+
+
+def miter(
+    first: Data, second: Data, *, by_name: bool = False, ascii: bool = False, max_var: int = LARGEST
+) -> bytes:
+    """The miter of the circuits of two AIGER files, as ``aiger aigmiter`` writes it: one circuit with the inputs of the
+    first, whose bad states say where the two differ. If ``refute`` shows that none is reached within K steps, the two
+    are equal for K steps; if ``never`` does, at every step. Of a Refused, ``second`` says which circuit it speaks of.
+
+    by_name   pair inputs, outputs and bad states by their symbols, and not place by place
+    ascii     write ASCII, and not binary
+
+    >>> twice = miter(b"aag 1 1 0 1 0\\n2\\n3\\n", b"aag 2 1 0 1 1\\n4\\n3\\n2 4 4\\n")
+    >>> simulate(twice, b"0\\n1\\n", properties=True)
+    b' 0   0 \\n 1   0 \\n.\\n'
+    """
+    first, second = _bytes(first), _bytes(second)
+    options, limit = _options((ascii, _ASCII), (by_name, _BY_NAME)), _number("max_var", max_var)
+    return _made(
+        (4 if ascii else 2) * (len(first) + len(second)) + 64,
+        lambda output, room, outcome: _library.aigtools_miter(
+            options, limit, first, len(first), second, len(second), output, room, outcome
+        ),
+    )[0]
 
 
 def simulate(

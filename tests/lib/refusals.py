@@ -39,7 +39,20 @@ line N: does not follow
 no refutation
 line N: not a character for each latch
 line N: met by a first state
-too large""".split("\n")
+too large
+justice or fairness cannot be compared
+not as many inputs
+not as many outputs and bad states
+too large to compare
+input N: no name
+output N: no name
+bad state N: no name
+input N: name given twice
+output N: name given twice
+bad state N: name given twice
+input N: no such name in the other file
+output N: no such name in the other file
+bad state N: no such name in the other file""".split("\n")
 OF_DEVICES = ["cannot read", "cannot write"]
 NAMED = [*OF_FILES, *OF_MAPS, *OF_USE, *OF_DEVICES]
 # of memory and of arguments, without a name; and what clap refuses, in words of its own
@@ -64,6 +77,7 @@ model and refutation are both standard input
 --invariant needs --cnf or --refutation
 model and invariant are both standard input
 invariant and refutation are both standard input
+both circuits are standard input
 --sync needs the name of a destination
 an argument is not UTF-8 text""".split("\n")
 BY_CLAP = "error: .."

@@ -5,7 +5,9 @@ import subprocess
 from pathlib import Path
 
 TOP = Path(__file__).resolve().parents[2]
-FLAGS = "--ascii -a --strip -s --keep-map --undo-map --outputs-as-bad --properties --witness --batch --vcd --cnf".split()
+FLAGS = """--ascii -a --strip -s --keep-map --undo-map --outputs-as-bad --properties --witness --batch --vcd --cnf
+    --by-name""".split()
+TOOLS = "aigtoaig", "aigunroll", "aigsim", "aigmiter"
 # prints each row of the table, each word of it ended by a NUL
 ROWS = 'work=$1; . tests/rows/all.sh; row() { printf "%s\\0" $# "$@"; }; rows'
 ESCAPE = re.compile(rb"\\(0[0-7]{0,3}|x[0-9a-f]{1,2}|.)", re.S)
@@ -51,19 +53,18 @@ def rows(folder):
         row, words = words[1 : count + 1], words[count + 1 :]
         name, given, output, errors, status = row[:5]
         asked = options_of([word.decode("utf-8", "surrogateescape") for word in row[5:]]) if len(row) > 5 else None
-        if asked is None or status not in (b"0", b"1") or asked[0] not in ("aigtoaig", "aigunroll", "aigsim"):
+        if asked is None or status not in (b"0", b"1") or asked[0] not in TOOLS:
             continue
         tool, options, files = asked
         written = [options[it] for it in ("invariant", "answer", "refutation") if it in options]
         if written:
             files = [*(files or ["-"]), *written]
         inputs = [meant(given) if it == "-" else Path(it).read_bytes() if os.path.isfile(it) else None for it in files]
+        whole = tool != "aigsim" or "batch" in options or "witness" in options or status == b"0"
         if tool == "aigsim":
             inputs += [meant(given)] * (len(inputs) == 1)
-            whole = "batch" in options or "witness" in options or status == b"0"
-        else:
+        elif tool != "aigmiter":
             inputs = (inputs or [meant(given)]) + [b""] * (not written)
-            whole = True
         if whole and len(inputs) == 1 + (len(written) or 1) and None not in inputs:
             yield name.decode(), tool, options, inputs, (meant(output), meant(errors).decode(), int(status)), files
 

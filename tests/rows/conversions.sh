@@ -983,6 +983,7 @@ Commands:
   aigtoaig   Convert an AIGER file to binary or to ASCII
   aigsim     Simulate a circuit, step by step
   aigunroll  Unroll a circuit, write clauses, check refutations and invariants
+  aigmiter   Make one circuit of two, to show that they are equal
   help       Print this message or the help of the given subcommand(s)
 
 Options:
@@ -1018,14 +1019,14 @@ rows_words() {
     misused 'help on another command' "unrecognized subcommand 'convert'$usage" help convert
     misused 'help on two commands' \
         "unrecognized subcommand 'aigsim'\n\nUsage: aiger aigtoaig [OPTIONS] [source] [destination]" help aigtoaig aigsim
-    for option in --version -V -Vx; do row "the version: $option" 'aag 0 0 0 0 0\n' 'aiger 1.2.0\n' '' 0 "$option"; done
-    row 'the version behind a subcommand' 'aag 0 0 0 0 0\n' 'aiger 1.2.0\n' '' 0 aigtoaig --version
-    row 'the version where a model is wanted' '' 'aiger 1.2.0\n' '' 0 aigsim -V
-    row 'the version where frames are wanted' '' 'aiger 1.2.0\n' '' 0 aigunroll --version x
+    for option in --version -V -Vx; do row "the version: $option" 'aag 0 0 0 0 0\n' 'aiger 1.3.0\n' '' 0 "$option"; done
+    row 'the version behind a subcommand' 'aag 0 0 0 0 0\n' 'aiger 1.3.0\n' '' 0 aigtoaig --version
+    row 'the version where a model is wanted' '' 'aiger 1.3.0\n' '' 0 aigsim -V
+    row 'the version where frames are wanted' '' 'aiger 1.3.0\n' '' 0 aigunroll --version x
     misused 'no option for the version' "unexpected argument '-v' found$usage" -v
     misused 'another subcommand' "unrecognized subcommand 'convert'$usage" convert --ascii
     misused 'a subcommand that is close to all of them' \
-        "unrecognized subcommand 'aigsom'\n\n  tip: some similar subcommands exist: 'aigunroll', 'aigtoaig', 'aigsim'$usage" aigsom x
+        "unrecognized subcommand 'aigsom'\n\n  tip: some similar subcommands exist: 'aigunroll', 'aigtoaig', 'aigmiter', 'aigsim'$usage" aigsom x
     local sim='\n\nUsage: aiger aigsim'
     local all="$sim [OPTIONS] <model> [stimulus]"
     misused 'no model' "the following required arguments were not provided:\n  <model>$sim <model> [stimulus]" aigsim

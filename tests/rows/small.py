@@ -51,6 +51,22 @@ TOKENS_CLAUSES = (
     b"-10 9 0\n-10 4 0\n10 -9 -4 0\n-11 9 0\n-11 8 0\n11 -9 -8 0\n10 11 0\n"
 )
 TOKENS_REFUTED = b"-10 0\n0\n"
+# an uninitialised latch that keeps itself, and one that is negated
+STARTED = b"aag 1 0 1 1 0\n2 2 2\n2\n"
+STARTED_OTHERWISE = b"aig 1 0 1 0 0 1\n3 2\n3\n"
+STARTED_ALIKE = (
+    b"aag 10 0 3 0 7 1 1\n2 2 2\n4 5 4\n12 1\n10\n21\n6 5 2\n8 4 3\n10 9 7\n14 4 2\n16 5 3\n18 17 15\n20 18 13\n"
+)
+STARTED_ALIKE_IMAGE = (
+    b"aig 10 0 3 0 7 1 1\n2 2\n5 4\n1\n12\n21\n\x03\x03\x06\x01\x01\x02\x0a\x02\x0b\x02\x01\x02\x02\x0b"
+)
+# two circuits that are the same by the names of inputs, of outputs and of bad states
+NAMED = b"aag 2 2 0 1 0 1 1\n2\n4\n2\n5\n3\ni0 a\ni1 b\no0 f\nb0 g\nc0 f\n"
+NAMED_OTHERWISE = b"aag 3 2 0 1 1 1 1\n2\n4\n7\n4\n5\n6 2 2\nb0 f\no0 g\ni1 a\ni0 b\nc\n"
+NAMED_ALIKE = (
+    b"aag 11 2 0 0 9 3 1\n2\n4\n16\n22\n8\n3\n8 2 1\n6 4 1\n10 6 6\n"
+    b"12 8 2\n14 9 3\n16 15 13\n18 11 5\n20 10 4\n22 21 19\n"
+)
 
 DUMP = b"$version aiger $end\n$timescale 1 ns $end\n$scope module aiger $end\n$var integer 64 r run $end\n"
 TOGGLE_DUMP = (
@@ -107,6 +123,12 @@ def refuted(name, words, model, refutation, output):
     yield Row(f"{name}, the model by standard input", words, model, output, {"proof": refutation})
 
 
+def compared(name, words, first, second, miter):
+    """A miter, once the second and once the first circuit by standard input."""
+    yield Row(name, f"aigmiter {words} first -", second, miter, {"first": first})
+    yield Row(f"{name}, the first by standard input", f"aigmiter {words} - second", first, miter, {"second": second})
+
+
 def strengthened(name, model, invariant, clauses):
     """The clauses of an invariant, once it and once the model by standard input."""
     yield Row(name, "aigunroll model --invariant - --cnf", invariant, clauses, {"model": model})
@@ -157,6 +179,9 @@ ROWS = [
     *refuted("a binary refutation", "--frames 1", FOUR, FOUR_REFUTED_BINARY, b"none within 1\n"),
     *strengthened("the clauses of an invariant", TOKENS, TOKENS_INVARIANT, TOKENS_CLAUSES),
     *proved("an invariant", TOKENS, TOKENS_INVARIANT, TOKENS_REFUTED),
+    *compared("a miter", "--ascii", STARTED, STARTED_OTHERWISE, STARTED_ALIKE),
+    *compared("a miter in binary", "", STARTED, STARTED_OTHERWISE, STARTED_ALIKE_IMAGE),
+    *compared("a miter by names", "--ascii --by-name", NAMED, NAMED_OTHERWISE, NAMED_ALIKE),
     *simulated("every section and a witness", "--witness", EVERY, b"1\nb1\n1x\n1\n0\n.\n", b"not confirmed\n"),
 ]
 

@@ -17,9 +17,9 @@ from pathlib import Path
 
 sys.dont_write_bytecode = True
 sys.path[0] = str(Path(__file__).resolve().parent.parent)
-from lib import answers, batches, counts, images, invariants, refutations, traces, unrolled, waves, witnesses
+from lib import answers, batches, counts, images, invariants, miters, refutations, traces, unrolled, waves, witnesses
 
-MODULES = images, traces, batches, unrolled, witnesses, waves, answers, refutations, invariants
+MODULES = images, traces, batches, unrolled, witnesses, waves, answers, refutations, invariants, miters
 KINDS = {it.__name__.rpartition(".")[2]: it for it in MODULES}
 
 

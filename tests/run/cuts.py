@@ -6,11 +6,11 @@
 
 The files are those of rows/small.py: circuits in ASCII and binary, with and without a map, stimuli, witnesses, solvers'
 answers, refutations and invariants. What is refused as a circuit must be refused by all tools in the same words. What is
-accepted must have the image, the traces, the unrolled circuit, its clauses, and the answer to a witness that are worked out
-here from its ASCII text. A cut or changed stimulus must have the trace that is worked out here up to its first bad line,
-and nothing with --batch if there is one; a witness must have its answer, and its dump; a solver's answer its witness; an
-invariant its clauses; and of a refutation, of which each bit is turned too, it must be said what the plain checker of
-lib/refutations.py says.
+accepted must have the image, the traces, the unrolled circuit, its clauses, the miter with itself, and the answer to a
+witness that are worked out here from its ASCII text; and of two circuits one that is cut or changed must have their miter.
+A cut or changed stimulus must have the trace that is worked out here up to its first bad line, and nothing with --batch
+if there is one; a witness must have its answer, and its dump; a solver's answer its witness; an invariant its clauses; and
+of a refutation, of which each bit is turned too, it must be said what the plain checker of lib/refutations.py says.
 Whatever comes, the status is 0, 1 or 2, a refusal is one line of a kind that is known, and with it nothing is sent but
 the trace before a bad line.
 
@@ -18,6 +18,7 @@ The last line is 'N passed, M failed', and counts files that were cut or changed
 """
 import collections
 import concurrent.futures
+import dataclasses
 import itertools
 import os
 import sys
@@ -25,7 +26,7 @@ from pathlib import Path
 
 sys.dont_write_bytecode = True
 sys.path[0] = str(Path(__file__).resolve().parent.parent)
-from lib import answers, counts, images, invariants, refusals, refutations, runs, unrolled, waves, witnesses
+from lib import answers, counts, images, invariants, miters, refusals, refutations, runs, unrolled, waves, witnesses
 from lib.soak import calls, generators, oracles
 from rows import small
 
@@ -48,7 +49,7 @@ CIRCUITS = {
     "every section with its map": small.EVERY_MAPPED,
 }
 # what stands beside a circuit that is cut or changed
-STEPS, WITNESS, ROWS = b"0\n1\n.\nx\n", b"1\nb0\n0\n\n\n.\n", b"1 1\n"
+STEPS, WITNESS, ROWS, NOTHING = b"0\n1\n.\nx\n", b"1\nb0\n0\n\n\n.\n", b"1 1\n", b"aag 0 0 0 0 0\n"
 STIMULI = {
     "three steps of a toggle": (small.TOGGLE, b"\n\n\n.\n"),
     "two runs": (small.HELD_IMAGE, b"1\n.\n1\n.\n"),
@@ -69,6 +70,7 @@ REFUTATIONS = {
     "a refutation without its end": (small.FOUR, b"-11 3 10 0\nd 11 0 2 -3 0 c\n-2 3 0 d\n-3 2 0"),
     "a forged refutation": (small.KEPT, b"d 7 9 0\n-7 6 0\n0\n"),
 }
+MITERS = {"one of two circuits": (small.NAMED, small.NAMED_OTHERWISE)}
 INVARIANTS = {
     "an invariant": (small.TOKENS, small.TOKENS_INVARIANT),
     "an invariant without its end": (small.KEPT, b"#1\n.0 1\n\n0 1"),
@@ -77,6 +79,12 @@ INVARIANTS = {
 
 class Wrong(Exception):
     """A run that was not answered as it must be."""
+
+
+def named(canonical):
+    """The circuit of a canonical text, with its symbols."""
+    made, end = generators.parsed(canonical)
+    return dataclasses.replace(made, symbols=end.decode("latin-1"))
 
 
 class Judge:
@@ -107,12 +115,15 @@ class Judge:
         self.runner.put("steps", STEPS)
         self.runner.put("witness", WITNESS)
         self.runner.put("rows", ROWS)
+        self.runner.put("nothing", NOTHING)
+        self.runner.put("same", text)
         canonical, errors, status = self.ask("aigtoaig --ascii", text)
         undoing, unrolling = "aigtoaig --undo-map --ascii", f"aigunroll --frames {FRAMES}"
         if status:
             others = [unrolling, f"{unrolling} --cnf", f"{unrolling} - --refutation steps", "aigunroll --invariant steps --cnf"]
             simulations = ["aigsim - steps", "aigsim --batch --properties - steps", "aigsim --witness - witness"]
-            for words in ("aigtoaig --keep-map", undoing, *others, *simulations):
+            miter = ["aigmiter - nothing", "aigmiter --by-name nothing -"]
+            for words in ("aigtoaig --keep-map", undoing, *others, *simulations, *miter):
                 self.expect(words, text, b"", errors, 1)
             return
         made, end = generators.parsed(canonical)
@@ -126,6 +137,9 @@ class Judge:
         for words in ("", "--batch --properties ", "--vcd "):
             self.expect(f"aigsim {words}- steps", text, *oracles.wanted_trace(made, names, "steps", STEPS, words))
         self.expect("aigsim --witness - witness", text, *witnesses.wanted(made, "witness", WITNESS.decode()))
+        alike = named(canonical)
+        for words in ("--ascii", "--by-name"):
+            self.expect(f"aigmiter {words} - same", text, *miters.wanted(alike, alike, words, ("-", "same")))
         self.expect(f"{unrolling} --cnf", text, *answers.wanted_clauses(made, FRAMES, None))
         self.expect("aigunroll --invariant rows --cnf", text, *invariants.wanted_clauses(made, None, ("-", "rows"), ROWS))
         if made.justice or made.fairness:
@@ -162,6 +176,20 @@ class Judge:
         for frames in range(1, FRAMES + 1):
             wanted = refutations.wanted(made, frames, None, "-", text)
             self.expect(f"aigunroll --frames {frames} model --refutation -", text, *wanted)
+
+    def compared(self, text, other):
+        """The miter of a circuit and another one, the first or the second of which it is."""
+        self.runner.put("other", other)
+        beside = named(self.ask("aigtoaig --ascii", other)[0])
+        canonical, errors, status = self.ask("aigtoaig --ascii", text)
+        for words in ("--ascii", "--by-name"):
+            wants = [(b"", errors, status)] * 2
+            if not status:
+                made = named(canonical)
+                wants = [miters.wanted(made, beside, words, ("-", "other"))]
+                wants.append(miters.wanted(beside, made, words, ("other", "-")))
+            for files, wanted in zip(("- other", "other -"), wants):
+                self.expect(f"aigmiter {words} {files}", text, *wanted)
 
     def invariant(self, text, model):
         """The clauses in which an invariant is to be shown, and whether a refutation shows it."""
@@ -201,6 +229,7 @@ def tasks():
     for name, text in CIRCUITS.items():
         yield name, "circuit", text, b""
     beside = {"stimulus": STIMULI, "witness": WITNESSES, "answer": ANSWERS, "refutation": REFUTATIONS, "invariant": INVARIANTS}
+    beside["compared"] = MITERS
     for how, files in beside.items():
         for name, (model, text) in files.items():
             yield name, how, text, model

@@ -202,6 +202,9 @@ widest='aag 2147483647 2 0 1 0\n4294967294\n2\n4294967295\n'
 printf '%b' "$widest" > "$work/in"
 wants "$widest" '' 0
 check '200 MB are enough for the largest variable' within 204800 "$program" aigtoaig --ascii < "$work/in"
+printf 'aag 2147483647 0 0 0 0\n' > "$work/in"
+wants '' 'aiger: -: too large to compare\n' 1
+check '10 MB are enough for two circuits that are too large' within 10240 "$program" aigmiter "$work/in" - < "$work/in"
 large 0 2000000 0 > "$work/in"
 wants '' 'aiger: out of memory\n' 1
 check 'a file larger than the 20 MB of memory' within 20480 "$program" aigtoaig --ascii < "$work/in"

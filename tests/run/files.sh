@@ -370,6 +370,106 @@ made 'all streams closed, and two files to unroll' "$files/u.aig" streams_closed
 wants 'rest\n' '' 0
 check 'standard input is left alone where a file to unroll is named' eval 'unroll 2 "$held" "$files/u.aig" && cat' <<< 'rest'
 
+# --- a miter of two files with names ---
+miter() { "$program" aigmiter "$@"; }
+old=$files/first.aag new=$files/second.aag
+printf 'aag 1 1 0 1 0\n2\n3\ni0 a\no0 f\nc\nold' > "$old"
+printf 'aag 2 1 0 0 1 1\n4\n2\n2 5 5\nb0 f\ni0 a\n' > "$new"
+printf 'aag 1 1 0 2 0\n2\n3\n3\n' > "$files/two.aag"
+printf 'aag 6 1 0 0 5 1\n2\n12\n6 2 1\n4 7 7\n8 4 3\n10 5 2\n12 11 9\n' > "$work/miter"
+printf 'aig 6 1 0 0 5 1\n12\n\x02\x01\x01\x00\x02\x03\x03\x05\x01\x02' > "$work/binary_miter"
+cp "$work/binary_miter" "$work/want_file"
+made 'a miter to a file' "$files/m.aig" miter "$old" "$new" "$files/m.aig"
+made 'a miter by names of signals' "$files/n.aig" miter --by-name "$old" "$new" "$files/n.aig"
+made 'a miter, the second from standard input' "$files/n.aig" miter "$old" - "$files/n.aig" < "$new"
+made 'a miter, the first from standard input' "$files/n.aig" miter - "$new" "$files/n.aig" < "$old"
+made 'a miter to a name without an ending' "$files/mitered" miter "$old" "$new" "$files/mitered"
+made 'a miter to an ending in capitals, which is no .aag' "$files/m.AAG" miter "$old" "$new" "$files/m.AAG"
+made 'a miter, names behind --' "$files/n.aig" miter -- "$old" "$new" "$files/n.aig"
+aig "$old" "$files/first.aig"
+aig "$new" "$files/second.aig"
+made 'a miter of binary files' "$files/n.aig" miter "$files/first.aig" "$files/second.aig" "$files/n.aig"
+cp "$old" "$files/same"
+made 'a file as first circuit and destination' "$files/same" miter "$files/same" "$new" "$files/same"
+cp "$new" "$files/same"
+made 'a file as second circuit and destination' "$files/same" miter "$old" "$files/same" "$files/same"
+cp "$new" "$files/same"
+ln -sf same "$files/same.link"
+made 'a link to the second circuit as destination' "$files/same" miter "$old" "$files/same" "$files/same.link"
+cp "$work/miter" "$work/want_file"
+made 'a miter to a name that ends in .aag' "$files/m.aag" miter "$old" "$new" "$files/m.aag"
+made 'a miter with --ascii to any name' "$files/mitered" miter --ascii "$old" "$new" "$files/mitered"
+made 'a miter, options behind names' "$files/mitered" miter "$old" "$new" "$files/mitered" --by-name --ascii --max-var=2
+printf 'aag 5 1 0 0 4 1\n2\n10\n4 2 1\n6 5 3\n8 4 2\n10 9 7\n' > "$work/want_file"
+cp "$old" "$files/same.aag"
+made 'a file as both circuits and destination' "$files/same.aag" miter "$files/same.aag" "$files/same.aag" "$files/same.aag"
+wants '' '' 0
+cp "$work/binary_miter" "$work/want_out"
+check 'a miter to standard output' miter "$old" "$new"
+check 'a miter to -' miter "$old" "$new" -
+cp "$work/miter" "$work/want_out"
+check 'a miter to standard output in ASCII' miter "$old" "$new" --ascii
+
+# no_miter NAME MESSAGE WORD..: a destination that is there is left alone, and no new one is made
+no_miter() {
+    local name=$1
+    wants '' "aiger: $2\n" 1
+    shift 2
+    untouched "$name" "$files/m.aig" miter "$@" "$files/m.aig"
+    rm -f "$files/none.aig"
+    check "$name, and a new file" miter "$@" "$files/none.aig"
+    check "$name, and a folder that is not there" miter "$@" "$files/none/m.aig"
+    if [ ! -e "$files/none.aig" ]; then pass; else fail "$name: no file is made"; fi
+}
+no_miter 'a first circuit that cannot be compared' "$files/live.aag: justice or fairness cannot be compared" \
+    "$files/live.aag" "$new"
+no_miter 'a second circuit that cannot be compared' "$files/live.aag: justice or fairness cannot be compared" \
+    "$old" "$files/live.aag"
+no_miter 'circuits with other inputs' "$source: not as many inputs" "$old" "$source"
+no_miter 'circuits with other outputs' "$files/two.aag: not as many outputs and bad states" "$old" "$files/two.aag"
+no_miter 'circuits with other names' "$held: output 0: no name" --by-name "$old" "$held"
+no_miter 'a refused first circuit' "$files/short.aag: line 2: file ends too early" "$files/short.aag" "$new"
+no_miter 'a refused second circuit' "$files/short.aag: line 2: file ends too early" "$old" "$files/short.aag"
+no_miter 'a refused first circuit, and a second that is not there' "$files/short.aag: line 2: file ends too early" \
+    "$files/short.aag" "$files/none.aag"
+no_miter 'a limit that the first circuit passes' "$old: line 1: number above the limit" --max-var 0 "$old" "$new"
+no_miter 'a limit that the second circuit passes' "$new: line 1: number above the limit" --max-var 1 "$old" "$new"
+no_miter 'a first circuit that is not there' "$files/none.aag: cannot read" "$files/none.aag" "$new"
+no_miter 'a second circuit that is not there' "$files/none.aag: cannot read" "$old" "$files/none.aag"
+no_miter 'a folder as first circuit' "$files: cannot read" "$files" "$new"
+no_miter 'a folder as second circuit' "$files: cannot read" "$old" "$files"
+no_miter 'an empty name as second circuit' ': cannot read' "$old" ''
+wants '' "aiger: $files/live.aag: justice or fairness cannot be compared\n" 1
+untouched 'a second circuit that cannot be compared, as destination' "$files/live.aag" \
+    miter "$old" "$files/live.aag" "$files/live.aag"
+wants '' 'aiger: -: line 1: not an AIGER file\n' 1
+untouched 'a refused standard input to compare' "$files/m.aig" miter "$old" - "$files/m.aig" < /dev/null
+wants '' 'aiger: -: cannot read\n' 1
+untouched 'a closed standard input to compare' "$files/m.aig" miter "$old" - "$files/m.aig" <&-
+wants '' 'aiger: out of memory\n' 1
+untouched 'a device without an end to compare' "$files/m.aig" within 20480 "$program" aigmiter "$old" /dev/full "$files/m.aig"
+# cannot_miter_to NAME FILE
+cannot_miter_to() {
+    wants '' "aiger: $2: cannot write\n" 1
+    check "$1 for a miter" miter "$old" "$new" "$2"
+}
+cannot_miter_to 'a folder' "$files"
+cannot_miter_to 'an empty name' ''
+cannot_miter_to 'a folder that is not there' "$files/none/m.aig"
+cannot_miter_to 'a full device' /dev/full
+wants '' 'aiger: -: cannot write\n' 1
+check 'a miter into a full standard output' output_full miter "$old" "$new"
+check 'a miter into a closed standard output' output_closed miter "$old" "$new"
+if [ -e "$work/fail_sync.so" ]; then
+    wants '' "aiger: $files/m.aig: cannot write\n" 1
+    check 'a miter that is not kept' eval 'LD_PRELOAD=$work/fail_sync.so miter --sync "$old" "$new" "$files/m.aig"'
+fi
+cp "$work/binary_miter" "$work/want_file"
+made 'a miter on the disk' "$files/m.aig" miter --sync "$old" "$new" "$files/m.aig"
+made 'all streams closed, and three files' "$files/m.aig" streams_closed miter "$old" "$new" "$files/m.aig"
+wants 'rest\n' '' 0
+check 'standard input is left alone where both circuits are named' eval 'miter "$old" "$new" "$files/m.aig" && cat' <<< 'rest'
+
 # --- clauses, and the witness in a solver's answer ---
 answered=$files/answered.aag
 clauses() { unroll 2 --cnf "$@"; }
@@ -504,6 +604,14 @@ wants '' '' 0
 check 'pipes as source and destination, to unroll' unroll 2 "$files/model_pipe" "$files/pipe"
 wait
 if cmp -s "$work/through" "$work/binary_frames"; then pass; else fail 'what came unrolled through the pipe'; fi
+wants '' "aiger: $files/live.aag: justice or fairness cannot be compared\n" 1
+check 'no second circuit is waited for where the first is refused' timeout 10 "$program" aigmiter "$files/live.aag" "$files/pipe"
+cat "$old" > "$files/model_pipe" &
+cat "$new" > "$files/pipe" &
+wants '' '' 0
+cp "$work/binary_miter" "$work/want_out"
+check 'pipes as both circuits' miter "$files/model_pipe" "$files/pipe"
+wait
 cat "$answered" > "$files/model_pipe" &
 cat "$files/answer" > "$files/pipe" &
 wants '1\nb0\n0\n\n\n.\n' '' 0
@@ -559,6 +667,12 @@ refused 'one stream for model and refutation' 'aiger: model and refutation are b
 refused 'one stream for model and answer' 'aiger: model and answer are both standard input' aigunroll --frames 2 --answer -
 refused 'a bad state above the largest' '2147483648 is not in 0..=2147483647' aigunroll --frames 2 --cnf --bad 2147483648
 refused 'a compressed witness' 'aiger: compressed output is not supported' aigunroll --frames 1 --answer a b x.gz
+refused 'one circuit alone' '<second>' aigmiter a
+refused 'four names to compare' 'd' aigmiter a b c d
+refused 'an option that comparing does not have' '--strip' aigmiter --strip a b
+refused 'one stream for both circuits' 'aiger: both circuits are standard input' aigmiter - -
+refused 'a miter on the disk of standard output' 'aiger: --sync needs the name of a destination' aigmiter --sync a b
+refused 'a compressed miter' 'aiger: compressed output is not supported' aigmiter a b x.gz
 refused 'no subcommand' 'aigtoaig'
 refused 'an unknown subcommand' 'aigsom' aigsom
 refused 'help on a command that there is not' 'aigsom' help aigsom
@@ -587,7 +701,7 @@ helps() {
 }
 helps 'help' --help
 helps 'the short option for help' -h
-for words in '' aigtoaig aigsim aigunroll; do
+for words in '' aigtoaig aigsim aigunroll aigmiter; do
     helps "help $words" help $words
     wants '' '' 0
     "$program" $words --help > "$work/want_out"
@@ -637,9 +751,23 @@ if [ "$ran" = $'none within 20\nnever\nall' ] && [ "$(wc -l < "$work/examples")"
     [ "$(sim --witness "$files/model.aag" "$files/witness.txt")" = 'confirmed 0' ]; then pass; else
     fail 'the examples of help of aigunroll run' "came   $ran, of" "$(cat "$work/examples")"
 fi
+helps 'help of aigmiter' aigmiter --help
+# its examples too, over two files that are the same by names; the solver knows that in no step they differ
+grep '^  aiger \|^  cadical ' "$work/out" | sed 's/^  aiger/"$program"/; s/   .*//' > "$work/examples"
+cp "$old" "$files/old.aag"
+cp "$new" "$files/new.aag"
+aig "$old" "$files/old.aig"
+aig "$new" "$files/new.aig"
+printf 'aag 6 1 0 0 5 1\n2\n12\n4 2 1\n6 5 5\n8 6 3\n10 7 2\n12 11 9\n' > "$work/miter_of_binary"
+cadical() { [ "$*" = '-q miter.cnf miter.drat' ] && printf '2 0\n0\n' > miter.drat; }
+ran=$(cd "$files" && set -e && . "$work/examples" 2>&1 && echo all)
+if [ "$ran" = $'none within 1\nall' ] && [ "$(wc -l < "$work/examples")" = 6 ] && cmp -s "$files/miter.aig" "$work/binary_miter" &&
+    cmp -s "$files/miter.aag" "$work/miter_of_binary"; then pass; else
+    fail 'the examples of help of aigmiter run' "came   $ran, of" "$(cat "$work/examples")"
+fi
 # the manual page has the same options
 options() { grep -o -- '--[a-z][a-z-]*' | sort -u; }
-{ "$program" aigtoaig --help; "$program" aigsim --help; "$program" aigunroll --help; } | options > "$work/help_options"
+for words in aigtoaig aigsim aigunroll aigmiter; do "$program" $words --help; done | options > "$work/help_options"
 sed 's/Fl \\-/--/g; s/\\-/-/g' "$top/man/aiger.1" | options > "$work/man_options"
 wants '' '' 0
 cp "$work/help_options" "$work/want_out"

@@ -58,6 +58,9 @@ static const char refutation[] = "2 3 0\nd 3 2 0\n3 0\n0\n";
 static const char tokens[] = "aag 3 0 2 0 1 1\n2 4 1\n4 2\n6\n6 4 2\n";
 static const char invariant[] = ".i 2\n11 1\n.e\n";
 static const char shown_by[] = "-10 0\n";
+/* two inverters, each with its name; the second has a bad state for an output */
+static const char first[] = "aag 1 1 0 1 0\n2\n3\ni0 a\no0 f\n";
+static const char second[] = "aag 2 1 0 0 1 1\n2\n5\n4 2 2\nb0 f\ni0 a\n";
 static const char wrong_claim[] = "1\nb0\n0\n\n.\n";
 
 static int failed;
@@ -119,6 +122,12 @@ static uint32_t never(uint8_t *output, size_t room, aigtools_outcome *outcome) {
         aigtools_never(AIGTOOLS_ALL_BAD, AIGTOOLS_LARGEST, TEXT(tokens), TEXT(invariant), TEXT(shown_by), outcome);
     if (status != AIGTOOLS_DONE) return status;
     return put_words("never", 0, output, room, outcome);
+}
+static uint32_t compared(uint8_t *output, size_t room, aigtools_outcome *outcome) {
+    return aigtools_miter(AIGTOOLS_ASCII, AIGTOOLS_LARGEST, TEXT(first), TEXT(second), output, room, outcome);
+}
+static uint32_t by_name(uint8_t *output, size_t room, aigtools_outcome *outcome) {
+    return aigtools_miter(AIGTOOLS_BY_NAME, AIGTOOLS_LARGEST, TEXT(first), TEXT(second), output, room, outcome);
 }
 
 /* the circuit of the gate as arrays, which are made once, and what has its words, its bytes and its counts one behind the
@@ -185,6 +194,7 @@ static const struct { const char *name; call *of; } calls[] = {
     {"to binary", to_binary}, {"to ascii", to_ascii}, {"frames", frames}, {"trace", trace},
     {"dump", dump},           {"judged", judged},     {"run", run},       {"clauses", clauses},
     {"reached", reached},     {"refuted", refuted},   {"shown", shown}, {"never", never},
+    {"compared", compared},   {"by name", by_name},
     {"arrays", as_arrays},    {"in order", in_order}, {"written", written}, {"written ascii", written_ascii},
 };
 #define CALLS (sizeof calls / sizeof *calls)
@@ -282,9 +292,11 @@ static void check_refused_options(void) {
     static const uint32_t bad[] = {AIGTOOLS_KEEP_MAP | AIGTOOLS_ASCII, AIGTOOLS_KEEP_MAP | AIGTOOLS_STRIP,
                                    AIGTOOLS_KEEP_MAP | AIGTOOLS_UNDO_MAP, AIGTOOLS_OUTPUTS_AS_BAD | AIGTOOLS_KEEP_MAP,
                                    AIGTOOLS_OUTPUTS_AS_BAD | AIGTOOLS_UNDO_MAP, AIGTOOLS_PROPERTIES, AIGTOOLS_VCD,
-                                   1u << 31};
+                                   AIGTOOLS_BY_NAME, 1u << 31};
     static const uint32_t no_trace[] = {AIGTOOLS_ASCII, AIGTOOLS_PROPERTIES | AIGTOOLS_VCD,
-                                        AIGTOOLS_VCD | AIGTOOLS_ASCII, AIGTOOLS_OUTPUTS_AS_BAD, 128};
+                                        AIGTOOLS_VCD | AIGTOOLS_ASCII, AIGTOOLS_OUTPUTS_AS_BAD, 128,
+                                        AIGTOOLS_BY_NAME};
+    static const uint32_t no_miter[] = {AIGTOOLS_STRIP, AIGTOOLS_KEEP_MAP | AIGTOOLS_BY_NAME, 512};
     static const uint32_t above = AIGTOOLS_LARGEST + 1;
     const uint8_t *text = (const uint8_t *)gate;
     uint8_t output[1] = {UNTOUCHED};
@@ -294,6 +306,9 @@ static void check_refused_options(void) {
     for (i = 0; i < sizeof bad / sizeof *bad; i++) IS_BAD(aigtools_convert(bad[i], 1, text, 0, output, 1, &x));
     for (i = 0; i < sizeof no_trace / sizeof *no_trace; i++)
         IS_BAD(aigtools_simulate(no_trace[i], 1, text, 0, text, 0, output, 1, &x));
+    for (i = 0; i < sizeof no_miter / sizeof *no_miter; i++)
+        IS_BAD(aigtools_miter(no_miter[i], 1, text, 0, text, 0, output, 1, &x));
+    IS_BAD(aigtools_miter(0, above, text, 0, text, 0, output, 1, &x));
     IS_BAD(aigtools_convert(0, above, text, 0, output, 1, &x));
     IS_BAD(aigtools_unroll(AIGTOOLS_STRIP, 1, 1, text, 0, output, 1, &x));
     IS_BAD(aigtools_unroll(0, 0, 1, text, 0, output, 1, &x));
@@ -414,6 +429,41 @@ static void check_invariants(void) {
           x.status);
 }
 
+static void check_miters(void) {
+    static const char most[] = "aag 2147483647 0 0 0 0\n", two[] = "aag 0 0 0 1 0 1\n0\n0\no0 x\nb0 y\n";
+    static const struct { const char *of, *other; uint32_t options, status, kind, place; uint64_t number; } refused[] = {
+        {"", "", 0, AIGTOOLS_REFUSED, AIGTOOLS_NOT_AIGER, AIGTOOLS_LINE, 1},
+        {"aag 0 0 0 0 0 0 0 0 1\n1\n", "", 0, AIGTOOLS_REFUSED, AIGTOOLS_NOT_COMPARABLE, AIGTOOLS_WHOLE, 0},
+        {"aag 1 1 0 0 0\n2\n", "", AIGTOOLS_BY_NAME, AIGTOOLS_REFUSED, AIGTOOLS_NO_NAME, AIGTOOLS_INPUT, 0},
+        {most, "aag 1 1 0 0 0\n", 0, AIGTOOLS_SECOND_REFUSED, AIGTOOLS_TRUNCATED, AIGTOOLS_LINE, 2},
+        {most, "aag 0 0 0 0 0 0 0 0 1\n1\n", 0, AIGTOOLS_SECOND_REFUSED, AIGTOOLS_NOT_COMPARABLE, AIGTOOLS_WHOLE, 0},
+        {first, most, 0, AIGTOOLS_SECOND_REFUSED, AIGTOOLS_OTHER_INPUTS, AIGTOOLS_WHOLE, 0},
+        {two, most, AIGTOOLS_BY_NAME, AIGTOOLS_SECOND_REFUSED, AIGTOOLS_OTHER_OUTPUTS, AIGTOOLS_WHOLE, 0},
+        {most, most, AIGTOOLS_BY_NAME, AIGTOOLS_SECOND_REFUSED, AIGTOOLS_TOO_LARGE_TO_COMPARE, AIGTOOLS_WHOLE, 0},
+        {two, "aag 0 0 0 2 0\n0\n0\no0 x\no1 x\n", AIGTOOLS_BY_NAME, AIGTOOLS_SECOND_REFUSED, AIGTOOLS_NAME_TWICE,
+         AIGTOOLS_OUTPUT, 1},
+        {two, "aag 0 0 0 0 0 2\n0\n0\nb0 y\nb1 z\n", AIGTOOLS_BY_NAME, AIGTOOLS_SECOND_REFUSED, AIGTOOLS_NO_SUCH_NAME,
+         AIGTOOLS_BAD, 1},
+    };
+    static const char words[] = "bad state 1: no such name in the other file";
+    uint8_t output[ROOM];
+    aigtools_outcome x;
+    size_t i;
+    memset(output, UNTOUCHED, sizeof output);
+    for (i = 0; i < sizeof refused / sizeof *refused; i++) {
+        uint32_t status = aigtools_miter(refused[i].options, AIGTOOLS_LARGEST, (const uint8_t *)refused[i].of,
+                                         strlen(refused[i].of), (const uint8_t *)refused[i].other,
+                                         strlen(refused[i].other), output, ROOM, &x);
+        check(status == refused[i].status && x.status == status && x.kind == refused[i].kind &&
+                  x.place == refused[i].place && x.number == refused[i].number && x.subject == 0 && x.length == 0,
+              "compared", "refused", (long)i);
+    }
+    check(is_untouched(output, ROOM), "compared", "output untouched, refused", 0);
+    x.status = AIGTOOLS_REFUSED; /* which has the words */
+    check(aigtools_message(&x, output, ROOM) == sizeof words - 1 && memcmp(output, words, sizeof words - 1) == 0, "message",
+          "of the second circuit", 0);
+}
+
 static int time_conversion(const char *path, long times) {
     FILE *file = fopen(path, "rb");
     size_t length;
@@ -449,6 +499,7 @@ int main(int count, char **words) {
     check_answers();
     check_refutations();
     check_invariants();
+    check_miters();
     check_refused_options();
     check_steps();
     check_threads();

@@ -60,9 +60,11 @@ def judged(with_run, model, witness, options):
 
 
 def answer(name, options, first, second, third=b""):
-    """What the library answers, as the program would: its output, the words of its error, and its status."""
+    """What the library answers, as the program would: its output, what it refuses and why, and its status."""
     options = dict(options)
     try:
+        if name == "aigmiter":
+            return aigtools.miter(first, second, **options), "", 0
         if name == "aigtoaig":
             return aigtools.convert(first, **options), "", 0
         if name == "aigunroll" and options.pop("invariant", False):
@@ -84,7 +86,15 @@ def answer(name, options, first, second, third=b""):
             return judged(options.pop("vcd", False), first, second, options)
         return aigtools.simulate(first, second, **options), "", 0
     except aigtools.Refused as refused:
-        return b"", str(refused), 1
+        return b"", refused, 1
+
+
+def lines(tool, refused, files):
+    """The lines in which the program may say the same: of two circuits it names the one that is refused."""
+    if not refused:
+        return {""}
+    named = [files[refused.second]] if tool == "aigmiter" else [*files, "-"]
+    return {f"aiger: {it}: {refused}\n" for it in named}
 
 
 def check_rows():
@@ -92,10 +102,9 @@ def check_rows():
     with tempfile.TemporaryDirectory() as folder:
         count = 0
         for name, tool, options, inputs, wanted, files in rows(folder):
-            output, words, status = answer(tool, options, *inputs)
-            errors = {f"aiger: {it}: {words}\n" for it in [*files, "-"]} if words else {""}
-            holds = (output, status) == (wanted[0], wanted[2]) and wanted[1] in errors
-            judge(name, holds, wanted, output, words, status)
+            output, refused, status = answer(tool, options, *inputs)
+            holds = (output, status) == (wanted[0], wanted[2]) and wanted[1] in lines(tool, refused, files)
+            judge(name, holds, wanted, output, refused, status)
             count += 1
         judge("most rows are there", count > 500, count)
 
@@ -107,7 +116,8 @@ def mutants(folder, program):
     seeds += [row[3][0] for row in rows(folder) if row[4][2] == 0 and len(row[3][0]) < 2000][::7]
     seeds += [aigtools.convert(it, keep_map=True) for it in seeds]
     for number in range(MUTANTS):
-        text, kind = mutated(chance, chance.choice(seeds)), chance.randrange(13)
+        seed, kind = chance.choice(seeds), chance.randrange(14)
+        text = mutated(chance, seed)
         if kind < 6:
             flags = [(), ("ascii",), ("keep_map",), ("undo_map",), ("undo_map", "ascii"), ("strip",)]
             flags = chance.choice([*flags, ("outputs_as_bad",)])
@@ -126,6 +136,10 @@ def mutants(folder, program):
             else:
                 said = b"c\ns SATISFIABLE\nv %d %d 5 -6\nv 0\n" % (chance.randrange(1, 9), chance.randrange(1, 9))
                 yield "aigunroll", [*words, "--answer", "-"], {**options, "answer": "-"}, text, mutated(chance, said)
+        elif kind == 13:
+            flags = chance.choice([(), ("ascii",), ("by_name",), ("by_name", "ascii")])
+            words = [f"--{it.replace('_', '-')}" for it in flags]
+            yield "aigmiter", words, dict.fromkeys(flags, True), *chance.sample([seed, text], 2)
         elif kind == 12:
             latches = re.match(rb"a[ai]g \d+ \d+ (\d+)", text)
             width = min(int(latches[1]), 9) if latches else 1
@@ -155,14 +169,14 @@ def check_mutants(program):
         def compare(mutant):
             number, (tool, words, options, first, second) = mutant
             given, files = first, []
-            if tool == "aigsim" or {"answer", "refutation", "invariant"} & options.keys():
+            if tool in ("aigsim", "aigmiter") or {"answer", "refutation", "invariant"} & options.keys():
                 model = Path(folder, str(number))
                 model.write_bytes(first)
-                given, files = second, [str(model)]
+                given, files = second, [str(model), *["-"] * (tool == "aigmiter")]
             ran = subprocess.run([program, tool, *words, *files], input=given, capture_output=True, check=False)
-            output, said, status = answer(tool, options, first, second)
-            errors = {f"aiger: {it}: {said}\n".encode() for it in [*files, "-"]} if said else {b""}
-            return (ran.stdout, ran.returncode) == (output, status) and ran.stderr in errors, mutant, ran, output, said
+            output, refused, status = answer(tool, options, first, second)
+            is_told = ran.stderr.decode("latin-1") in lines(tool, refused, files)
+            return (ran.stdout, ran.returncode) == (output, status) and is_told, mutant, ran, output, refused
 
         refused = 0
         for holds, *details in pool.map(compare, enumerate(mutants(folder, program))):
@@ -406,7 +420,8 @@ class Sizes:
         given = b"3 0\nd 2 3 0\n-2 -2 0\n" * LINES
         for rest, said in ((b"", "no refutation"), (b"0\n", f"line {3 * LINES + 1}: does not follow")):
             ran = subprocess.run([self.program, *words.split()], input=given + rest, capture_output=True, check=False)
-            came = answer("aigunroll", {"frames": 2, "refutation": "-"}, source, given + rest)
+            output, refused, status = answer("aigunroll", {"frames": 2, "refutation": "-"}, source, given + rest)
+            came = output, str(refused), status
             judge("a refutation of megabytes", len(given) > MANY and came == (b"", said, 1), came)
             judge("and by the program", ran.stderr == f"aiger: -: {said}\n".encode(), ran.stderr)
 
@@ -427,6 +442,21 @@ class Sizes:
         came = answer("aigunroll", {"invariant": "-", "refutation": "-"}, source, given, proof)
         judge("an invariant of megabytes", len(given) > MANY and came == (b"never\n", "", 0), came)
         judge("and by the program", ran.stdout == b"never\n", ran.stderr)
+
+    def compared(self):
+        """A circuit compared with itself, of which the header and the lines are counted; by its names it is the same."""
+        # an output and a bad state may not have the same name
+        source, words = re.sub(rb"(?m)^b(\d+) ", rb"b\1 bad ", self.text("ilobc")), f"aigmiter {self.model} -"
+        self.model.write_bytes(source)
+        text = self.alike("a miter", aigtools.miter(source, source, ascii=True), f"{words} --ascii", source)
+        image = self.alike("a miter", aigtools.miter(source, source), words, source)
+        self.alike("a miter by names", aigtools.miter(source, source, by_name=True), f"{words} --by-name", source, image)
+        self.alike("a miter", aigtools.convert(text), "aigtoaig", text, image)
+        # three gates for each output and each bad state, and four for each latch without initial value
+        free, gates = LINES // 3, (3 + 6) * LINES + 4 * (LINES // 3)
+        head = f"aag {12 * LINES + 4 * free + 1} {LINES} {2 * LINES + 1} 0 {gates} {3 * LINES} {LINES + free}".encode()
+        came = text[: text.index(b"\n")], text.count(b"\n")
+        judge("a miter by count", came == (head, 2 + 7 * LINES + free + gates), *came)
 
     def traces(self, count, runs):
         """The traces and the dump of these runs of a circuit of this size."""
@@ -469,6 +499,7 @@ def check_sizes(program):
         sizes.answered()
         sizes.refuted()
         sizes.shown()
+        sizes.compared()
         *some, last = large.inputs(LINES)
         run = [*itertools.islice(itertools.cycle(some), STEPS), last]
         dump = sizes.traces(LINES, [run])
@@ -641,6 +672,9 @@ SAID = """aag 5 1 1 1 3 2
 8 5 3
 10 9 7
 none within 20
+aig 5 1 0 0 4 1
+10
+\2\1\1\2\4\2\1\2\
 0 1 0 1
 1 0 1 1
 .
@@ -698,6 +732,7 @@ def check_options(program):
             {"cnf", "answer", "refutation", "invariant"},
         ),
         "aigsim": ((aigtools.simulate, aigtools.confirm, aigtools.dump), {"batch", "witness"}),
+        "aigmiter": ((aigtools.miter,), set()),
     }
     for command, (functions, chosen) in calls.items():
         said = subprocess.run([program, command, "--help"], stdout=subprocess.PIPE, text=True, check=True).stdout
@@ -705,7 +740,8 @@ def check_options(program):
         # (the library names no files, so none is to be on a disk)
         there = {it.replace("-", "_") for it in words} - {"help", "version", "sync"}
         names = {name for it in functions for name in inspect.signature(it).parameters}
-        here = names - {"data", "model", "stimulus", "witness", "answer", "refutation", "invariant"} | chosen
+        inputs = {"data", "model", "stimulus", "witness", "answer", "refutation", "invariant", "first", "second"}
+        here = names - inputs | chosen
         judge(f"the options of {command}", there == here and len(there) > 1, there, here)
 
 
@@ -728,6 +764,7 @@ def check_arguments():
         judge("no bytes for a witness", refuses(TypeError, "bytes-like", aigtools.dump, gate, data), data)
         judge("no bytes for a refutation", refuses(TypeError, "bytes-like", aigtools.refute, gate, data, 1), data)
         judge("no bytes for an invariant", refuses(TypeError, "bytes-like", aigtools.never, gate, data, b""), data)
+        judge("no bytes for a circuit", refuses(TypeError, "bytes-like", aigtools.miter, gate, data), data)
     for other in ("ascii", "strip", "undo_map"):
         why = f"keep_map excludes {other}"
         judge(why, refuses(ValueError, why, aigtools.convert, gate, keep_map=True, **{other: True}))
@@ -751,6 +788,7 @@ def check_arguments():
         why = f"max_var is not from 0 to {aigtools.LARGEST}"
         judge(why, refuses(ValueError, why, aigtools.confirm, gate, b"", max_var=limit), limit)
         judge(why, refuses(ValueError, why, aigtools.never, gate, b"", b"", max_var=limit), limit)
+        judge(why, refuses(ValueError, why, aigtools.miter, gate, gate, max_var=limit), limit)
 
 
 def check_guess():

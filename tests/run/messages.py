@@ -21,7 +21,7 @@ TABLE, HEADER = "man/diagnostics.txt", "include/aigtools.h"
 # where the words of kinds stand: the first of these that is there
 WORDS = ("crates/aig_fault/src/words.rt", "crates/aig_library/src/wording.rt")
 ARM = re.compile(r"((?:[kK]ind::\w+[\s|]*)+)=>(?=([^=}]*))")
-PLACE = re.compile(r"^(?:line|gate|map line|word|value) (?:N|1): ")
+PLACE = re.compile(r"^(?:line|gate|map line|word|value|input|output|bad state) (?:N|1): ")
 # what only the library says, of arrays
 OF_ARRAYS = {"counts do not fit", "value N: neither 0, 1 nor 2"}
 

@@ -1,7 +1,8 @@
 #!/usr/bin/env bash
 # Other programs that read AIGER files: each that is installed reads the binary image of each example and writes it again, and
-# what it writes must be read here and have as many inputs, latches, outputs, gates and constraints, and the same resets. The
-# examples of a program that is not installed count as skipped.
+# what it writes must be read here and have as many inputs, latches, outputs, gates and constraints, and the same resets. A
+# solver, cadical, must then show by the miter of both that they are equal for some steps. The examples of a program that is
+# not installed count as skipped.
 #
 #     tests/run/other_tools.sh
 #
@@ -57,6 +58,18 @@ tool_agrees() {
     fi
 }
 
+# shown_equal TOOL FILE: for four steps there is no difference between what the tool read last and what it wrote
+shown_equal() {
+    local name="$1 writes what is equal to the binary image of ${2##*/}" miter=$work/miter
+    "$program" aigmiter "$work/in.aig" "$work/out.aig" "$miter" > "$work/out" 2>&1 &&
+        unroll 4 --cnf "$miter" "$miter.cnf" > "$work/out" 2>&1 &&
+        timeout 60 cadical -q "$miter.cnf" "$miter.drat" > "$work/out" 2>&1
+    if [ "$(unroll 4 --refutation "$miter.drat" "$miter" 2>&1)" = 'none within 4' ]; then pass; else
+        fail "$name" "came   '$(shown "$work/out")'"
+    fi
+    rm -f "$miter" "$miter.cnf" "$miter.drat"
+}
+
 # A design with an assertion, an assumption, one of each that speaks of what comes eventually, and registers that start at 0, at
 # 1 and at neither: yosys writes a bad state, a constraint, a justice property and a fairness constraint.
 yosys_writes_properties() {
@@ -85,11 +98,15 @@ yosys_writes_properties() {
 examples=("$top"/examples/*.aag "$top"/examples/*.aig)
 # the tools of Debian's packages berkeley-abc and yosys
 for tool in berkeley-abc yosys-abc yosys; do
-    if command -v "$tool" > /dev/null; then
-        for file in "${examples[@]}"; do tool_agrees "$tool" "$file"; done
-    else
-        skip "${#examples[@]}" "$tool is not installed, to read the binary images of the examples"
+    if ! command -v "$tool" > /dev/null; then
+        skip $((2 * ${#examples[@]})) "$tool is not installed, to read the binary images of the examples"
+        continue
     fi
+    for file in "${examples[@]}"; do
+        tool_agrees "$tool" "$file"
+        ! command -v cadical > /dev/null || shown_equal "$tool" "$file"
+    done
+    command -v cadical > /dev/null || skip "${#examples[@]}" "cadical is not installed, to show that $tool writes what is equal"
 done
 if command -v yosys > /dev/null; then
     yosys_writes_properties

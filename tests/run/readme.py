@@ -131,7 +131,8 @@ def table_rows(program):
     for is_safe in (True, False):
         with tempfile.TemporaryDirectory() as folder:
             (Path(folder) / "aiger").symlink_to(program)
-            for name, text in {"model.aag": SAFE if is_safe else UNSAFE, "steps.txt": b"1\n"}.items():
+            model = SAFE if is_safe else UNSAFE
+            for name, text in {"model.aag": model, "new.aag": model, "steps.txt": b"1\n"}.items():
                 (Path(folder) / name).write_bytes(text)
             # of a model with a run ABC's rows are no invariant
             asked = found if is_safe else [it for it in found if not re.search(r"\bm\.(pla|cnf|drat)", it)]

@@ -7,7 +7,7 @@ Files, stimuli, witnesses and map blocks have more than 64 MB, comments of a sol
 values 50 MB, and refutations 100 MB, with a lemma of a million literals. An invariant has 200,000 rows, and between them
 100 MB of comments. Each section has 500,000 lines. There are
 20,000 runs, 1,000 frames, and 4,000,000 gates, each before the one that it is over. Dumps have 350,000 signals, and
-1,200,000 steps.
+1,200,000 steps. Circuits that are compared have 1,000,000 gates each, or 200,000 names of inputs and as many of outputs.
 What is wanted is made here by rule. A run may take 1.5 GB of memory.
 
 The last line is 'N passed, M failed'.
@@ -41,6 +41,8 @@ SIGNALS, STEPS = 70_000, 1_200_000
 COMMENTS, VALUES = 100_000_000, 50_000_000
 # literals of a lemma, and lines of a refutation; rows of an invariant, and latches
 LITERALS, LEMMAS, ROWS, HELD = 1_000_000, 1_000_000, 200_000, 40
+# gates of each circuit that is compared, and bytes for that: 35 for each gate, and the program's; and names of each kind
+COMPARED, COMPARING, NAMED = 1_000_000, 75_000_000, 200_000
 # bytes of a file that are held at a time
 EDGE = 65_536
 
@@ -361,6 +363,60 @@ def large_invariants(room):
     room.judge("a bad row behind many", came == (b"aiger: -: line %d: bad line\n" % (ROWS + 3), 1), came)
 
 
+def compares(own, left, right):
+    """The lines of the gates that compare two literals, the larger one first, from this literal on."""
+    return f"{own} {left} {right}\n{own + 2} {left ^ 1} {right ^ 1}\n{own + 4} {own + 3} {own + 1}\n"
+
+
+def large_miters(room):
+    """The same chain over an input twice, in order and the other way round."""
+    last, most = 2 * COMPARED + 2, 4 * COMPARED + 10
+    gates = [f"{own} {own - 2} 2\n" for own in range(4, last + 1, 2)]
+    head = f"{COMPARED + 1} 1 0 1 {COMPARED}\n2\n{last}\n"
+    write("ordered", f"aag {head}".encode(), gates)
+    write("reversed", f"aag {head}".encode(), reversed(gates))
+    moved = range(last + 4, 2 * last + 1, 2)
+    write(
+        "wanted",
+        f"aag {most // 2} 1 0 0 {2 * COMPARED + 4} 1\n2\n{most}\n".encode(),
+        gates,
+        f"{last + 2} 2 1\n".encode(),
+        (f"{own} {own - 2} {last + 2}\n" for own in moved),
+        compares(most - 4, 2 * last, last).encode(),
+    )
+    room.made("aigtoaig ordered ordered.aig", os.devnull)
+    with memory(COMPARING):
+        room.gives("aigmiter --ascii ordered ordered", os.devnull, "wanted")
+        room.made("aigmiter ordered.aig -", "ordered.aig", "binary")
+        room.made("aigmiter ordered -", "reversed", "again")
+    for made in ("binary", "again"):
+        room.gives("aigtoaig --ascii", made, "wanted")
+
+
+def many_names(room):
+    """Inputs that are outputs, each with a name, in two circuits one of which has them the other way round."""
+    names = [f"signal {at}" for at in range(NAMED)]
+    lines = [f"{2 * at + 2}\n" for at in range(NAMED)] * 2
+    for file, called in (("first", names), ("second", names[::-1])):
+        symbols = (f"{letter}{at} {name}\n" for letter in "oi" for at, name in enumerate(called))
+        write(file, f"aag {NAMED} {NAMED} 0 {NAMED} 0\n".encode(), lines, symbols)
+    most = 4 * NAMED
+    write(
+        "wanted",
+        f"aag {5 * NAMED} {NAMED} 0 0 {4 * NAMED} {NAMED}\n".encode(),
+        lines[:NAMED],
+        (f"{most + 6 * at + 6}\n" for at in range(NAMED)),
+        (f"{most - 2 * at} {2 * at + 2} 1\n" for at in range(NAMED)),
+        (compares(most + 6 * at + 2, most - 2 * at, 2 * at + 2) for at in range(NAMED)),
+    )
+    room.gives("aigmiter --by-name --ascii first -", "second", "wanted")
+    # the last symbol is that of an input
+    write("other", Path("second").read_bytes()[:-2], b"x\n")
+    came = room.run("aigmiter --by-name first -", "other", "came")
+    told = f"aiger: -: input {NAMED - 1}: no such name in the other file\n".encode()
+    room.judge("another name behind many", came == (told, 1), came)
+
+
 def frames_of_nothing(room):
     """Latches that start anyhow, and nothing else: to go over all latches in each frame would take hours."""
     count, frames = LINES, 1_000_000
@@ -391,7 +447,8 @@ def window_edges(room):
 
 
 JUDGES = [large_chains, large_tails, large_sections, many_runs, many_signals, many_latches, long_stimuli, long_dumps]
-JUDGES += [many_frames, many_clauses, large_answers, large_refutations, large_invariants, frames_of_nothing, window_edges]
+JUDGES += [many_frames, many_clauses, large_answers, large_refutations, large_invariants, large_miters, many_names]
+JUDGES += [frames_of_nothing, window_edges]
 
 
 def main(program, name=""):

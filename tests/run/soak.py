@@ -8,9 +8,9 @@ Without a seed there is a fresh one. A good round has a circuit of images.py or 
 in one of the ways that are accepted, and looks at what must hold between the answers: there and back, traces alike,
 the unrolled row is the trace, a witness is confirmed exactly where the trace says so. In a hostile round the bytes of
 a good file are edited. If every tool refuses it in the same words, that is well; if it is accepted, all of a good
-round must hold for it. Other rounds have circuits with cycles or with wrong definitions, images with edited maps, and
-sizes that are too large. In each run the status is 0, 1 or 2, there is one message at a refusal and none otherwise, and
-a refusal leaves nothing behind.
+round must hold for it. Other rounds have circuits with cycles or with wrong definitions, images with edited maps, two
+circuits with their miter, and sizes that are too large. In each run the status is 0, 1 or 2, there is one message at a
+refusal and none otherwise, and a refusal leaves nothing behind.
 
 The first failure ends the soak, and leaves a folder with what is needed to run the command again: under FOLDER, or
 where temporary files are. At the end stands how often each kind of refusal came, counted in runs. The last line is

@@ -24,4 +24,5 @@ BatchSays c columns (Ok done) bytes ending text delivery =
     (ending ≡ AtEnd) × (delivery ≡ All) × IsTraceUpTo c columns bytes true None text
 BatchSays c columns (Err WriteFailed) bytes ending text delivery =
     (ending ≡ AtEnd) × IsCut delivery × IsTraceUpTo c columns bytes true None text
-BatchSays c columns (Err stopped) bytes ending text delivery = NotCollected c stopped bytes ending × (delivery ≡ NotSent)
+BatchSays c columns (Err stopped) bytes ending text delivery =
+    NotCollected c stopped bytes ending × (delivery ≡ NotSent)

@@ -1,12 +1,10 @@
 -- A binary file that is read while its source gives it, from what was fetched first.
-use Rattle.std.proofs.Common.{◌≡◌, ◌∙◌, ◌++◌, ◌≢◌, ◌≤◌, ◌∷◌, inl, inr, ℕ, List, [], drop, Bool, true, false, not}
+use Rattle.std.proofs.Common.{◌≡◌, ◌∙◌, ◌++◌, ◌≢◌, ◌≤◌, ◌∷◌, inl, inr, ℕ, List, [], drop, Bool, true, false}
 use Rattle.std.proofs.Common.{append_assoc, append-nil, Result, Ok, Err, sym, ap, length, refl, arith, eqb}
 use Rattle.std.proofs.lemmas.Bool.{eqb-false}
 use Rattle.std.proofs.lemmas.List.{drop-append-le}
-use Rattle.aig_io.specs.Devices.{GaveSome, History, gave, took}
-use Rattle.aig_io.specs.Windows.{Filled}
-use Rattle.aig_io.specs.declared.transfer.ReadError.{ReadError}
-use Rattle.aig_io.proofs.Took.{gave_then, took_none, some_later}
+use Rattle.aig_io.specs.Devices.{History, gave, took}
+use Rattle.aig_io.proofs.Took.{gave_then, took_none}
 use Rattle.aig_circuit.specs.declared.circuit.Circuit.{Circuit}
 use Rattle.aig_circuit.specs.Form.{IsInForm}
 use Rattle.aig_circuit.specs.Wellformed.{IsWellFormed}
@@ -15,108 +13,21 @@ use Rattle.aig_core.specs.Fault.{first_structural_fault}
 use Rattle.aig_lines.specs.Lines.{Line, AreEnded, lines_of}
 use Rattle.aig_lines.proofs.Cutting.{pieces, some_lines}
 use Rattle.aig_lines.proofs.Taken.{lines_cut}
-use Rattle.aig_fault.specs.Stopping.{stopped_by}
 use Rattle.aig_fault.specs.declared.stopped.Stopped.{Stopped}
-use Rattle.aig_fault.specs.declared.stopped.Stopped.TheVariants.{OutOfMemory}
 use Rattle.aig_rows.specs.Outcomes.{GivesOrMemory}
-use Rattle.aig_text.specs.Begun.{ReadsOn, rest_of}
+use Rattle.aig_text.specs.Begun.{rest_of}
 use Rattle.aig_text.specs.declared.pieces.AsciiReader.{AsciiReader}
 use Rattle.aig_text.specs.Reading.{circuit_at, first_word_is, reading, unless_faulty}
 use Rattle.aig_text.proofs.Grammar.Text.{checked_tells, line_fault as ascii_line_fault, circuit_in_form}
-use Rattle.aig_binary.specs.Sources.{ComesOn, HasFailed, HasRead, ReadsFrom, AnswersFile, ReadsAs}
+use Rattle.aig_text.specs.Sources.{HasRead, ReadsFrom, ReadsAs}
+use Rattle.aig_text.proofs.Sources.{RestRead, failed_later, whole_read}
 use Rattle.aig_binary.specs.BinaryGrammar.{binary_word}
 use Rattle.aig_binary.specs.BinaryReading.{binary_reading}
-use Rattle.aig_binary.specs.File.{IsFileOf, file_reading}
+use Rattle.aig_binary.specs.File.{AnswersFile, IsFileOf, file_reading}
 use Rattle.aig_binary.proofs.Grammar.Accepted.{read_is_ordered, read_is_well_formed, reading_is_accepted}
 use Rattle.aig_binary.proofs.Grammar.Read.{line_fault}
 
--- reading goes on
-reads_on_then : (x y z : Result Circuit Stopped) → ReadsOn x y → ReadsOn y z → ReadsOn x z
-reads_on_then x y z p (inl m) = inl m
-reads_on_then x y z (inl m) (inr e) = inl (sym e ∙ m)
-reads_on_then x y z (inr d) (inr e) = inr (d ∙ e)
-
-module _ (tell : List ℕ → Result Circuit Stopped) where
-  pub reads_none : (u : List ℕ) (a : History) → ReadsFrom tell tell u u true a a
-  reads_none u a = record {
-    given = [];
-    gave = took_none a;
-    on = λ others. inr (ap (λ (bytes : List ℕ). tell (bytes ++ others)) (append-nil u));
-  }
-
-  pub reads_more : (q s : List ℕ → Result Circuit Stopped) (u v w : List ℕ) (used : ℕ) (more : Bool) (a b c : History)
-      → ReadsFrom tell q u v true a b → ((others : List ℕ) → ReadsOn (q (v ++ others)) (s (drop used v ++ others)))
-      → Filled (drop used v) w more b c → ReadsFrom tell s u w more a c
-  reads_more q s u v w used more a b c before on f = record {
-    given = before.given ++ f.given;
-    gave = gave_then (not more) before.given f.given a b c before.gave f.gave;
-    on = λ others.
-        let first =
-        ap (λ (bytes : List ℕ). tell (bytes ++ others)) (sym (append_assoc u before.given f.given))
-        ∙ ap tell (append_assoc (u ++ before.given) f.given others) in
-        let last =
-        ap (λ (bytes : List ℕ). s (bytes ++ others)) f.held
-        ∙ ap s (append_assoc (drop used v) f.given others) in
-        rw (first, last) (reads_on_then _ _ _ (before.on (f.given ++ others)) (on (f.given ++ others)));
-  }
-
-ends_by : (x y : Result Circuit Stopped) (r : Result Circuit Stopped) → ReadsOn x y → GivesOrMemory (λ c. c) r y
-    → GivesOrMemory (λ c. c) r x
-ends_by x y (Ok c) (inl m) h =
-    let no : ◌≡◌ {A = Result Circuit Stopped} (Err OutOfMemory) (Ok c) = sym m ∙ h in cc
-ends_by x y (Ok c) (inr e) h = e ∙ h
-ends_by x y (Err f) p (inl w) = inl w
-ends_by x y (Err f) (inl m) (inr h) =
-    let same : ◌≡◌ {A = Result Circuit Stopped} (Err f) (Err OutOfMemory) = sym h ∙ m in inl cc
-ends_by x y (Err f) (inr e) (inr h) = inr (e ∙ h)
-
--- the source failed as it did later, and by an error of its own
-pub failed_later : (stopped : Stopped) (xs : List ℕ) (a b c : History) → b ≡ took xs a → HasFailed stopped b c
-    → HasFailed stopped a c
-failed_later stopped xs a b c came f =
-    record { error = f.error; is = f.is; gave = some_later f.error xs a b c came f.gave }
-
-pub failed_by : (error : ReadError) (a b : History) → GaveSome error a b → HasFailed (stopped_by error) a b
-failed_by error a b gave = record { error = error; is = refl; gave = gave }
-
--- all bytes came
-pub all_came : {A : Type 0} (Holds : Result A Stopped → List ℕ → Type 0) (answer : Result A Stopped) (a b : History)
-    → HasRead (λ bytes. Holds answer bytes) a b → ReadsAs Holds answer a b
-all_came Holds (Ok x) a b h = h
-all_came Holds (Err e) a b h = inl h
-
--- the rest of a file was read
-abbrev pub RestRead : (List ℕ → Result Circuit Stopped) → List ℕ → History → History → Result Circuit Stopped
-    → Type 0
-RestRead tell u a c answer = HasRead (λ bytes. GivesOrMemory (λ d. d) answer (tell (u ++ bytes))) a c
-
-pub rest_read : (r s : List ℕ → Result Circuit Stopped) (u v w : List ℕ) (more : Bool) (a b c : History)
-    (answer : Result Circuit Stopped) → ReadsFrom r s u v more a b → ComesOn v w more false b c
-    → GivesOrMemory (λ d. d) answer (s w) → RestRead r u a c answer
-rest_read r s u v w more a b c answer reads all h =
-    let h = rw all.all at h in
-    record {
-      bytes = reads.given ++ all.given;
-      gave = all.gave a reads.given reads.gave;
-      holds =
-          rw (← append_assoc u reads.given all.given)
-          (ends_by _ _ answer (reads.on all.given) h);
-    }
-
--- and all of it, of which the first bytes came before
-pub whole_read : (tell s : List ℕ → Result Circuit Stopped) (u v : List ℕ) (a b c : History)
-    (answer : Result Circuit Stopped) → ReadsFrom tell s u v true a b → RestRead s v b c answer
-    → RestRead tell u a c answer
-whole_read tell s u v a b c answer reads h =
-    let all : u ++ (reads.given ++ h.bytes) ≡ (u ++ reads.given) ++ h.bytes =
-    sym (append_assoc u reads.given h.bytes) in
-    record {
-      bytes = reads.given ++ h.bytes;
-      gave = gave_then true reads.given h.bytes a b c reads.gave h.gave;
-      holds = rw all (ends_by _ _ answer (reads.on h.bytes) h.holds);
-    }
-
--- A source whose first bytes were fetched, and of which the header or the lines in front of the gates were read.
+-- A source whose first bytes were fetched, and of which the header was read.
 
 -- what bytes told is what those tell that are left when the first of their whole lines are taken
 passed : (tell s : List ℕ → Result Circuit Stopped) (bytes lines rest held : List ℕ) (used : ℕ)
@@ -132,7 +43,7 @@ passed tell s bytes lines rest held used cut within on is more =
 -- these first bytes begin no binary file, and the reader and the bytes that are held tell the same as they
 pub record IsBegun (limit : ℕ) (first held : List ℕ) (r : AsciiReader) : Type 0 where
   pub other : (more : List ℕ) → first_word_is binary_word (lines_of (first ++ more)) ≡ false
-  pub told : (more : List ℕ) → circuit_at limit (lines_of (first ++ more)) ≡ rest_of r (lines_of (held ++ more))
+  pub told : (more : List ℕ) → circuit_at limit (lines_of (first ++ more)) ≡ rest_of r (held ++ more)
 
 same_word : (word : List ℕ) (ls more : List Line) → ls ≢ [] → first_word_is word (ls ++ more) ≡ first_word_is word ls
 same_word word [] more some = absurd (some refl)
@@ -151,7 +62,7 @@ pub begun : (limit : ℕ) (first lines rest : List ℕ) (used : ℕ) (r : AsciiR
     → bytes ≡ lines ++ rest → AreEnded (lines_of lines) → {empty : Bool} → empty ≡ eqb (length lines) 0
     → empty ≡ false → {word : Bool} → word ≡ first_word_is binary_word (lines_of lines) → word ≡ false
     → used ≤ length lines
-    → ((more : List ℕ) → circuit_at limit (lines_of (lines ++ more)) ≡ rest_of r (lines_of (drop used lines ++ more)))
+    → ((more : List ℕ) → circuit_at limit (lines_of (lines ++ more)) ≡ rest_of r (drop used lines ++ more))
     → {held : List ℕ} → held ≡ drop used first → IsBegun limit first held r
 begun limit first lines rest used r all cut ended is_empty some is_word other within on {held} is =
     let parts = sym all ∙ cut in
@@ -159,13 +70,13 @@ begun limit first lines rest used r all cut ended is_empty some is_word other wi
       other = λ more.
           word_stays first lines rest more parts ended (sym is_empty ∙ some) ∙ sym is_word ∙ other;
       told =
-          passed (λ bytes. circuit_at limit (lines_of bytes)) (λ bytes. rest_of r (lines_of bytes)) first lines rest
-          held used parts within on is;
+          passed (λ bytes. circuit_at limit (lines_of bytes)) (rest_of r) first lines rest held used parts within on
+          is;
     }
 
 module _ {limit : ℕ} {first held : List ℕ} {r : AsciiReader} (begin : IsBegun limit first held r) where
   abbrev tell : List ℕ → Result Circuit Stopped
-  tell bytes = rest_of r (lines_of bytes)
+  tell = rest_of r
 
   ascii_reading : (more : List ℕ) → file_reading limit (first ++ more) ≡ reading limit (first ++ more)
   ascii_reading more = rw (begin.other more) refl
@@ -203,17 +114,17 @@ module _ {limit : ℕ} {first held : List ℕ} {r : AsciiReader} (begin : IsBegu
         rw (ascii_reading h.bytes) (ascii_line_fault limit (first ++ h.bytes) e (rw (begin.told h.bytes) h.holds));
   })
 
--- the front was read of the whole lines of what came
-pub front_read : (tell s : List ℕ → Result Circuit Stopped) (u v lines rest held : List ℕ) (used : ℕ) (a b : History)
-    → Filled u v true a b → v ≡ lines ++ rest → used ≤ length lines
-    → ((more : List ℕ) → tell (lines ++ more) ≡ s (drop used lines ++ more)) → held ≡ drop used v
-    → ReadsFrom tell s u held true a b
-front_read tell s u v lines rest held used a b f cut within on is = record {
-  given = f.given;
-  gave = f.gave;
+-- the header line was read of the whole lines of what came
+pub header_read : (tell s : List ℕ → Result Circuit Stopped) (first lines rest held : List ℕ) (used : ℕ) (a : History)
+    → first ≡ lines ++ rest → used ≤ length lines
+    → ((more : List ℕ) → tell (lines ++ more) ≡ s (drop used lines ++ more)) → held ≡ drop used first
+    → ReadsFrom tell s first held true a a
+header_read tell s first lines rest held used a cut within on is = record {
+  given = [];
+  gave = took_none a;
   on = λ others.
-      inr (ap (λ (bytes : List ℕ). tell (bytes ++ others)) (sym f.held)
-      ∙ passed tell s v lines rest held used cut within on is others);
+      inr (ap (λ (bytes : List ℕ). tell (bytes ++ others)) (append-nil first)
+      ∙ passed tell s first lines rest held used cut within on is others);
 }
 
 module _ (limit : ℕ) (first held : List ℕ) (s : List ℕ → Result Circuit Stopped) (a b : History)
@@ -249,10 +160,3 @@ module _ (limit : ℕ) (first held : List ℕ) (s : List ℕ → Result Circuit 
           gave = gave_then true first w.bytes before a d came w.gave;
           holds = rw (word w.bytes) (line_fault limit (first ++ w.bytes) e w.holds);
         })
-
--- what is held is what a source gave
-pub all_held : (first held : List ℕ) (more : Bool) (before a b : History) → a ≡ took first before
-    → Filled first held more a b → b ≡ gave held (not more) before
-all_held first held more before a b came f =
-    gave_then (not more) first f.given before a b came f.gave
-    ∙ ap (λ (bytes : List ℕ). gave bytes (not more) before) (sym f.held)

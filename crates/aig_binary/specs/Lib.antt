@@ -6,5 +6,3 @@ pub mod Begun
 pub mod Laws
 pub mod FileLaws
 pub mod File
-pub mod Sources
-pub mod Parts

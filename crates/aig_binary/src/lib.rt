@@ -14,7 +14,6 @@ mod file;
 mod gates;
 pub mod laws;
 mod pieces;
-mod piecewise;
 mod reader;
 mod source;
 mod writer;

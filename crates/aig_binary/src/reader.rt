@@ -1,32 +1,24 @@
 //! The reader of binary files.
-ghost use Rattle.std.specs.Prelude.{◌≡◌, ◌+◌, ◌^◌, ◌<◌, ◌≤◌, IfOk, IfErr};
-ghost use Rattle.std.specs.Prelude.{MatchResult, OnOk, length};
-ghost use Rattle.std.specs.List.{range_with_len, sum};
+ghost use Rattle.std.specs.Prelude.{◌≡◌, ◌+◌, ◌^◌, ◌<◌, IfOk, IfErr, MatchResult, OnOk};
+ghost use Rattle.std.specs.List.{range_with_len};
 ghost use Rattle.aig_fault.specs.declared.stopped.Stopped.TheVariants.{OutOfMemory};
-ghost use Rattle.aig_circuit.specs.Wellformed.{largest_index};
-ghost use Rattle.aig_lines.specs.Lines.{lines_of};
-ghost use Rattle.aig_text.specs.declared.section.Section.TheVariants.{Latches};
-ghost use Rattle.aig_text.specs.Sections.{in_binary, sections};
-ghost use Rattle.aig_rows.specs.Outcomes.{GivesOrMemory};
+ghost use Rattle.aig_lines.specs.Lines.{IsBehind, lines_of};
+ghost use Rattle.aig_rows.specs.Outcomes.{GivesOrFails, GivesOrMemory};
 ghost use Rattle.aig_circuit.specs.declared.circuit.Circuit.{Circuit as CircuitRecord};
-ghost use Rattle.aig_text.specs.Reading.{IsFirstFault, section_at, sections_at};
+ghost use Rattle.aig_text.specs.Begun.{IsLimited};
+ghost use Rattle.aig_text.specs.Reading.{IsFirstFault};
 ghost use Rattle.aig_rows.specs.Reading.{at_line};
 ghost use Rattle.aig_checked.specs.BinaryOrder.{IsInBinaryOrder};
 ghost use Rattle.aig_binary.specs.BinaryGrammar.{IsBinaryText};
 ghost use Rattle.aig_binary.specs.BinaryReading.{filled, with_definitions};
 ghost use Rattle.aig_binary.specs.BinaryReading.{binary_at, first_binary_fault};
-ghost use Rattle.aig_binary.specs.Begun.{front_at};
-ghost use Rattle.aig_binary.specs.Parts.NextStates.{latches_by};
+ghost use Rattle.aig_binary.specs.Begun.{filled_header_at};
 
 use crate::pieces::BinaryReader;
-use crate::piecewise::Pieces;
-use aig_core::{Checked, Circuit, Gate, Latch, Listing, Ordered, Var};
+use aig_core::{Checked, Circuit, Gate, Listing, Ordered, Var};
 use aig_fault::{Kind, Stopped, refused_at};
 use aig_lines::Cursor;
-use aig_text::{
-    Header, Limits, NextState, SECTIONS, Section, empty_circuit, header, next_states, read_section,
-    tail,
-};
+use aig_text::{Header, Limits, Pieces, header};
 use std::alloc::Global;
 
 /// The first word of a binary file.
@@ -58,96 +50,6 @@ fn inputs(alloc: Global, count: u32) -> Result<Listing<Var>, Stopped>
     Ok(found)
 }
 
-/// The latches of this variable and the next ones, which have these next states.
-fn latches(
-    alloc: Global,
-    variable: u32,
-    nexts: &Listing<NextState>,
-) -> Result<Listing<Latch>, Stopped>
-    requires { variable + length nexts.now < 2 ^ 32 }
-    ensures ok { IfOk result (λ found. found ≡ latches_by variable nexts.now) }
-    ensures err { IfErr result (λ e. e ≡ OutOfMemory) }
-{
-    let mut found = Listing::from_vec(Vec::with_capacity(alloc, nexts.len())?);
-    let mut var = variable;
-    for next in nexts.as_slice() {
-        found.push(Latch {
-            var: Var(var),
-            next: next.next,
-            reset: next.reset,
-        })?;
-        var += 1;
-    }
-    Ok(found)
-}
-
-fn read_latches(
-    alloc: Global,
-    header: &Header,
-    circuit: &mut Circuit,
-    at: &mut Cursor,
-) -> Result<(), Stopped>
-    requires max_var { header.now.max_var ≤ largest_index }
-    requires definitions { header.now.inputs + header.now.latches ≤ header.now.max_var }
-    ensures { GivesOrMemory (λ _. (circuit.new, at.new)) result
-        (section_at (in_binary Latches) header.now circuit.old at.old) }
-{
-    let first = 2 * (1 + u64::from(header.inputs));
-    let nexts = next_states(alloc, header.latches, first, at, header.max_var)?;
-    circuit.latches = latches(alloc, 1 + header.inputs, &nexts)?;
-    Ok(())
-}
-
-#[tactic(auto, using(crate::proofs::Front::nothing_found))]
-fn read_lines(
-    alloc: Global,
-    section: Section,
-    header: &Header,
-    circuit: &mut Circuit,
-    at: &mut Cursor,
-) -> Result<(), Stopped>
-    requires max_var { header.now.max_var ≤ largest_index }
-    requires limit { header.now.limit ≤ largest_index }
-    requires definitions { header.now.inputs + header.now.latches ≤ header.now.max_var }
-    requires sizes { sum circuit.old.justice.sizes ≤ header.now.limit }
-    ensures read { GivesOrMemory (λ _. (circuit.new, at.new)) result
-        (section_at (in_binary section) header.now circuit.old at.old) }
-    ensures sizes { OnOk result (sum circuit.new.justice.sizes ≤ header.now.limit) }
-{
-    match section {
-        Section::Inputs | Section::Gates => Ok(()),
-        Section::Latches => read_latches(alloc, header, circuit, at),
-        Section::Outputs
-        | Section::Bad
-        | Section::Constraints
-        | Section::JusticeSizes
-        | Section::JusticeLiterals
-        | Section::Fairness => read_section(section, header, circuit, at),
-    }
-}
-
-fn read_sections(
-    alloc: Global,
-    header: &Header,
-    circuit: &mut Circuit,
-    at: &mut Cursor,
-) -> Result<(), Stopped>
-    requires max_var { header.now.max_var ≤ largest_index }
-    requires limit { header.now.limit ≤ largest_index }
-    requires definitions { header.now.inputs + header.now.latches ≤ header.now.max_var }
-    requires sizes { sum circuit.old.justice.sizes ≤ header.now.limit }
-    ensures { GivesOrMemory (λ _. (circuit.new, at.new)) result
-        (sections_at in_binary header.now sections circuit.old at.old) }
-{
-    for section in SECTIONS {
-        // For a `?` here the kit's borrow checker makes no proof.
-        if let Err(fault) = read_lines(alloc, section, header, circuit, at) {
-            return Err(fault);
-        }
-    }
-    Ok(())
-}
-
 /// Adds the definitions that no line tells.
 pub(crate) fn add_definitions(
     alloc: Global,
@@ -164,22 +66,15 @@ pub(crate) fn add_definitions(
     Ok(())
 }
 
-pub(crate) fn read_front(
-    alloc: Global,
-    at: &mut Cursor,
-    limits: Limits,
-) -> Result<(Header, Circuit), Stopped>
-    ensures front { GivesOrMemory (λ x. (x, at.new)) result (front_at limits.max_var at.old) }
-    ensures limited { IfOk result (λ x. x.0.inputs + x.0.latches + x.0.gates ≤ largest_index) }
+/// Reads the header line, which has to promise all definitions, and moves past it.
+pub(crate) fn filled_header(at: &mut Cursor, limits: Limits) -> Result<Header, Stopped>
+    ensures header { GivesOrFails (λ header. (header, at.new)) result
+        (filled_header_at limits.max_var at.old) }
+    ensures limited { IfOk result (λ h. IsLimited h) }
+    ensures behind { IsBehind at.old at.new }
 {
     let promised = header(BINARY_WORD, at, limits)?;
-    let header = check_filled(promised)?;
-    let mut circuit = empty_circuit(alloc, header.max_var);
-    if let Err(fault) = read_sections(alloc, &header, &mut circuit, at) {
-        drop(circuit); // for the proof
-        return Err(fault);
-    }
-    Ok((header, circuit))
+    check_filled(promised)
 }
 
 /// Whether it is well formed is not checked here.
@@ -187,8 +82,8 @@ fn read_unchecked(alloc: Global, bytes: &[u8], limits: Limits) -> Result<Circuit
     ensures { GivesOrMemory (λ c. c) result (binary_at limits.max_var (lines_of bytes.now)) }
 {
     let mut at = Cursor::new(bytes);
-    let (header, circuit) = read_front(alloc, &mut at, limits)?;
-    let reader = BinaryReader::new(alloc, header, circuit, at.number);
+    let header = filled_header(&mut at, limits)?;
+    let reader = BinaryReader::new(alloc, Ok(header), at.number);
     match reader.finish(alloc, at.rest) {
         Ok(found) => found.with_comment_of(alloc, at.rest),
         Err(fault) => Err(fault),

@@ -7,5 +7,4 @@ pub mod SymbolText
 pub mod Symbols
 pub mod Naming
 pub mod Parts
-pub mod Messages
 pub mod Laws

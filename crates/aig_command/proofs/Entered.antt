@@ -15,7 +15,8 @@ use Rattle.clap.specs.Simple.{App, Shape, built, entered, label_of, names_of, ro
 use Rattle.clap.specs.Walk.{Held, Names, answers_to, finished, nothing_held, walk, action_of, arg_by_id, at_row}
 use Rattle.clap.specs.Walk.{counted, default_rows, has_row, is_empty, more_values, new_count, reading_by, used, used_as}
 use Rattle.clap.specs.Walk.{values_or_missing, with_count, with_default, with_values, without}
-use Rattle.clap.specs.Walk.{Outcome, Step, Waiting, Walk, after_flag, after_step, arg_by_index, arg_by_long, bundle, done}
+use Rattle.clap.specs.Walk.{Outcome, Step, Waiting, Walk, after_flag, after_step, arg_by_index, arg_by_long, bundle}
+use Rattle.clap.specs.Walk.{done}
 use Rattle.clap.specs.Walk.{idle, long_met, long_or_other, next, option, plain, plain_word, positional, refused}
 use Rattle.clap.specs.Walk.{short_or_plain, subcommand, subcommand_met, subcommand_or_other, to_positional, trailing}
 use Rattle.clap.specs.Walk.{value, waits, walk_from, walked, walked_from, word_met}
@@ -227,7 +228,13 @@ only_help name e other = true≢false (go (bytes_eq (codes "help") name) refl e)
 each_is_ours : AllByRecursion IsOurs (built aiger).subs
 each_is_ours = (
   λ name words e other. refl,
-  (λ name words e other. refl, (λ name words e other. refl, (λ name words e other. absurd (only_help name e other), tt))),
+  (
+    λ name words e other. refl,
+    (
+      λ name words e other. refl,
+      (λ name words e other. refl, (λ name words e other. absurd (only_help name e other), tt)),
+    ),
+  ),
 )
 
 is_known : (stop : Option (Text × List Text)) → IsNoHelp stop → IsKnownIfMet (entered (built aiger) stop)

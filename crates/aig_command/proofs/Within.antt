@@ -29,7 +29,8 @@ use Rattle.clap.proofs.CallerReads.{signed_reads}
 use Rattle.clap.proofs.ValueTestLemmas.{accepts-Accepts}
 use Rattle.aig_command.specs.Asked.{file, number_in, Asked, AsksWithinLimits, asked_by, command_of}
 use Rattle.aig_command.specs.Asked.{faults, frames, limit, number, refused}
-use Rattle.aig_command.specs.Asked.{aigunroll, asked_reaching, asks, conversion, is_given, options_refusal, proving}
+use Rattle.aig_command.specs.Asked.{aigmiter, aigunroll, asked_reaching, asks, comparison, conversion, is_given}
+use Rattle.aig_command.specs.Asked.{options_refusal, proving}
 use Rattle.aig_command.specs.Asked.{reaching, simulation, sync_refusal, to_aig, unrolling}
 use Rattle.aig_command.specs.Aiger.{aiger, largest_index, max_var, most_frames, frames as frames_rule}
 use Rattle.aig_command.specs.declared.request.Command.TheVariants as commands
@@ -268,6 +269,11 @@ to_aig_is_in rows =
     unless_one_refused _ (sync_refusal rows)
     (asks _ (commands.ToAig (conversion rows (file (codes "destination") rows))))
 
+aigmiter_is_in : (rows : List Row) → limit rows ≤ largest_index → AsksWithinLimits (aigmiter rows)
+aigmiter_is_in rows =
+    unless_one_refused _ (sync_refusal rows)
+    (asks _ (commands.Miter (comparison rows (file (codes "destination") rows))))
+
 subcommands_are_bounded : AllByRecursion IsBounded (built aiger).subs
 subcommands_are_bounded = (
   (search rules, λ rows h. to_aig_is_in rows (limit_is_in _ _ refl refl rows h)),
@@ -281,7 +287,10 @@ subcommands_are_bounded = (
         search rules,
         λ rows h. aigunroll_is_in rows (frames_are_in _ _ refl refl rows h) (limit_is_in _ _ refl refl rows h),
       ),
-      ((search rules, λ rows h. tt), tt),
+      (
+        (search rules, λ rows h. aigmiter_is_in rows (limit_is_in _ _ refl refl rows h)),
+        ((search rules, λ rows h. tt), tt),
+      ),
     ),
   ),
 )

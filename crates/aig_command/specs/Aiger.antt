@@ -78,6 +78,12 @@ aigunroll = with_rules (new_app (codes "aigunroll"))
     ∷ solver_file (codes "refutation") ∷ solver_file (codes "invariant") ∷ bad ∷ flag (codes "sync")
     ∷ max_var ∷ new_rule (codes "source") ∷ new_rule (codes "destination") ∷ [])
 
+-- `aigmiter`: its options in any order, then the names of the two circuits and of the destination, by place
+abbrev pub aigmiter : App
+aigmiter = with_rules (new_app (codes "aigmiter"))
+    (flag (codes "by-name") ∷ flag (codes "ascii") ∷ flag (codes "sync") ∷ max_var ∷ required_file (codes "first")
+    ∷ required_file (codes "second") ∷ new_rule (codes "destination") ∷ [])
+
 -- a command that has to be given a subcommand, answers with help where nothing is given, and has a version, as its
 -- subcommands have; `clap` adds the subcommand `help`
 abbrev pub above : App → App
@@ -93,8 +99,9 @@ above a = record a {
 -- the program, with its subcommands
 abbrev pub aiger : App
 aiger =
-    with_subcommand (with_subcommand (with_subcommand (above (new_app (codes "aiger"))) to_aig.top) aigsim.top)
-    aigunroll.top
+    with_subcommand
+    (with_subcommand (with_subcommand (with_subcommand (above (new_app (codes "aiger"))) to_aig.top) aigsim.top)
+    aigunroll.top) aigmiter.top
 
 -- `clap` reads this of the command, and none of its arguments is one of its subcommands too. Only private functions
 -- cite it.

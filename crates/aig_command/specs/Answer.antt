@@ -1,5 +1,6 @@
 -- What is answered to a command line (this project's profile).
-use Rattle.std.specs.Prelude.{◌≡◌, ◌≢◌, ◌<◌, ◌≤◌, ◌||◌, List, ◌∷◌, ◌++◌, Bool, true, false, drop, map, nat_eq, Option, Some, None}
+use Rattle.std.specs.Prelude.{◌≡◌, ◌≢◌, ◌<◌, ◌≤◌, ◌||◌, List, ◌∷◌, ◌++◌, Bool, true, false, drop, map, nat_eq, Option}
+use Rattle.std.specs.Prelude.{Some, None}
 use Rattle.std.specs.Prelude.{Result, Ok, Err, codes, option_map, String, string_bytes, string_len, ⊤}
 use Rattle.std.specs.Global.{Global}
 use Rattle.std.specs.List.{list_any, starts_with}
@@ -137,6 +138,7 @@ CanDo names (commands.Sim request) = HasOneStandardInput names × IsWitnessAlone
 CanDo names (commands.Unroll request) = HasFrames request
 CanDo names (commands.Reach request) = HasOneStandardInput names × CanReach request
 CanDo names (commands.Invariant request) = CanProve names request
+CanDo names (commands.Miter request) = HasOneStandardInput names
 CanDo names (commands.Help text) = ⊤
 CanDo names (commands.Version text) = ⊤
 

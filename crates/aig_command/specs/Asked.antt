@@ -12,6 +12,7 @@ use Rattle.aig_command.specs.Aiger.{aiger, largest_index, most_frames}
 use Rattle.aig_command.specs.declared.request.Command.{Command}
 use Rattle.aig_command.specs.declared.request.Command.TheVariants as commands
 use Rattle.aig_command.specs.declared.request.Invariant.{Invariant}
+use Rattle.aig_command.specs.declared.request.Miter.{Miter}
 use Rattle.aig_command.specs.declared.request.Reach.{Reach}
 use Rattle.aig_command.specs.declared.request.Sim.{Sim}
 use Rattle.aig_command.specs.declared.request.SolverFile.{SolverFile}
@@ -222,6 +223,28 @@ options_refusal rows =
     else if is_given (codes "bad") rows && not (clauses || answer || refutation) then Some usage.BadNeedsClauses
     else None
 
+-- the miter to this destination that the arguments of `aigmiter` name
+abbrev pub comparison : List Row → Option Text → Miter
+comparison rows destination = record {
+  ascii = wants_ascii rows destination;
+  by_name = is_set (codes "by-name") rows;
+  max_var = limit rows;
+}
+
+-- its two circuits, and where it is written
+abbrev pub miter_files : List Row → Files
+miter_files rows = record {
+  model = file (codes "first") rows;
+  file = file (codes "second") rows;
+  refutation = None;
+  destination = file (codes "destination") rows;
+}
+
+-- the first reason to refuse the files of a miter: the standard input is one stream, and cannot give two circuits
+abbrev pub miter_refusal : Files → Option Usage
+miter_refusal files =
+    if has_one_stream_for_two files then Some usage.CircuitsAreStandardInput else destination_refusal files.destination
+
 -- what is asked for, of which files, or why that is refused
 pub data Asked : Type 0 where
   asks : Files → Command → Asked
@@ -236,6 +259,7 @@ AsksWithinLimits (asks files (commands.Unroll request)) =
 AsksWithinLimits (asks files (commands.Reach request)) =
     (1 ≤ request.frames) × (request.frames ≤ most_frames) × (request.max_var ≤ largest_index)
 AsksWithinLimits (asks files (commands.Invariant request)) = request.max_var ≤ largest_index
+AsksWithinLimits (asks files (commands.Miter request)) = request.max_var ≤ largest_index
 AsksWithinLimits asked = ⊤
 
 -- what the arguments of `aigtoaig` ask for
@@ -281,9 +305,18 @@ aigunroll rows =
     else if is_given (codes "refutation") rows then asked_reaching written.Refutation rows
     else asked_unrolling rows))
 
+-- what the arguments of `aigmiter` ask for
+abbrev pub aigmiter : List Row → Asked
+aigmiter rows =
+    let files = miter_files rows in
+    option_map_or refused (miter_refusal files)
+    (option_map_or refused (sync_refusal rows) (asks files (commands.Miter (comparison rows files.destination))))
+
 -- each subcommand: its name, and what its arguments ask for
 abbrev pub subcommands : List (Text × (List Row → Asked))
-subcommands = (codes "aigtoaig", to_aig) ∷ (codes "aigsim", aigsim) ∷ (codes "aigunroll", aigunroll) ∷ []
+subcommands =
+    (codes "aigtoaig", to_aig) ∷ (codes "aigsim", aigsim) ∷ (codes "aigunroll", aigunroll)
+    ∷ (codes "aigmiter", aigmiter) ∷ []
 
 -- what the subcommand of this name with these arguments asks for
 abbrev pub asked_by : Text × List Row → Option Asked

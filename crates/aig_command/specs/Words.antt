@@ -25,5 +25,6 @@ usage_words usages.InvariantAlone = codes "--invariant excludes --frames, --asci
 usage_words usages.InvariantNeedsClauses = codes "--invariant needs --cnf or --refutation"
 usage_words usages.InvariantIsModel = codes "model and invariant are both standard input"
 usage_words usages.RefutationIsInvariant = codes "invariant and refutation are both standard input"
+usage_words usages.CircuitsAreStandardInput = codes "both circuits are standard input"
 usage_words usages.SyncNeedsDestination = codes "--sync needs the name of a destination"
 usage_words usages.OutOfMemory = codes "out of memory"

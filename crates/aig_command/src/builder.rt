@@ -1,7 +1,7 @@
 //! The command line as `clap` takes it, with its help texts.
 ghost use Rattle.std.specs.Prelude.{IfOk, codes};
 ghost use Rattle.clap.specs.Words.{App, Rule, new_app, new_rule, with_rule, with_subcommand};
-ghost use Rattle.aig_command.specs.Aiger.{HasApp, HasRule, above, aiger, aigsim};
+ghost use Rattle.aig_command.specs.Aiger.{HasApp, HasRule, above, aiger, aigmiter, aigsim};
 ghost use Rattle.aig_command.specs.Aiger.{aigunroll, bad, flag, frames, max_var};
 ghost use Rattle.aig_command.specs.Aiger.{required_file, solver_file, to_aig};
 
@@ -10,7 +10,7 @@ use std::alloc::{AllocError, Global};
 
 /// The program's version, the one place in the sources that has it. By its contract the library's
 /// number is the same.
-pub const VERSION: &str = "1.2.0";
+pub const VERSION: &str = "1.3.0";
 
 const ABOUT: &str = "Tools for circuits in the AIGER format";
 
@@ -154,6 +154,56 @@ Examples:
   aiger aigunroll --invariant model.pla --cnf model.aig never.cnf
   cadical -q never.cnf never.drat
   aiger aigunroll --invariant model.pla --refutation never.drat model.aig";
+
+const MITER_ABOUT: &str = "Make one circuit of two, to show that they are equal";
+
+const MITER_AFTER: &str = "\
+The circuit that is written, the miter, has the inputs of the first, the latches
+and gates of both, and the constraints of the first. Its bad states say where
+the two differ: of their outputs, then their bad states, the one of number N is
+1 in a step where those of number N differ. Then one follows for each constraint
+of the second, which is 1 where that does not hold while all of the first do. It
+has no symbols and no comment. Outputs and bad states count together: one may
+have as outputs what the other has as bad states.
+
+With --by-name inputs, outputs and bad states are paired by their symbols, and
+not by their places. Each must have one; bad states keep the order of the first.
+
+Latches without initial value start alike: the first of one circuit as the first
+of the other, and so on, as far as both have some; the rest start freely. The
+miter has one latch and some constraints more for this, if there is a pair.
+
+What then is known of the miter is known of both:
+  aigunroll --refutation says 'none within K': equal for K steps. For circuits
+    without latches K = 1 is enough.
+  aigunroll --invariant says 'never': equal at each step.
+  aigunroll --answer writes a run in which they differ; bN names the place.
+
+The miter is ASCII where --ascii is given or the name of the destination ends in
+.aag, and else binary. Nothing is written before both circuits were read, so the
+destination may be one of them; it is lost if writing fails. Justice properties
+and fairness constraints cannot be compared.
+
+Exit status:
+  0  done, also for --help
+  1  a circuit was refused, a file or stream failed, or memory ran out
+  2  the command line was refused
+
+Examples:
+  aiger aigmiter old.aig new.aig miter.aig      to binary
+  aiger aigmiter --by-name old.aag new.aig miter.aag   by symbols, to ASCII
+  aiger aigmiter old.aig - < new.aig > miter.aig       the second from a stream
+  aiger aigunroll --frames 1 --cnf miter.aig miter.cnf
+  cadical -q miter.cnf miter.drat
+  aiger aigunroll --frames 1 --refutation miter.drat miter.aig";
+
+const BY_NAME_HELP: &str = "\
+Pair inputs, outputs and bad states by their symbols, and
+not by their places";
+
+const FIRST_HELP: &str = "The first circuit's file; - is the standard input";
+
+const SECOND_HELP: &str = "The second circuit's file; - is the standard input";
 
 const FRAMES_HELP: &str = "\
 The number of time frames: 1 to 1000000; needed where
@@ -385,6 +435,19 @@ fn aigunroll<'a>(alloc: Global) -> Result<Command<'a>, AllocError>
     with_argument(command, file(alloc, "destination", DESTINATION_HELP))
 }
 
+fn aigmiter<'a>(alloc: Global) -> Result<Command<'a>, AllocError>
+    ensures { IfOk result (HasApp aigmiter) }
+{
+    let command = Ok(command(alloc, "aigmiter", MITER_ABOUT, MITER_AFTER));
+    let command = with_argument(command, flag(alloc, "by-name", BY_NAME_HELP));
+    let command = with_argument(command, flag(alloc, "ascii", ASCII_HELP));
+    let command = with_argument(command, flag(alloc, "sync", SYNC_HELP));
+    let command = with_argument(command, max_var(alloc));
+    let command = with_argument(command, required_file(alloc, "first", FIRST_HELP));
+    let command = with_argument(command, required_file(alloc, "second", SECOND_HELP));
+    with_argument(command, file(alloc, "destination", DESTINATION_HELP))
+}
+
 /// The program, before its subcommands.
 fn program<'a>(alloc: Global) -> Result<Command<'a>, AllocError>
     ensures { IfOk result (HasApp (above (new_app (codes "aiger")))) }
@@ -402,5 +465,6 @@ pub(crate) fn aiger<'a>(alloc: Global) -> Result<Command<'a>, AllocError>
 {
     let program = with_subcommand(program(alloc), to_aig(alloc));
     let program = with_subcommand(program, aigsim(alloc));
-    with_subcommand(program, aigunroll(alloc))
+    let program = with_subcommand(program, aigunroll(alloc));
+    with_subcommand(program, aigmiter(alloc))
 }

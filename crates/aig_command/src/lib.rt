@@ -10,6 +10,7 @@ mod builder;
 mod destination;
 mod hints;
 pub mod laws;
+mod miter;
 mod options;
 mod proving;
 mod reach;
@@ -23,6 +24,7 @@ mod usage;
 pub use crate::builder::VERSION;
 pub use crate::reader::command;
 pub use crate::request::{
-    Command, CommandLine, Invariant, Names, Reach, Sim, SolverFile, ToAig, Unroll, UnrolledForm,
+    Command, CommandLine, Invariant, Miter, Names, Reach, Sim, SolverFile, ToAig, Unroll,
+    UnrolledForm,
 };
 pub use crate::usage::Usage;

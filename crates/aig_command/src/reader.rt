@@ -13,6 +13,7 @@ ghost use Rattle.aig_command.specs.Asked.{asked_by, asks_sync, AsksWithinLimits,
 
 use crate::builder::{VERSION, aiger};
 use crate::hints::with_hint;
+use crate::miter::aigmiter;
 use crate::options::is_set;
 use crate::request::{Command, CommandLine, Names};
 use crate::sim::aigsim;
@@ -47,6 +48,7 @@ fn read_matches(alloc: Global, matches: &ArgMatches<'_>) -> Result<(Names, Comma
         "aigtoaig" => to_aig(alloc, words),
         "aigsim" => aigsim(alloc, words),
         "aigunroll" => aigunroll(alloc, words),
+        "aigmiter" => aigmiter(alloc, words),
         _ => unreachable!(),
     }
 }

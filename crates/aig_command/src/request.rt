@@ -95,6 +95,17 @@ pub struct Invariant {
     pub refuted: bool,
 }
 
+/// A miter of two circuits, which says where they differ.
+#[derive(Clone, Copy)]
+pub struct Miter {
+    /// Whether ASCII is written, whether an option or the destination's name decided it.
+    pub ascii: bool,
+    /// Whether inputs, outputs and bad states are paired by their symbols, and not by their places.
+    pub by_name: bool,
+    /// The limit on the largest variable index and the counts of each circuit.
+    pub max_var: u32,
+}
+
 /// What a command line asks for.
 #[derive(Drop)]
 pub enum Command {
@@ -108,6 +119,8 @@ pub enum Command {
     Reach(Reach),
     /// `aigunroll --invariant`.
     Invariant(Invariant),
+    /// `aigmiter`.
+    Miter(Miter),
     /// Help; this is its text.
     Help(String),
     /// The program's version; this is its text.
@@ -118,10 +131,10 @@ pub enum Command {
 /// have.
 #[derive(Drop)]
 pub struct Names {
-    /// The model, or the source of a conversion.
+    /// The model, the source of a conversion, or the first of two circuits.
     pub model: Option<String>,
-    /// What is read after the model: a stimulus, a witness file, what a solver wrote, or an
-    /// invariant. Where one is read, this or the model is a file with a name.
+    /// What is read after the model: a stimulus, a witness file, what a solver wrote, an invariant,
+    /// or the second circuit. Where one is read, this or the model is a file with a name.
     pub file: Option<String>,
     /// The refutation of the clauses in which an invariant is to be shown. Where one is checked, at
     /// least two of the three that are read have names.

@@ -52,6 +52,8 @@ pub enum Usage {
     InvariantIsModel,
     /// Both an invariant and a refutation for it are read from the standard input.
     RefutationIsInvariant,
+    /// Both circuits are read from the standard input.
+    CircuitsAreStandardInput,
     /// The disk is to have a destination that is the standard output.
     SyncNeedsDestination,
     /// An allocation failed; nothing is known of the command line.
@@ -85,6 +87,7 @@ impl Usage {
             Usage::InvariantNeedsClauses => "--invariant needs --cnf or --refutation",
             Usage::InvariantIsModel => "model and invariant are both standard input",
             Usage::RefutationIsInvariant => "invariant and refutation are both standard input",
+            Usage::CircuitsAreStandardInput => "both circuits are standard input",
             Usage::SyncNeedsDestination => "--sync needs the name of a destination",
             Usage::OutOfMemory => "out of memory",
         }

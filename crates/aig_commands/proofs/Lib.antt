@@ -1,3 +1,4 @@
+pub mod Fewer
 pub mod Readings
 pub mod Converting
 pub mod Trips
@@ -20,3 +21,5 @@ pub mod Texts
 pub mod Dumps
 pub mod WitnessDumps
 pub mod Outcomes
+pub mod Comparings
+pub mod Compared

@@ -1,7 +1,7 @@
 -- What comes of a source that was read, by what was made of it; and the first fault of a file.
 use Rattle.std.proofs.Common.{◌≡◌, ℕ, List, Result, Ok, Err, inl, inr, refl, subst, sym, true, false}
-use Rattle.aig_binary.specs.File.{IsFileOf, file_reading}
-use Rattle.aig_binary.specs.Sources.{AnswersFile, ReadsAs}
+use Rattle.aig_binary.specs.File.{AnswersFile, IsFileOf, file_reading}
+use Rattle.aig_text.specs.Sources.{ReadsAs}
 use Rattle.aig_binary.proofs.Refusals.{file_refuses}
 use Rattle.aig_circuit.specs.declared.circuit.Circuit.{Circuit}
 use Rattle.aig_fault.specs.Stopping.{StopsFor, stopped_by}

@@ -28,7 +28,7 @@ one_image : (keep_map : Bool) (c image other : Circuit) → IsImageAs keep_map c
 one_image true c image other a b = one_mapped c image other a b
 one_image false c image other a b = let one = image_is_one c in one.2 image a ∙ sym (one.2 other b)
 
-one_text : (ascii keep_map : Bool) (c : Circuit) (text other : List ℕ) → IsTextAs ascii keep_map c text
+pub one_text : (ascii keep_map : Bool) (c : Circuit) (text other : List ℕ) → IsTextAs ascii keep_map c text
     → IsTextAs ascii keep_map c other → text ≡ other
 one_text true keep_map c text other a b = a ∙ sym b
 one_text false keep_map c text other a b = a.2 ∙ ap binary_text (one_image keep_map c a.0 b.0 a.1 b.1) ∙ sym b.2

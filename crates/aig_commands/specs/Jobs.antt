@@ -13,6 +13,7 @@ use Rattle.aig_fault.specs.declared.fault.Fault.{Fault}
 use Rattle.aig_io.specs.Runs.{Ending}
 use Rattle.aig_replay.specs.WitnessLines.{witness_text}
 use Rattle.aig_text.specs.AsciiText.{ascii_text}
+use Rattle.aig_commands.specs.Comparing.{IsAccepted, IsFirst, IsMiterText, NotFirst, NotMiter}
 use Rattle.aig_commands.specs.Conversion.{IsConversionRefused, IsConversionText}
 use Rattle.aig_commands.specs.File.{IsFileOf}
 use Rattle.aig_commands.specs.Proving.{IsInvariantModel, IsInvariantText, IsNeverText, IsStrengthened}
@@ -50,6 +51,7 @@ job_of (commands.Sim request) = jobs.Read (readings.Sim request)
 job_of (commands.Unroll request) = jobs.Read (readings.Unroll request)
 job_of (commands.Reach request) = jobs.Read (readings.Reach request)
 job_of (commands.Invariant request) = jobs.Read (readings.Invariant request)
+job_of (commands.Miter request) = jobs.Read (readings.First request)
 job_of (commands.Help text) = jobs.Write (answers.Text text)
 job_of (commands.Version text) = jobs.Write (answers.Text text)
 
@@ -63,6 +65,8 @@ source_of (readings.Invariant request) = Model
 source_of (readings.Clauses selected) = File
 source_of (readings.Strengthen request selected) = File
 source_of (readings.Never request strengthened) = Refutation
+source_of (readings.First request) = Model
+source_of (readings.Second request first) = File
 source_of (readings.Sim request) = Model
 
 -- an answer is written, and this holds of its text
@@ -101,6 +105,9 @@ Makes (readings.Strengthen request selected) bytes next =
     (strengthened : Circuit) × IsStrengthened selected bytes strengthened
     × (next ≡ jobs.Read (readings.Never request strengthened))
 Makes (readings.Never request strengthened) bytes next = WritesText (IsNeverText request strengthened) next
+Makes (readings.First request) bytes next =
+    (first : Circuit) × IsFirst request bytes first × (next ≡ jobs.Read (readings.Second request first))
+Makes (readings.Second request first) bytes next = WritesText (IsMiterText request first bytes) next
 Makes (readings.Sim request) bytes next =
     (model : Circuit) × IsFileOf bytes request.max_var model × (next ≡ jobs.Steps (task_of request) model)
 
@@ -114,6 +121,8 @@ Refuses (readings.Invariant request) = AtItsEnd (NotInvariantModel request)
 Refuses (readings.Clauses selected) = AtItsEnd (NotStrengthened selected)
 Refuses (readings.Strengthen request selected) = AtItsEnd (NotStrengthened selected)
 Refuses (readings.Never request strengthened) = IsRefutationRefused
+Refuses (readings.First request) = AtItsEnd (NotFirst request)
+Refuses (readings.Second request first) = AtItsEnd (NotMiter request first)
 Refuses (readings.Sim request) = AtItsEnd (IsUnreadable request.max_var)
 
 -- A source can be read for this: the request can be met, and the clauses of the circuit fit.
@@ -123,6 +132,7 @@ CanRead (readings.Unroll request) = HasFrames request
 CanRead (readings.Reach request) = CanReach request
 CanRead (readings.Solved request selected) = CanUnroll selected request.frames
 CanRead (readings.Never request strengthened) = CanUnroll strengthened 1
+CanRead (readings.Second request first) = IsAccepted request first
 CanRead reading = ⊤
 
 -- A job can be done: what is written has a byte at least.
@@ -136,6 +146,7 @@ abbrev pub reads_of : Reading → ℕ
 reads_of (readings.Reach request) = 2
 reads_of (readings.Invariant request) = 3
 reads_of (readings.Strengthen request selected) = 2
+reads_of (readings.First request) = 2
 reads_of reading = 1
 
 abbrev pub sources_left : Job → ℕ

@@ -1,5 +1,6 @@
 pub use Rattle.aig_binary.specs.File
 pub mod OutputsAsBad
+pub mod Comparing
 pub mod Conversion
 pub mod Simulation
 pub mod Unrolling
@@ -12,5 +13,6 @@ pub mod WitnessOutcome
 pub mod WitnessDump
 pub mod Jobs
 pub mod Laws
+pub mod ComparingLaws
 pub mod DumpLaws
 pub mod WitnessDumpLaws

@@ -78,17 +78,21 @@ fn undo_if_asked(alloc: Global, request: &ToAig, found: Checked) -> Result<Check
     undo(alloc, found)
 }
 
-/// The circuit in the form that the request asks for.
-fn convert_as_asked(alloc: Global, request: &ToAig, circuit: Checked) -> Result<Answer, OutOfMemory>
-    ensures text { IfOk result (λ answer.
-        IsTextAs request.now.ascii request.now.keep_map circuit (text_of answer)) }
+/// The circuit in ASCII, or its binary image, with a map or without.
+pub(crate) fn convert_as(
+    alloc: Global,
+    ascii: bool,
+    keep_map: bool,
+    circuit: Checked,
+) -> Result<Answer, OutOfMemory>
+    ensures text { IfOk result (λ answer. IsTextAs ascii keep_map circuit (text_of answer)) }
     ensures some { IfOk result (λ answer. 0 < length (text_of answer)) }
 {
-    if request.ascii {
+    if ascii {
         return Ok(Answer::Ascii(circuit));
     }
     let steps = &mut Steps::new();
-    if request.keep_map {
+    if keep_map {
         return Ok(Answer::Mapped(into_binary_with_map(alloc, circuit, steps)?));
     }
     Ok(Answer::Binary(into_binary(alloc, circuit, steps)?))
@@ -113,7 +117,7 @@ pub(crate) fn read_conversion<R: Source>(
     let source_circuit = undo_if_asked(alloc, request, found)?;
     let turned_circuit = turn_if_asked(alloc, request, source_circuit)?;
     let circuit = strip_if_asked(alloc, request, turned_circuit);
-    Ok(convert_as_asked(alloc, request, circuit)?)
+    Ok(convert_as(alloc, request.ascii, request.keep_map, circuit)?)
 }
 
 /// Reads the source to its end, and writes what the request asks for. Nothing is sent before the

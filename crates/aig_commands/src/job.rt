@@ -8,13 +8,14 @@ ghost use Rattle.aig_commands.specs.Jobs.{Refuses, source_of};
 ghost use Rattle.aig_commands.specs.Reading.{ReadSays};
 
 use crate::answer::Answer;
+use crate::comparing::{read_first, read_second};
 use crate::conversion::read_conversion;
 use crate::file::read_circuit;
 use crate::proving::{read_clauses, read_never, read_proving_model, read_strengthened};
 use crate::reaching::{read_selected, read_solved};
 use crate::task::{Task, task_of};
 use crate::unrolling::read_unrolling;
-use aig_command::{Command, Invariant, Reach, Sim, ToAig, Unroll};
+use aig_command::{Command, Invariant, Miter, Reach, Sim, ToAig, Unroll};
 use aig_core::{Checked, Keep, Source};
 use aig_fault::Stopped;
 use std::alloc::Global;
@@ -22,9 +23,10 @@ use std::alloc::Global;
 /// One of the sources of a job.
 #[derive(Clone, Copy)]
 pub enum Part {
-    /// The model, or the source of a conversion.
+    /// The model, the source of a conversion, or the first of two circuits.
     Model,
-    /// What is read after it: steps, a witness file, what a solver wrote, or an invariant.
+    /// What is read after it: steps, a witness file, what a solver wrote, an invariant, or the second
+    /// circuit.
     File,
     /// The refutation of the clauses in which an invariant is to be shown.
     Refutation,
@@ -60,6 +62,13 @@ pub enum Reading {
         request: Invariant,
         strengthened: Checked,
     },
+    /// The first of two circuits, and then the second.
+    First(Miter),
+    /// The second circuit, of which and of this one a miter is made.
+    Second {
+        request: Miter,
+        first: Checked,
+    },
     /// A model, and then the steps of a stimulus or of a witness file.
     Sim(Sim),
 }
@@ -89,6 +98,7 @@ impl Job {
             Command::Unroll(request) => Job::Read(Reading::Unroll(request)),
             Command::Reach(request) => Job::Read(Reading::Reach(request)),
             Command::Invariant(request) => Job::Read(Reading::Invariant(request)),
+            Command::Miter(request) => Job::Read(Reading::First(request)),
             Command::Help(text) | Command::Version(text) => Job::Write(Answer::Text(text)),
         }
     }
@@ -113,9 +123,9 @@ impl Reading {
     {
         match self {
             Reading::ToAig(_) | Reading::Unroll(_) | Reading::Reach(_) => Part::Model,
-            Reading::Invariant(_) | Reading::Sim(_) => Part::Model,
+            Reading::Invariant(_) | Reading::First(_) | Reading::Sim(_) => Part::Model,
             Reading::Solved { .. } | Reading::Clauses { .. } => Part::File,
-            Reading::Strengthen { .. } => Part::File,
+            Reading::Strengthen { .. } | Reading::Second { .. } => Part::File,
             Reading::Never { .. } => Part::Refutation,
         }
     }
@@ -166,6 +176,14 @@ impl Reading {
             } => {
                 read_never(alloc, &request, strengthened, source)?;
                 Ok(Job::Write(Answer::Never))
+            }
+            Reading::First(request) => {
+                let first = read_first(alloc, &request, source)?;
+                Ok(Job::Read(Reading::Second { request, first }))
+            }
+            Reading::Second { request, first } => {
+                let answer = read_second(alloc, &request, first, source)?;
+                Ok(Job::Write(answer))
             }
             Reading::Sim(request) => {
                 let model = read_circuit(alloc, source, request.max_var, Keep::Order)?;

@@ -6,10 +6,12 @@
 //! stand above, in `aig_tools`.
 //!
 //! The definitions that matter most are `Makes`, `Refuses` and `text_of`, `IsConversionText`,
-//! `IsSimulationText`, `IsUnrollingText`, `IsReachText`, `IsNoneText`, `IsNeverText` and `Headline`.
+//! `IsSimulationText`, `IsUnrollingText`, `IsMiterText`, `IsReachText`, `IsNoneText`, `IsNeverText` and `Headline`.
 #![tactic(auto)]
 
 mod answer;
+mod comparing;
+pub mod comparing_laws;
 mod conversion;
 pub mod dump_laws;
 mod file;

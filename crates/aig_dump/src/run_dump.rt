@@ -3,7 +3,7 @@ ghost use Rattle.std.specs.Prelude.{◌≡◌, ◌∷◌, ℕ, IfErr, IfOk, List
 ghost use Rattle.aig_circuit.specs.declared.circuit.Circuit.{Circuit};
 ghost use Rattle.aig_fault.specs.Stopping.{StopsFor};
 ghost use Rattle.aig_lines.specs.Lines.{Line as LineRecord, line as made_line, lines_of};
-ghost use Rattle.aig_rows.specs.Messages.{message_text};
+ghost use Rattle.aig_fault.specs.Words.{message_text};
 ghost use Rattle.aig_step.specs.Stimulus.{text_of};
 ghost use Rattle.aig_witness.specs.Witness.{Claim, IsVerdict, SaysClaim};
 ghost use Rattle.aig_claims.specs.RunDump.{IsRunDump, comment_line};

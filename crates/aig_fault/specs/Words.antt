@@ -65,6 +65,13 @@ kind_row kinds.MetAtStart = (37, plain (codes "met by a first state"))
 kind_row kinds.TooLargeInvariant = (38, plain (codes "too large"))
 kind_row kinds.BadCounts = (39, plain (codes "counts do not fit"))
 kind_row kinds.BadValue = (40, plain (codes "neither 0, 1 nor 2"))
+kind_row kinds.NotComparable = (41, plain (codes "justice or fairness cannot be compared"))
+kind_row kinds.OtherInputs = (42, plain (codes "not as many inputs"))
+kind_row kinds.OtherOutputs = (43, plain (codes "not as many outputs and bad states"))
+kind_row kinds.TooLargeToCompare = (44, plain (codes "too large to compare"))
+kind_row kinds.NoName = (45, plain (codes "no name"))
+kind_row kinds.NameTwice = (46, plain (codes "name given twice"))
+kind_row kinds.NoSuchName = (47, plain (codes "no such name in the other file"))
 
 abbrev pub kind_number : Kind → ℕ
 kind_number kind = (kind_row kind).0
@@ -84,6 +91,9 @@ place_text (places.Gate number) = around (codes "gate ") (codes ": ") number
 place_text (places.MapLine number) = around (codes "map line ") (codes ": ") number
 place_text (places.Word number) = around (codes "word ") (codes ": ") number
 place_text (places.Value number) = around (codes "value ") (codes ": ") number
+place_text (places.Input number) = around (codes "input ") (codes ": ") number
+place_text (places.Output number) = around (codes "output ") (codes ": ") number
+place_text (places.Bad number) = around (codes "bad state ") (codes ": ") number
 
 abbrev pub fault_text : Fault → List ℕ
 fault_text fault = place_text fault.place ++ kind_text fault.kind fault.subject

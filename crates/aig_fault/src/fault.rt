@@ -17,6 +17,12 @@ pub enum Place {
     Word(u64),
     /// A value of an input or a latch, counted from 0.
     Value(u64),
+    /// An input, counted from 0.
+    Input(u64),
+    /// An output, counted from 0.
+    Output(u64),
+    /// A bad state, counted from 0.
+    Bad(u64),
 }
 
 /// The first fault of an input.

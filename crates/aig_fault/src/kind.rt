@@ -88,10 +88,24 @@ pub enum Kind {
     BadCounts = 39,
     /// A value is neither 0, 1 nor 2.
     BadValue = 40,
+    /// The circuit has justice properties or fairness constraints, and was to be compared.
+    NotComparable = 41,
+    /// The circuit has not as many inputs as the one with which it is compared.
+    OtherInputs = 42,
+    /// It has not as many outputs and bad states.
+    OtherOutputs = 43,
+    /// The miter of two circuits would have too many variables, constraints or bad states.
+    TooLargeToCompare = 44,
+    /// What is at this place has no name, and was to be paired by it.
+    NoName = 45,
+    /// What is at this place has the name of something before it, and was to be paired by it.
+    NameTwice = 46,
+    /// What is at this place has a name that nothing of the other circuit has.
+    NoSuchName = 47,
 }
 
 /// Each kind, by its number.
-pub const KINDS: [Kind; 40] = [
+pub const KINDS: [Kind; 47] = [
     Kind::NotAiger,
     Kind::BadHeader,
     Kind::TooLarge,
@@ -132,6 +146,13 @@ pub const KINDS: [Kind; 40] = [
     Kind::TooLargeInvariant,
     Kind::BadCounts,
     Kind::BadValue,
+    Kind::NotComparable,
+    Kind::OtherInputs,
+    Kind::OtherOutputs,
+    Kind::TooLargeToCompare,
+    Kind::NoName,
+    Kind::NameTwice,
+    Kind::NoSuchName,
 ];
 
 impl Kind {

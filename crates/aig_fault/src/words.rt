@@ -20,6 +20,9 @@ impl Place {
             Place::MapLine(number) => Message::around("map line ", number, ": "),
             Place::Word(number) => Message::around("word ", number, ": "),
             Place::Value(number) => Message::around("value ", number, ": "),
+            Place::Input(number) => Message::around("input ", number, ": "),
+            Place::Output(number) => Message::around("output ", number, ": "),
+            Place::Bad(number) => Message::around("bad state ", number, ": "),
         }
     }
 }
@@ -71,6 +74,13 @@ impl Kind {
             Kind::TooLargeInvariant => Message::new("too large"),
             Kind::BadCounts => Message::new("counts do not fit"),
             Kind::BadValue => Message::new("neither 0, 1 nor 2"),
+            Kind::NotComparable => Message::new("justice or fairness cannot be compared"),
+            Kind::OtherInputs => Message::new("not as many inputs"),
+            Kind::OtherOutputs => Message::new("not as many outputs and bad states"),
+            Kind::TooLargeToCompare => Message::new("too large to compare"),
+            Kind::NoName => Message::new("no name"),
+            Kind::NameTwice => Message::new("name given twice"),
+            Kind::NoSuchName => Message::new("no such name in the other file"),
         }
     }
 }

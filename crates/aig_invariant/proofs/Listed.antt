@@ -8,7 +8,8 @@ use Rattle.aig_fault.specs.declared.fault.Fault.{Fault}
 use Rattle.aig_fault.specs.declared.kind.Kind.TheVariants.{MetAtStart, NotEachLatch}
 use Rattle.aig_lines.specs.Lines.{Line, lines_of}
 use Rattle.aig_invariant.specs.Invariant.{Cube, is_off_start}
-use Rattle.aig_invariant.specs.InvariantText.{cube_in, cubes_from, cubes_of, fault_in, is_passed, joined, judged, row_says}
+use Rattle.aig_invariant.specs.InvariantText.{cube_in, cubes_from, cubes_of, fault_in, is_passed, joined, judged}
+use Rattle.aig_invariant.specs.InvariantText.{row_says}
 
 module _ (starts : List Reset) where
   abbrev pub IsOff : Cube → Type 0

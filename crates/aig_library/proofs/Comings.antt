@@ -3,6 +3,7 @@ use Rattle.std.proofs.Common.{◌≡◌, ◌<◌, ◌⊎◌, List, ℕ, Ok, Err,
 use Rattle.std.proofs.Common.{subst, sym, true}
 use Rattle.aig_circuit.specs.declared.circuit.Circuit.{Circuit}
 use Rattle.aig_command.specs.declared.request.Invariant.{Invariant}
+use Rattle.aig_command.specs.declared.request.Miter.{Miter}
 use Rattle.aig_command.specs.declared.request.SolverFile.TheVariants.{Answer, Refutation}
 use Rattle.aig_command.specs.declared.request.ToAig.{ToAig}
 use Rattle.aig_command.specs.declared.request.Unroll.{Unroll}
@@ -12,6 +13,7 @@ use Rattle.aig_io.specs.Runs.{AtEnd}
 use Rattle.aig_commands.proofs.TripsExist.{well_formed_file}
 use Rattle.aig_commands.specs.Jobs.{Makes, Refuses, WritesText, read_for, reads_of, source_of}
 use Rattle.aig_commands.specs.Jobs.{sources_left, text_of}
+use Rattle.aig_commands.specs.Comparing.{IsMiterText, NotMiter}
 use Rattle.aig_commands.specs.Conversion.{IsConversionRefused, IsConversionText}
 use Rattle.aig_commands.specs.Proving.{IsInvariantModel, IsInvariantText, IsNeverText, IsStrengthened}
 use Rattle.aig_commands.specs.Reaching.{IsReachText}
@@ -29,29 +31,11 @@ use Rattle.aig_library.specs.Asked.{proving, reaching}
 use Rattle.aig_library.specs.Memory.{Comes, HasNoSteps, input_at, is_refused, is_written, makes}
 use Rattle.aig_library.specs.declared.memory.Inputs.{Inputs}
 
--- an invariant is read for what leaves few sources, and no steps
-few : (refuted : Bool) (request : Invariant) (selected : Circuit) → reads_of (read_for refuted request selected) < 3
-few true request selected = omega arith
-few false request selected = omega arith
-
+-- an invariant is read for what leaves no steps
 no_steps : (refuted : Bool) (request : Invariant) (selected : Circuit)
     → HasNoSteps (jobs.Read (read_for refuted request selected))
 no_steps true request selected = tt
 no_steps false request selected = tt
-
--- each reading leaves fewer sources
-pub fewer : (reading : Reading) (bytes : List ℕ) (next : Job) → Makes reading bytes next
-    → sources_left next < reads_of reading
-fewer (readings.Reach request) bytes next (selected, is, then) = rw then (omega arith)
-fewer (readings.Invariant request) bytes next (selected, is, then) =
-    rw then (few request.refuted request selected)
-fewer (readings.Strengthen request selected) bytes next (strengthened, is, then) = rw then (omega arith)
-fewer (readings.ToAig request) bytes next (answer, is, then) = rw then (omega arith)
-fewer (readings.Unroll request) bytes next (answer, is, then) = rw then (omega arith)
-fewer (readings.Solved request selected) bytes next (answer, is, then) = rw then (omega arith)
-fewer (readings.Clauses selected) bytes next (answer, is, then) = rw then (omega arith)
-fewer (readings.Never request strengthened) bytes next (answer, is, then) = rw then (omega arith)
-fewer (readings.Sim request) bytes next (model, is, then) = rw then (omega arith)
 
 -- a reading of no steps leads to none
 pub no_steps_then : (reading : Reading) (bytes : List ℕ) (next : Job) → HasNoSteps (jobs.Read reading)
@@ -65,6 +49,8 @@ no_steps_then (readings.Unroll request) bytes next none (answer, is, then) = rw 
 no_steps_then (readings.Solved request selected) bytes next none (answer, is, then) = rw then tt
 no_steps_then (readings.Clauses selected) bytes next none (answer, is, then) = rw then tt
 no_steps_then (readings.Never request strengthened) bytes next none (answer, is, then) = rw then tt
+no_steps_then (readings.First request) bytes next none (first, is, then) = rw then tt
+no_steps_then (readings.Second request first) bytes next none (answer, is, then) = rw then tt
 no_steps_then (readings.Sim request) bytes next none made = absurd none
 
 module _ (inputs : Inputs) where
@@ -127,6 +113,20 @@ module _ (inputs : Inputs) where
       → IsUnrollingRefused request fault inputs.model.now
   unrolling_refused request fault comes =
       let why = last_fault (readings.Unroll request) (IsUnrollingText request inputs.model.now) (λ next made. made) in
+      (why fault comes).1
+
+  pub miter_text : (request : Miter) (first : Circuit) (text : List ℕ)
+      → Comes inputs (jobs.Read (readings.Second request first)) (Ok text)
+      → IsMiterText request first inputs.file.now text
+  miter_text request first =
+      last_text (readings.Second request first) (IsMiterText request first inputs.file.now) (λ next made. made)
+
+  pub miter_refused : (request : Miter) (first : Circuit) (fault : Fault)
+      → Comes inputs (jobs.Read (readings.Second request first)) (Err fault)
+      → NotMiter request first fault inputs.file.now
+  miter_refused request first fault comes =
+      let why =
+      last_fault (readings.Second request first) (IsMiterText request first inputs.file.now) (λ next made. made) in
       (why fault comes).1
 
   module _ (bad frames max_var : ℕ) where

@@ -109,6 +109,10 @@ module _ (input : List ℕ) (now : History) (given : HasGiven now) where
       all_refused (readings.Clauses selected) fault bytes ending is says.0 says
   refused (readings.Strengthen request selected) fault bytes ending is says =
       all_refused (readings.Strengthen request selected) fault bytes ending is says.0 says
+  refused (readings.First request) fault bytes ending is says =
+      all_refused (readings.First request) fault bytes ending is says.0 says
+  refused (readings.Second request first) fault bytes ending is says =
+      all_refused (readings.Second request first) fault bytes ending is says.0 says
   refused (readings.Sim request) fault bytes ending is says =
       all_refused (readings.Sim request) fault bytes ending is says.0 says
 

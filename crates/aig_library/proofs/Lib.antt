@@ -7,3 +7,4 @@ pub mod Messages
 pub mod OrderedArrays
 pub mod Placings
 pub mod ReadFiles
+pub mod Miters

@@ -3,6 +3,7 @@ use Rattle.std.specs.Prelude.{◌≡◌, ◌≤◌, ◌⊎◌, ℕ, List, false,
 use Rattle.aig_circuit.specs.declared.circuit.Circuit.{Circuit}
 use Rattle.aig_command.specs.Aiger.{largest_index}
 use Rattle.aig_command.specs.declared.request.Invariant.{Invariant}
+use Rattle.aig_command.specs.declared.request.Miter.{Miter}
 use Rattle.aig_command.specs.declared.request.Reach.{Reach}
 use Rattle.aig_command.specs.declared.request.Sim.{Sim}
 use Rattle.aig_command.specs.declared.request.SolverFile.TheVariants.{Answer, Refutation}
@@ -10,7 +11,9 @@ use Rattle.aig_witness.specs.declared.verdict.Verdict.{Verdict}
 use Rattle.aig_witness.specs.declared.verdict.Verdict.TheVariants.{Confirmed, NotConfirmed}
 use Rattle.aig_dump.specs.InMemory.{IsBadStimulus, IsBadWitness}
 use Rattle.aig_fault.specs.declared.fault.Fault.{Fault}
+use Rattle.aig_fault.specs.declared.stopped.Stopped.TheVariants as stops
 use Rattle.aig_invariant.specs.Laws.{IsNever}
+use Rattle.aig_commands.specs.Comparing.{IsFirst, IsMiterText, NotFirst, NotMiter}
 use Rattle.aig_commands.specs.Conversion.{IsConversionRefused, IsConversionText}
 use Rattle.aig_commands.specs.File.{IsFileOf}
 use Rattle.aig_commands.specs.Proving.{IsInvariantModel, IsInvariantText, IsStrengthened, NotInvariantModel}
@@ -22,10 +25,11 @@ use Rattle.aig_commands.specs.Simulation.{IsWrittenText}
 use Rattle.aig_commands.specs.Unrolling.{IsUnrollingRefused, IsUnrollingText}
 use Rattle.aig_commands.specs.WitnessDump.{IsWitnessDumpText}
 use Rattle.aig_commands.specs.WitnessOutcome.{IsWitnessAnswer}
-use Rattle.aig_library.specs.Asked.{CanConvert, CanReach, CanSimulate, CanUnroll, clauses, conversion, proving}
+use Rattle.aig_library.specs.Asked.{CanCompare, CanConvert, CanReach, CanSimulate, CanUnroll, clauses, comparison}
+use Rattle.aig_library.specs.Asked.{conversion, proving}
 use Rattle.aig_library.specs.Asked.{reaching, simulation, unrolling}
 use Rattle.aig_library.specs.Numbers as numbers
-use Rattle.aig_library.specs.Outcome.{IsPlaced, IsPlacedAs, ending, fault_outcome, out_of_memory}
+use Rattle.aig_library.specs.Outcome.{IsPlaced, IsPlacedAs, ending, fault_outcome, out_of_memory, second_outcome}
 use Rattle.aig_library.specs.declared.outcome.Outcome.{Outcome}
 
 -- the input is refused with a fault, and the outcome tells it
@@ -142,6 +146,28 @@ NeverAnswers bad max_var model invariant =
     let request = proving true bad max_var in
     ShowAnswers (max_var ≤ largest_index) (IsNeverOfModel request model invariant)
     (IsNeverRefused request model invariant)
+
+-- The miter that is written for two circuits.
+pub record IsComparedText (request : Miter) (one two text : List ℕ) : Type 0 where
+  pub first : Circuit
+  pub is_first : IsFirst request one first
+  pub is_text : IsMiterText request first two text
+
+-- The first can be compared, and the second not with it, for a reason that the outcome tells.
+pub record SecondRefused (request : Miter) (one two : List ℕ) (outcome : Outcome) : Type 0 where
+  pub first : Circuit
+  pub fault : Fault
+  pub is_first : IsFirst request one first
+  pub is_fault : NotMiter request first fault two
+  pub told : outcome ≡ second_outcome (stops.Refused fault)
+
+-- What a call answers that makes a miter: as others that make a text, or that the second circuit is refused.
+abbrev pub MiterAnswers : (options max_var : ℕ) (one two before after : List ℕ) → Outcome → Type 0
+MiterAnswers options max_var one two before after outcome =
+    let request = comparison options max_var in
+    TextAnswers (CanCompare options max_var) (IsComparedText request one two) (λ fault. NotFirst request fault one)
+    before after outcome
+    ⊎ (CanCompare options max_var × (after ≡ before) × SecondRefused request one two outcome)
 
 -- The model has no trace of the stimulus for this reason: it is no file of a circuit, or a line of the stimulus is bad.
 abbrev pub IsSimulationRefused : Sim → (model stimulus : List ℕ) → Fault → Type 0

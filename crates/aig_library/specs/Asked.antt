@@ -4,6 +4,7 @@ use Rattle.std.specs.Prelude.{if◌then◌else◌}
 use Rattle.aig_command.specs.Aiger.{largest_index, most_frames}
 use Rattle.aig_command.specs.Answer.{HasFrames, IsDumpAlone, IsKeptAlone, IsWithoutMap}
 use Rattle.aig_command.specs.declared.request.Invariant.{Invariant}
+use Rattle.aig_command.specs.declared.request.Miter.{Miter}
 use Rattle.aig_command.specs.declared.request.Reach.{Reach}
 use Rattle.aig_command.specs.declared.request.SolverFile.{SolverFile}
 use Rattle.aig_command.specs.declared.request.Sim.{Sim}
@@ -64,6 +65,13 @@ proving refuted bad max_var = record {
   refuted = refuted;
 }
 
+abbrev pub comparison : (options max_var : ℕ) → Miter
+comparison options max_var = record {
+  ascii = has options numbers.ascii;
+  by_name = has options numbers.by_name;
+  max_var = max_var;
+}
+
 abbrev pub simulation : (options max_var : ℕ) → Sim
 simulation options max_var = record {
   batch = true;
@@ -88,6 +96,9 @@ CanUnroll options frames max_var =
 
 abbrev pub CanReach : (frames max_var : ℕ) → Type 0
 CanReach frames max_var = (1 ≤ frames) × (frames ≤ most_frames) × (max_var ≤ largest_index)
+
+abbrev pub CanCompare : (options max_var : ℕ) → Type 0
+CanCompare options max_var = OnlyHas options (numbers.ascii + numbers.by_name) × (max_var ≤ largest_index)
 
 abbrev pub CanRead : (options max_var : ℕ) → Type 0
 CanRead options max_var = OnlyHas options numbers.ordered × (max_var ≤ largest_index)

@@ -4,7 +4,8 @@ use Rattle.aig_fault.specs.Stopping.{stopped_text}
 use Rattle.aig_fault.specs.Words.{fault_text, kind_of_number, kind_text, place_text}
 use Rattle.aig_fault.specs.declared.fault.Fault.{Fault}
 use Rattle.aig_fault.specs.declared.fault.Place.{Place}
-use Rattle.aig_fault.specs.declared.fault.Place.TheVariants.{Gate, Line, MapLine, Value, Whole, Word}
+use Rattle.aig_fault.specs.declared.fault.Place.TheVariants.{Bad, Gate, Input, Line, MapLine, Output}
+use Rattle.aig_fault.specs.declared.fault.Place.TheVariants.{Value, Whole, Word}
 use Rattle.aig_fault.specs.declared.kind.Kind.{Kind}
 use Rattle.aig_fault.specs.declared.stopped.Stopped.TheVariants.{OutOfMemory}
 use Rattle.aig_library.specs.Numbers as numbers
@@ -18,7 +19,10 @@ place_of place number =
     if place == numbers.gate then Gate number else
     if place == numbers.map_line then MapLine number else
     if place == numbers.word then Word number else
-    if place == numbers.value then Value number else Whole
+    if place == numbers.value then Value number else
+    if place == numbers.input then Input number else
+    if place == numbers.output then Output number else
+    if place == numbers.bad then Bad number else Whole
 
 -- the words of a kind; where a number is that of none, there are no words
 abbrev pub words_of : Option Kind → (subject : ℕ) → List ℕ

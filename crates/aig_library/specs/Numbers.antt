@@ -20,6 +20,9 @@ bad_options = 4
 abbrev pub not_confirmed : ℕ
 not_confirmed = 5
 
+abbrev pub second_refused : ℕ
+second_refused = 6
+
 -- where an input is wrong
 abbrev pub whole : ℕ
 whole = 0
@@ -38,6 +41,15 @@ word = 4
 
 abbrev pub value : ℕ
 value = 5
+
+abbrev pub input : ℕ
+input = 6
+
+abbrev pub output : ℕ
+output = 7
+
+abbrev pub bad : ℕ
+bad = 8
 
 -- the options, a bit each
 abbrev pub ascii : ℕ
@@ -63,6 +75,9 @@ outputs_as_bad = 64
 
 abbrev pub ordered : ℕ
 ordered = 128
+
+abbrev pub by_name : ℕ
+by_name = 256
 
 -- in the place of the number of a bad state: all of them
 abbrev pub all_bad : ℕ

@@ -27,6 +27,9 @@ place_numbers (places.Gate number) = (numbers.gate, number)
 place_numbers (places.MapLine number) = (numbers.map_line, number)
 place_numbers (places.Word number) = (numbers.word, number)
 place_numbers (places.Value number) = (numbers.value, number)
+place_numbers (places.Input number) = (numbers.input, number)
+place_numbers (places.Output number) = (numbers.output, number)
+place_numbers (places.Bad number) = (numbers.bad, number)
 
 -- the input is refused with this fault
 abbrev pub fault_outcome : Fault → Outcome
@@ -43,6 +46,11 @@ fault_outcome fault = record {
 abbrev pub outcome_of : Stopped → Outcome
 outcome_of (stops.Refused fault) = fault_outcome fault
 outcome_of stopped = out_of_memory
+
+-- the same of a call of two inputs, where it is the second that is refused
+abbrev pub second_outcome : Stopped → Outcome
+second_outcome (stops.Refused fault) = record (fault_outcome fault) { status = numbers.second_refused }
+second_outcome stopped = out_of_memory
 
 -- The text is at the front of the output, and what stood after it is as it was; or it has more bytes than there is
 -- room for, and the output is as it was. The outcome tells how many bytes it has: the first is that of a text that was

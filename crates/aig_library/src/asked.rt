@@ -1,9 +1,9 @@
 //! What is asked for, by numbers: each option is a bit.
 ghost use Rattle.std.specs.Prelude.{◌≡◌, ◌↔◌, IsTrue};
-ghost use Rattle.aig_library.specs.Asked.{clauses, conversion, has, OnlyHas, proving, selected_bad};
-ghost use Rattle.aig_library.specs.Asked.{reaching, unrolling};
+ghost use Rattle.aig_library.specs.Asked.{clauses, comparison, conversion, has, OnlyHas, proving};
+ghost use Rattle.aig_library.specs.Asked.{reaching, selected_bad, unrolling};
 
-use aig_command::{Invariant, Reach, SolverFile, ToAig, Unroll, UnrolledForm};
+use aig_command::{Invariant, Miter, Reach, SolverFile, ToAig, Unroll, UnrolledForm};
 
 /// ASCII is written, and not binary.
 pub const ASCII: u32 = 1;
@@ -28,6 +28,9 @@ pub const OUTPUTS_AS_BAD: u32 = 64;
 
 /// The arrays are those of the binary image, and the new numbers of its variables follow.
 pub const ORDERED: u32 = 128;
+
+/// Two circuits are paired by their symbols, and not place by place.
+pub const BY_NAME: u32 = 256;
 
 /// All bad states, in the place of the number of one.
 pub const ALL_BAD: u32 = 0xFFFF_FFFF;
@@ -117,5 +120,16 @@ pub(crate) fn proving(refuted: bool, bad: u32, max_var: u32) -> Invariant
         bad: selected_bad(bad),
         max_var,
         refuted,
+    }
+}
+
+/// The comparison that the options ask for.
+pub(crate) fn comparison(options: u32, max_var: u32) -> Miter
+    ensures { result ≡ comparison options max_var }
+{
+    Miter {
+        ascii: has(options, ASCII),
+        by_name: has(options, BY_NAME),
+        max_var,
     }
 }

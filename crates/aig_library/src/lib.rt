@@ -13,6 +13,7 @@
 
 mod arrays;
 mod asked;
+mod comparing;
 pub mod laws;
 mod memory;
 mod outcome;
@@ -26,11 +27,12 @@ mod wording;
 
 pub use crate::arrays::{read, write};
 pub use crate::asked::{
-    ALL_BAD, ASCII, KEEP_MAP, ORDERED, OUTPUTS_AS_BAD, PROPERTIES, STRIP, UNDO_MAP, VCD,
+    ALL_BAD, ASCII, BY_NAME, KEEP_MAP, ORDERED, OUTPUTS_AS_BAD, PROPERTIES, STRIP, UNDO_MAP, VCD,
 };
+pub use crate::comparing::miter;
 pub use crate::outcome::{
-    BAD_OPTIONS, DONE, GATE, LINE, MAP_LINE, NOT_CONFIRMED, OUT_OF_MEMORY, Outcome, REFUSED,
-    TOO_SHORT, VALUE, WHOLE, WORD,
+    BAD, BAD_OPTIONS, DONE, GATE, INPUT, LINE, MAP_LINE, NOT_CONFIRMED, OUT_OF_MEMORY, OUTPUT,
+    Outcome, REFUSED, SECOND_REFUSED, TOO_SHORT, VALUE, WHOLE, WORD,
 };
 pub use crate::simulation::simulate;
 pub use crate::solving::{invariant_clauses, never, reach, refute};

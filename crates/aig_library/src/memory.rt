@@ -31,7 +31,7 @@ impl<'a> Inputs<'a> {
 }
 
 /// What is to be done once these bytes are read.
-fn read_bytes(alloc: Global, bytes: &[u8], reading: Reading) -> Result<Job, Stopped>
+pub(crate) fn read_bytes(alloc: Global, bytes: &[u8], reading: Reading) -> Result<Job, Stopped>
     requires { CanRead reading }
     ensures made { IfOk result (Makes reading bytes.now) }
     ensures can_do { IfOk result CanDo }

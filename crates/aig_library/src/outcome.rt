@@ -1,7 +1,7 @@
 //! What came of a call, in numbers.
 ghost use Rattle.std.specs.Prelude.{◌≡◌, IfErr, IfOk, OnOk};
 ghost use Rattle.aig_library.specs.Outcome.{ending, fault_outcome, IsPlaced, outcome_of};
-ghost use Rattle.aig_library.specs.Outcome.{place_numbers};
+ghost use Rattle.aig_library.specs.Outcome.{place_numbers, second_outcome};
 
 use aig_fault::{Fault, Place, Stopped};
 
@@ -24,6 +24,9 @@ pub const BAD_OPTIONS: u32 = 4;
 /// written.
 pub const NOT_CONFIRMED: u32 = 5;
 
+/// The second of two inputs is refused: it has a fault, or does not fit the first.
+pub const SECOND_REFUSED: u32 = 6;
+
 /// The fault has no one place.
 pub const WHOLE: u32 = 0;
 
@@ -42,15 +45,25 @@ pub const WORD: u32 = 4;
 /// The fault is in a value.
 pub const VALUE: u32 = 5;
 
+/// The fault is at an input.
+pub const INPUT: u32 = 6;
+
+/// The fault is at an output.
+pub const OUTPUT: u32 = 7;
+
+/// The fault is at a bad state.
+pub const BAD: u32 = 8;
+
 /// What came of a call.
 #[repr(C)]
 #[derive(Clone, Copy, Debug, PartialEq, Eq)]
 pub struct Outcome {
     /// How it ended.
     pub status: u32,
-    /// What is wrong, where the status is `REFUSED`: the number of a `Kind`.
+    /// What is wrong, where the status is `REFUSED` or `SECOND_REFUSED`: the number of a `Kind`.
     pub kind: u32,
-    /// Where it is wrong: `WHOLE`, `LINE`, `GATE`, `MAP_LINE`, `WORD` or `VALUE`.
+    /// Where it is wrong: `WHOLE`, `LINE`, `GATE`, `MAP_LINE`, `WORD`, `VALUE`, `INPUT`, `OUTPUT` or
+    /// `BAD`.
     pub place: u32,
     /// The variable, the literal or the bad state that the fault names.
     pub subject: u32,
@@ -87,6 +100,9 @@ fn numbers_of_place(place: Place) -> (u32, u64)
         Place::MapLine(number) => (MAP_LINE, number),
         Place::Word(number) => (WORD, number),
         Place::Value(number) => (VALUE, number),
+        Place::Input(number) => (INPUT, number),
+        Place::Output(number) => (OUTPUT, number),
+        Place::Bad(number) => (BAD, number),
     }
 }
 
@@ -118,6 +134,21 @@ pub(crate) fn outcome_of(stopped: &Stopped) -> Outcome
     }
 }
 
+/// The outcome where nothing was made of the second of two inputs.
+fn second_outcome(stopped: &Stopped) -> Outcome
+    ensures { result ≡ second_outcome stopped.now }
+{
+    match stopped {
+        Stopped::Refused(fault) => Outcome {
+            status: SECOND_REFUSED,
+            ..fault_outcome(fault)
+        },
+        Stopped::OutOfMemory | Stopped::ReadFailed | Stopped::WriteFailed => {
+            ending(OUT_OF_MEMORY, 0, 0)
+        }
+    }
+}
+
 /// Puts the text at the front of the output, where there is room for it.
 fn place_text(text: &[u8], output: &mut [u8]) -> Outcome
     ensures { IsPlaced text.now output.old output.new result }
@@ -139,6 +170,18 @@ pub(crate) fn answer(made: Result<Vec<u8>, Stopped>, output: &mut [u8]) -> Outco
     match made {
         Ok(text) => place_text(text.as_slice(), output),
         Err(stopped) => outcome_of(&stopped),
+    }
+}
+
+/// Answers a call that makes a text of two inputs, once the first was read.
+pub(crate) fn answer_second(made: Result<Vec<u8>, Stopped>, output: &mut [u8]) -> Outcome
+    ensures text { IfOk made (λ text. IsPlaced text.items output.old output.new result) }
+    ensures stopped { IfErr made (λ stopped. (output.new ≡ output.old)
+        × (result ≡ second_outcome stopped)) }
+{
+    match made {
+        Ok(text) => place_text(text.as_slice(), output),
+        Err(stopped) => second_outcome(&stopped),
     }
 }
 

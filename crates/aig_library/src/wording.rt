@@ -4,7 +4,9 @@ ghost use Rattle.aig_fault.specs.Words.{kind_of_number, message_text, number_tex
 ghost use Rattle.aig_io.specs.declared.block.TheConstants.{ROOM};
 ghost use Rattle.aig_library.specs.Message.{IsWritten, outcome_text, place_of, words_of};
 
-use crate::outcome::{GATE, LINE, MAP_LINE, OUT_OF_MEMORY, Outcome, REFUSED, VALUE, WORD};
+use crate::outcome::{
+    BAD, GATE, INPUT, LINE, MAP_LINE, OUT_OF_MEMORY, OUTPUT, Outcome, REFUSED, VALUE, WORD,
+};
 use aig_core::Block;
 use aig_fault::{Kind, Message, Place};
 use itoa::Buffer;
@@ -50,6 +52,9 @@ fn place_of(place: u32, number: u64) -> Place
         MAP_LINE => Place::MapLine(number),
         WORD => Place::Word(number),
         VALUE => Place::Value(number),
+        INPUT => Place::Input(number),
+        OUTPUT => Place::Output(number),
+        BAD => Place::Bad(number),
         _ => Place::Whole,
     }
 }
@@ -57,7 +62,7 @@ fn place_of(place: u32, number: u64) -> Place
 /// Puts what is wrong, where the number is that of a kind.
 #[tactic(auto, using(crate::proofs::Messages::kind_short))]
 fn put_kind(words: &mut Block, number: u32, subject: u32)
-    requires { length words.old ≤ 31 }
+    requires { length words.old ≤ 32 }
     ensures value { words.new ≡ words.old ++ words_of (kind_of_number number) subject }
     ensures short { length words.new ≤ 80 }
 {

@@ -1,6 +1,7 @@
 -- The undone circuit (this project's profile): what a circuit in binary order was before its conversion, by the map
 -- block at the front of its comment.
-use Rattle.std.specs.Prelude.{◌≡◌, ◌==◌, ◌++◌, ◌⊎◌, ℕ, List, length, map, Bool, Option, None, Some, Err, if◌then◌else◌, IsOk}
+use Rattle.std.specs.Prelude.{if◌then◌else◌}
+use Rattle.std.specs.Prelude.{◌≡◌, ◌==◌, ◌++◌, ◌⊎◌, ℕ, List, length, map, Bool, Option, None, Some, Err, IsOk}
 use Rattle.std.specs.List.{range_with_len, find}
 use Rattle.std.specs.Option.{option_map, unwrap_or}
 use Rattle.aig_circuit.specs.declared.circuit.Circuit.{Circuit}

@@ -6,6 +6,5 @@ pub mod Reading
 pub mod Begun
 pub mod Outcomes
 pub mod Kept
-pub mod Messages
 pub mod Laws
 pub mod Parts

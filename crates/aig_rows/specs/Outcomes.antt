@@ -1,6 +1,6 @@
 -- How what a function of the reader returned is compared with what is read: seen by a view, and unless memory was
 -- refused.
-use Rattle.std.specs.Prelude.{◌≡◌, ◌+◌, ◌*◌, ◌≤◌, ◌++◌, ◌⊎◌, ℕ, List, map, slice_index, Option, None, Some, Result, Ok}
+use Rattle.std.specs.Prelude.{◌≡◌, ◌+◌, ◌*◌, ◌≤◌, ◌⊎◌, ℕ, List, slice_index, Option, None, Some, Result, Ok}
 use Rattle.std.specs.Prelude.{Err, get_or, ⊤}
 use Rattle.aig_rows.specs.declared.row.Role.TheVariants as roles
 use Rattle.aig_rows.specs.Rows.{Role, Form}
@@ -36,11 +36,6 @@ IsReadOrRefused (Err stopped) = IsRefusal stopped
 abbrev pub row_meant : {A : Type 0} → (List ℕ → A) → Found (List ℕ) → Found A
 row_meant tell (Ok x) = Ok (tell x.0, x.1)
 row_meant tell (Err e) = Err e
-
--- what rows mean after what was found before, and what is ahead after them
-abbrev pub rows_meant : {A : Type 0} → (List ℕ → A) → List A → Found (List (List ℕ)) → Found (List A)
-rows_meant tell found (Ok x) = Ok (found ++ map tell x.0, x.1)
-rows_meant tell found (Err e) = Err e
 
 -- a number is not above the largest literal, unless it is a reset
 abbrev pub IsBounded : ℕ → Role → ℕ → Type 0

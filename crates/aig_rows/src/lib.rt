@@ -1,6 +1,6 @@
 //! Rows: lines of numbers, how they are spelled and what they mean.
 //!
-//! Others call `read_rows`, which adds what the next lines mean to a list; and `leading_number`,
+//! Others call `read_first_rows`, which adds what the next lines mean to a list; and `leading_number`,
 //! `more_numbers` and `ends_line`, to read other lines. Callers of `aig_text` reach most of these
 //! by that name.
 //!
@@ -15,7 +15,7 @@ mod word;
 
 pub use crate::number::{canonical_number, ends_line, leading_number, more_numbers};
 pub use crate::row::{FromRow, NextState};
-pub use crate::rows::{Due, next_states, read_first_rows, read_rows};
+pub use crate::rows::{Due, read_first_rows};
 pub use aig_fault::Message;
 
 /// What is said where memory was refused.

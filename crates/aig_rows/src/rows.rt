@@ -1,19 +1,15 @@
 //! Rows one after another.
-ghost use Rattle.std.specs.Prelude.{◌≡◌, ◌+◌, ◌*◌, ◌^◌, ◌<◌, ◌≤◌, ◌⊎◌, []};
-ghost use Rattle.std.specs.Prelude.{List, IfErr, IfOk, OnErr};
+ghost use Rattle.std.specs.Prelude.{◌≡◌, ◌+◌, ◌*◌, ◌^◌, ◌<◌, ◌≤◌, ◌⊎◌, [], List, IfErr, IfOk};
 ghost use Rattle.aig_circuit.specs.Wellformed.{largest_index};
-ghost use Rattle.aig_rows.specs.Rows.{next_form, next_of};
-ghost use Rattle.aig_rows.specs.Outcomes.{GivesOrMemory, rows_meant};
 ghost use Rattle.aig_lines.specs.Lines.{Line, with_lines};
 ghost use Rattle.aig_rows.specs.Begun.{HaveRead};
 ghost use Rattle.aig_fault.specs.declared.stopped.Stopped.TheVariants.{OutOfMemory};
 ghost use Rattle.aig_rows.specs.Reading.{rows_at};
 
-use crate::row::{FromRow, NextState};
+use crate::row::FromRow;
 use aig_circuit::Listing;
-use aig_fault::{Kind, Stopped, refused_at};
+use aig_fault::Stopped;
 use aig_lines::Cursor;
-use std::alloc::Global;
 
 /// The rows that are still due.
 #[derive(Clone, Copy)]
@@ -77,60 +73,4 @@ pub fn read_first_rows<T: FromRow>(
     }
     *at = Cursor { rest, number };
     Ok(Due { count, carried })
-}
-
-/// Adds the entries of the next `count` lines, which are judged beside `bound` and what is carried
-/// to the first, and moves past them.
-pub fn read_rows<T: FromRow>(
-    found: &mut Listing<T>,
-    count: u32,
-    bound: u32,
-    start: u64,
-    at: &mut Cursor,
-) -> Result<(), Stopped>
-    requires bound { bound ≤ largest_index }
-    requires start { start ≤ 2 ^ 33 }
-    ensures rows { GivesOrMemory (λ _. (found.new, at.new)) result
-        (rows_meant T.meant_by found.old (rows_at T.form bound start count at.old)) }
-    ensures err { OnErr result (at.new ≡ at.old) }
-{
-    let mut from = Cursor {
-        rest: at.rest,
-        number: at.number,
-    };
-    let due = Due {
-        count,
-        carried: start,
-    };
-    let left = match read_first_rows(found, bound, due, &mut from) {
-        Ok(left) => left,
-        Err(fault) => return Err(fault),
-    };
-    if left.count > 0 {
-        return Err(refused_at(Kind::Truncated, from.number));
-    }
-    *at = from;
-    Ok(())
-}
-
-/// What so many latches become and start at, as a binary file lists them, one on each line; the
-/// first latch has this literal. Goes past these lines, unless one is not right.
-pub fn next_states(
-    alloc: Global,
-    count: u32,
-    own: u64,
-    at: &mut Cursor,
-    max_var: u32,
-) -> Result<Listing<NextState>, Stopped>
-    requires max_var { max_var ≤ largest_index }
-    requires own { own ≤ 2 ^ 33 }
-    ensures states { GivesOrMemory (λ found. (found, at.new)) result
-        (rows_meant next_of [] (rows_at next_form max_var own count at.old)) }
-    ensures err { OnErr result (at.new ≡ at.old) }
-{
-    let mut found = Listing::new(alloc);
-    match read_rows::<NextState>(&mut found, count, max_var, own, at) {
-        Ok(()) => Ok(found),
-        Err(fault) => Err(fault),
-    }
 }

@@ -4,4 +4,5 @@ pub mod Refusals
 pub mod Loops
 pub mod Canonical
 pub mod LastBytes
+pub mod Sources
 pub mod Written

@@ -1,3 +1,4 @@
+pub mod Latches
 pub mod Sections
 pub mod Text
 pub mod Tail

@@ -5,5 +5,6 @@ pub mod AsciiText
 pub mod Scanning
 pub mod Reading
 pub mod Begun
+pub mod Sources
 pub mod Laws
 pub mod Parts

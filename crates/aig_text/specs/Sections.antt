@@ -6,6 +6,8 @@ use Rattle.aig_circuit.specs.declared.circuit.Latch.{Latch}
 use Rattle.aig_circuit.specs.declared.circuit.Circuit.{Circuit}
 use Rattle.aig_circuit.specs.Literal.{literal_of}
 pub use Rattle.aig_text.specs.declared.header_line.Header.{Header}
+pub use Rattle.aig_text.specs.declared.section.Format.{Format}
+use Rattle.aig_text.specs.declared.section.Format.TheVariants.{Ascii, Binary}
 pub use Rattle.aig_text.specs.declared.section.Section.{Section}
 use Rattle.aig_text.specs.declared.section.Section.TheVariants.{Inputs, Latches, Outputs, Bad, Constraints}
 use Rattle.aig_text.specs.declared.section.Section.TheVariants.{JusticeSizes, JusticeLiterals, Fairness, Gates}
@@ -103,6 +105,11 @@ latches_from variable (row ∷ rows) =
     record { var = variable; next = slice_index row 0; reset = reset_of (slice_index row 1) }
     ∷ latches_from (suc variable) rows
 
+-- the variable after this one and those of so many latches
+abbrev pub variable_after : ℕ → List Latch → ℕ
+variable_after variable [] = variable
+variable_after variable (l ∷ ls) = variable_after (suc variable) ls
+
 -- each section in a binary file: its inputs are the first variables, its latches the next ones, and its gates are no
 -- lines
 abbrev pub in_binary : Section → Listed
@@ -113,7 +120,8 @@ in_binary Latches = record {
   start = λ h c. literal_of (1 + h.inputs);
   count = λ h c. h.latches;
   rows = λ c. map next_row c.latches;
-  with_rows = λ h rows c. record c { latches = latches_from (1 + h.inputs) rows };
+  with_rows = λ h rows c.
+      record c { latches = c.latches ++ latches_from (variable_after (1 + h.inputs) c.latches) rows };
 }
 in_binary Outputs = in_ascii Outputs
 in_binary Bad = in_ascii Bad
@@ -122,6 +130,11 @@ in_binary JusticeSizes = in_ascii JusticeSizes
 in_binary JusticeLiterals = in_ascii JusticeLiterals
 in_binary Fairness = in_ascii Fairness
 in_binary Gates = no_lines
+
+-- each section in a file of this kind
+abbrev pub listed_in : Format → Section → Listed
+listed_in Ascii = in_ascii
+listed_in Binary = in_binary
 
 -- the rows of these sections
 abbrev pub rows_in : (Section → Listed) → List Section → Circuit → List Row

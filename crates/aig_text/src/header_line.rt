@@ -1,8 +1,8 @@
 //! The header line of a file.
-ghost use Rattle.std.specs.Prelude.{◌≡◌, ◌≤◌, Some, IfOk, length, nat_lt};
+ghost use Rattle.std.specs.Prelude.{◌≡◌, ◌+◌, ◌≤◌, Some, IfOk, length, nat_lt};
 ghost use Rattle.std.specs.List.{list_any, position_or_len};
-ghost use Rattle.aig_circuit.specs.Wellformed.{largest_index};
 ghost use Rattle.aig_lines.specs.Lines.{line as line_of};
+ghost use Rattle.aig_text.specs.Begun.{IsLimited};
 ghost use Rattle.aig_text.specs.Reading.{begins_with_word, ends_word, header_within, header_of};
 
 use crate::limits::Limits;
@@ -71,7 +71,8 @@ fn any_above(limit: u64, numbers: &[u64]) -> bool
 #[tactic(auto, unfolding(crate::specs::Reading::header_within))]
 fn within(limit: u32, numbers: [u64; HEADER_NUMBERS]) -> Result<Header, Kind>
     ensures value { result ≡ header_within limit (Some numbers) }
-    ensures limited { IfOk result (λ h. (h.max_var ≤ limit) × (h.limit ≤ limit)) }
+    ensures limited { IfOk result (λ h. (h.max_var ≤ limit) × (h.limit ≤ limit)
+        × (h.inputs + h.latches + h.gates ≤ h.max_var)) }
 {
     if any_above(u64::from(limit), &numbers) {
         return Err(Kind::TooLarge);
@@ -108,7 +109,7 @@ fn within(limit: u32, numbers: [u64; HEADER_NUMBERS]) -> Result<Header, Kind>
 pub(crate) fn read_header(word: &[u8], line: Line, limits: Limits) -> Result<Header, Kind>
     ensures value { result ≡ header_of word.now limits.max_var
         (line_of line.entry.text.now line.entry.ended) }
-    ensures limited { IfOk result (λ h. (h.max_var ≤ largest_index) × (h.limit ≤ largest_index)) }
+    ensures limited { IfOk result (λ h. IsLimited h) }
 {
     if !begins_with_word(line.text, word) {
         return Err(Kind::NotAiger);

@@ -12,6 +12,7 @@ pub mod laws;
 mod limits;
 mod parts;
 mod pieces;
+mod piecewise;
 mod reader;
 mod section;
 mod tail_lines;
@@ -21,13 +22,12 @@ pub use crate::comment::{Uncommented, last_bytes};
 pub use crate::header_line::{ASCII_WORD, HEADER_LEAST, HEADER_NUMBERS, Header};
 pub use crate::limits::Limits;
 pub use crate::parts::{first_word_is, header, tail};
-pub use crate::pieces::AsciiReader;
+pub use crate::pieces::{AsciiReader, LineReader};
+pub use crate::piecewise::{Pieces, fetch_all, fetch_piece, read_rest};
 pub use crate::reader::{check_read, empty_circuit, read_ascii};
-pub use crate::section::{SECTIONS, Section, read_section};
+pub use crate::section::{Format, SECTIONS, Section};
 pub use crate::writer::{
     NumberedLine, header_numbers, put_header, put_lines, put_literal_sections, put_numbers,
     put_tail, reset_number, write_ascii,
 };
-pub use aig_rows::{
-    CANNOT_READ, CANNOT_WRITE, Message, NextState, OUT_OF_MEMORY, canonical_number, next_states,
-};
+pub use aig_rows::{CANNOT_READ, CANNOT_WRITE, Message, OUT_OF_MEMORY, canonical_number};

@@ -1,9 +1,9 @@
 //! The parts that ASCII and binary files have in common: the header and the tail.
 ghost use Rattle.std.specs.Prelude.{◌≡◌, ◌≤◌, IfOk, OnErr};
-ghost use Rattle.aig_circuit.specs.Wellformed.{largest_index};
 ghost use Rattle.aig_core.specs.Names.{nothing_named};
 ghost use Rattle.aig_lines.specs.Lines.{bytes_of, lines_of};
 ghost use Rattle.aig_rows.specs.Outcomes.{GivesOrFails, GivesOrMemory};
+ghost use Rattle.aig_text.specs.Begun.{IsLimited};
 ghost use Rattle.aig_text.specs.Reading.{HasRoomFor, first_word_is, header_at, tail_at};
 ghost use Rattle.aig_text.specs.Reading.{with_last_comment};
 
@@ -32,8 +32,7 @@ pub fn first_word_is(bytes: &[u8], word: &[u8]) -> bool
 pub fn header(word: &[u8], at: &mut Cursor, limits: Limits) -> Result<Header, Stopped>
     ensures header { GivesOrFails (λ header. (header, at.new)) result
         (header_at word.now limits.max_var at.old) }
-    ensures limited { IfOk result (λ header. (header.max_var ≤ largest_index)
-        × (header.limit ≤ largest_index)) }
+    ensures limited { IfOk result (λ header. IsLimited header) }
     ensures err { OnErr result (at.new ≡ at.old) }
 {
     let Some((line, rest)) = split_line(at.rest) else {

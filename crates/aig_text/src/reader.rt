@@ -16,6 +16,7 @@ use crate::header_line::{ASCII_WORD, Header};
 use crate::limits::Limits;
 use crate::parts::{header, tail};
 use crate::pieces::Progress;
+use crate::section::Format;
 use aig_core::{Checked, Circuit, Justice, Keep, Listing, Steps, Symbols, check};
 use aig_fault::Stopped;
 use aig_lines::Cursor;
@@ -66,7 +67,7 @@ fn read_unchecked(alloc: Global, bytes: &[u8], limits: Limits) -> Result<Circuit
 {
     let mut at = Cursor::new(bytes);
     let header = header(ASCII_WORD, &mut at, limits)?;
-    match Progress::new(alloc, &header).finish(&header, &mut at) {
+    match Progress::new(alloc, Format::Ascii, &header).finish(alloc, &header, &mut at) {
         Ok(circuit) => with_tail(alloc, &header, circuit, at),
         Err(fault) => Err(fault),
     }

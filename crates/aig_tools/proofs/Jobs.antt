@@ -1,33 +1,9 @@
--- A job as what it is, and what each reading leaves to read.
-use Rattle.std.proofs.Common.{◌≡◌, ◌<◌, ℕ, List, Bool, true, false, arith, subst, sym}
-use Rattle.aig_circuit.specs.declared.circuit.Circuit.{Circuit}
-use Rattle.aig_command.specs.declared.request.Invariant.{Invariant}
+-- A job as what it is.
+use Rattle.std.proofs.Common.{◌≡◌, ℕ, subst, sym}
 use Rattle.aig_command.specs.declared.request.Names.{Names}
-use Rattle.aig_commands.specs.Jobs.{Makes, read_for, reads_of, sources_left}
 use Rattle.aig_commands.specs.declared.job.Job.{Job}
-use Rattle.aig_commands.specs.declared.job.Reading.{Reading}
-use Rattle.aig_commands.specs.declared.job.Reading.TheVariants as readings
 use Rattle.aig_tools.specs.Ends.{Ends}
 use Rattle.aig_tools.specs.Worlds.{World}
-
--- an invariant leaves its refutation at the most
-few : (refuted : Bool) (request : Invariant) (selected : Circuit) → reads_of (read_for refuted request selected) < 3
-few true request selected = omega arith
-few false request selected = omega arith
-
--- each reading leaves fewer sources
-pub fewer : (reading : Reading) (bytes : List ℕ) (next : Job) → Makes reading bytes next
-    → sources_left next < reads_of reading
-fewer (readings.Reach request) bytes next (selected, is, then) = rw then (omega arith)
-fewer (readings.Invariant request) bytes next (selected, is, then) =
-    rw then (few request.refuted request selected)
-fewer (readings.Strengthen request selected) bytes next (strengthened, is, then) = rw then (omega arith)
-fewer (readings.ToAig request) bytes next (answer, is, then) = rw then (omega arith)
-fewer (readings.Unroll request) bytes next (answer, is, then) = rw then (omega arith)
-fewer (readings.Solved request selected) bytes next (answer, is, then) = rw then (omega arith)
-fewer (readings.Clauses selected) bytes next (answer, is, then) = rw then (omega arith)
-fewer (readings.Never request strengthened) bytes next (answer, is, then) = rw then (omega arith)
-fewer (readings.Sim request) bytes next (model, is, then) = rw then (omega arith)
 
 -- a job ends as what it is
 pub as_is : (names : Names) (job same : Job) (before after : World) (status : ℕ) → job ≡ same

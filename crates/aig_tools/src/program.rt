@@ -22,6 +22,7 @@ const REFUSED: u8 = 2;
 /// Does a job to its end over the files of these names, and answers the status.
 // Not built into its caller, on whose stack its blocks would stand too. Nor are others below.
 #[inline(never)]
+#[tactic(auto, using(aig_commands::proofs::Fewer::fewer))]
 pub fn run<A: FileAccess, R: Source, W: Sink, E: Sink>(
     alloc: Global,
     names: &Names,

@@ -1,6 +1,6 @@
 //! The files and streams of a program, and what is done with those that a request names. No two
 //! files are open at once.
-ghost use Rattle.std.specs.Prelude.{◌≡◌, ◌<◌, ◌≤◌, IfErr, IfOk, length, None, OnOk, Some};
+ghost use Rattle.std.specs.Prelude.{◌≡◌, ◌<◌, ◌≤◌, IfErr, IfOk, length, None, Some};
 ghost use Rattle.aig_io.specs.Devices.{History};
 ghost use Rattle.aig_command.specs.Answer.{name_of};
 ghost use Rattle.aig_fault.specs.declared.stopped.Stopped.TheVariants.{WriteFailed};
@@ -93,7 +93,6 @@ impl<A: FileAccess, R: Source, W: Sink, E: Sink> World<A, R, W, E> {
         requires can_read { CanRead reading }
         ensures idle { self.new.files.current ≡ None }
         ensures errors { self.new.errors ≡ self.old.errors }
-        ensures ready { OnOk result (IsIdle self.new) }
         ensures read { ReadIn
             (ReadSays (λ next bytes. Makes reading bytes next) (Refuses reading) result)
             (name_of name.now) self.old self.new }

@@ -80,7 +80,8 @@ module _ (c : Circuit) (few : length c.bad ≤ LARGEST) (source source_now : His
         }
 
     -- the bytes have ended where a line is due
-    pub wrong_behind : CameAt longest (Ok true) → w.due ≢ due.Nothing → Answers (Err (stops.Refused (bad_witness f.number)))
+    pub wrong_behind : CameAt longest (Ok true) → w.due ≢ due.Nothing
+        → Answers (Err (stops.Refused (bad_witness f.number)))
     wrong_behind r some =
         let right = none_wrong c few r.bytes true f w r.stands r.refused in
         let lines = length (judged_lines r.bytes true) in

@@ -5,16 +5,16 @@
 ghost use Rattle.std.specs.Prelude.{◌≡◌, ◌≤◌};
 ghost use Rattle.aig_command.specs.declared.builder.TheConstants.{VERSION};
 ghost use Rattle.aig_library.specs.Answers.{ClausesAnswers, ConvertAnswers, DumpAnswers};
-ghost use Rattle.aig_library.specs.Answers.{InvariantAnswers, NeverAnswers, ReachAnswers};
-ghost use Rattle.aig_library.specs.Answers.{RefuteAnswers, SimulateAnswers, UnrollAnswers};
-ghost use Rattle.aig_library.specs.Answers.{WitnessAnswers};
+ghost use Rattle.aig_library.specs.Answers.{InvariantAnswers, MiterAnswers, NeverAnswers};
+ghost use Rattle.aig_library.specs.Answers.{ReachAnswers, RefuteAnswers, SimulateAnswers};
+ghost use Rattle.aig_library.specs.Answers.{UnrollAnswers, WitnessAnswers};
 ghost use Rattle.aig_library.specs.Arrays.{ReadAnswers, StepAnswers, WriteAnswers, arrays};
 ghost use Rattle.aig_library.specs.Message.{IsWritten, outcome_text};
 ghost use Rattle.aigtools_c.specs.Version.{version_text};
 
 use aig_arrays::Counts;
 use aig_library::{
-    Outcome, convert, dump_witness, invariant_clauses, message, never, reach, read, refute,
+    Outcome, convert, dump_witness, invariant_clauses, message, miter, never, reach, read, refute,
     simulate, step, unroll, witness, write, write_clauses,
 };
 use std::alloc::Global;
@@ -149,6 +149,25 @@ pub extern "C" fn aigtools_never(
     outcome.status
 }
 
+/// Makes the miter of the circuits of two AIGER files.
+#[unsafe(no_mangle)]
+pub extern "C" fn aigtools_miter(
+    alloc: Global,
+    options: u32,
+    max_var: u32,
+    first: &[u8],
+    second: &[u8],
+    output: &mut [u8],
+    outcome: &mut Outcome,
+) -> u32
+    ensures status { result ≡ outcome.new.status }
+    ensures answers { MiterAnswers options max_var first.now second.now
+        output.old output.new outcome.new }
+{
+    *outcome = miter(alloc, options, max_var, first, second, output);
+    outcome.status
+}
+
 /// Simulates the circuit of an AIGER file over a stimulus.
 #[unsafe(no_mangle)]
 pub extern "C" fn aigtools_simulate(
@@ -270,5 +289,5 @@ pub extern "C" fn aigtools_message(outcome: &Outcome, output: &mut [u8]) -> usiz
 pub extern "C" fn aigtools_version() -> u32
     ensures { version_text result ≡ VERSION.now }
 {
-    0x01_02_00
+    0x01_03_00
 }

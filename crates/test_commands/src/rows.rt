@@ -1,7 +1,7 @@
 //! Command lines and what is answered to them.
 use aig_command::{
-    Command, CommandLine, Invariant, Names, Reach, Sim, SolverFile, ToAig, Unroll, UnrolledForm,
-    Usage, command,
+    Command, CommandLine, Invariant, Miter, Names, Reach, Sim, SolverFile, ToAig, Unroll,
+    UnrolledForm, Usage, command,
 };
 use std::alloc::{AllocError, Global};
 use std::test::Fail;
@@ -159,6 +159,22 @@ aigunroll --invariant <> --refutation <> => any 2147483647 - <> refutation <> -;
 aigunroll --invariant frames --refutation cnf -- --cnf --ascii \
 => any 2147483647 --cnf frames refutation cnf --ascii";
 
+/// Arguments after the program's name, and what they ask for: the options of the comparison, its
+/// limit, both circuits and the destination.
+const MITERS: &str = "\
+aigmiter a b => 2147483647 a b -;\
+aigmiter a b m.aig => 2147483647 a b m.aig;\
+aigmiter a b m.aag => ascii 2147483647 a b m.aag;\
+aigmiter --ascii a b - => ascii 2147483647 a b -;\
+aigmiter - b m => 2147483647 - b m;\
+aigmiter a - m => 2147483647 a - m;\
+aigmiter a.gz a.gz a.aig => 2147483647 a.gz a.gz a.aig;\
+aigmiter --by-name a.aag b.aag => by-name 2147483647 a.aag b.aag -;\
+aigmiter a --max-var=7 b --by-name --sync m.aag => sync ascii by-name 7 a b m.aag;\
+aigmiter a <> => 2147483647 a <> -;\
+aigmiter -- --by-name --sync => 2147483647 --by-name --sync -;\
+aigmiter aigtoaig help => 2147483647 aigtoaig help -";
+
 /// Arguments after the program's name, and why they are refused (`words` where `clap` refuses
 /// them); or that they ask for help.
 const REFUSALS: &str = "\
@@ -194,6 +210,10 @@ aigsim --vcd - => model and stimulus are both standard input;\
 aigsim --vcd --witness --properties - => model and stimulus are both standard input;\
 aigsim --vcd --witness --batch m => --witness stands alone;\
 aigsim --properties --witness --vcd m => --witness stands alone;\
+aigmiter - - => both circuits are standard input;\
+aigmiter --by-name --sync - - m.gz => both circuits are standard input;\
+aigmiter a b m.gz => compressed output is not supported;\
+aigmiter --sync a b => --sync needs the name of a destination;\
 aigtoaig --sync => --sync needs the name of a destination;\
 aigtoaig --sync a => --sync needs the name of a destination;\
 aigtoaig a --sync - => --sync needs the name of a destination;\
@@ -280,6 +300,7 @@ help => help;\
 help aigtoaig => help;\
 help aigsim => help;\
 help aigunroll => help;\
+help aigmiter => help;\
 help help => help;\
 -h help => help;\
 --help => help;\
@@ -576,6 +597,16 @@ fn shown_proving(alloc: Global, names: &Names, request: Invariant) -> Result<Str
     format!(in alloc; "{bad} {limit} {model} {file} {work} {destination}")
 }
 
+fn shown_miter(alloc: Global, names: &Names, request: Miter) -> Result<String, AllocError> {
+    let ascii = if request.ascii { "ascii " } else { "" };
+    let by_name = if request.by_name { "by-name " } else { "" };
+    let first = show_file(&names.model);
+    let second = show_file(&names.file);
+    let destination = show_file(&names.destination);
+    let limit = request.max_var;
+    format!(in alloc; "{ascii}{by_name}{limit} {first} {second} {destination}")
+}
+
 fn shown_command(alloc: Global, names: &Names, command: &Command) -> Result<String, AllocError> {
     match command {
         Command::ToAig(request) => shown_conversion(alloc, names, *request),
@@ -583,6 +614,7 @@ fn shown_command(alloc: Global, names: &Names, command: &Command) -> Result<Stri
         Command::Unroll(request) => shown_unrolling(alloc, names, *request),
         Command::Reach(request) => shown_reaching(alloc, names, *request),
         Command::Invariant(request) => shown_proving(alloc, names, *request),
+        Command::Miter(request) => shown_miter(alloc, names, *request),
         Command::Help(_) => String::from_str(alloc, "help"),
         Command::Version(_) => String::from_str(alloc, "version"),
     }
@@ -661,6 +693,13 @@ fn provings(rt: HostRuntime) -> Result<(), Fail> {
 }
 
 #[test]
+fn miters(rt: HostRuntime) -> Result<(), Fail> {
+    let wrong = first_wrong(rt.alloc(), MITERS)?;
+    assert!(rt; wrong.is_none(), "{wrong:?}");
+    Ok(())
+}
+
+#[test]
 fn refusals(rt: HostRuntime) -> Result<(), Fail> {
     let wrong = first_wrong(rt.alloc(), REFUSALS)?;
     assert!(rt; wrong.is_none(), "{wrong:?}");
@@ -697,7 +736,13 @@ fn longest_shown(alloc: Global, line: &str) -> Result<usize, Fail> {
 
 #[test]
 fn help_fits_a_terminal(rt: HostRuntime) -> Result<(), Fail> {
-    let lines = ["help", "help aigtoaig", "help aigsim", "help aigunroll"];
+    let lines = [
+        "help",
+        "help aigtoaig",
+        "help aigsim",
+        "help aigunroll",
+        "help aigmiter",
+    ];
     for line in lines.iter() {
         let longest = longest_shown(rt.alloc(), line)?;
         assert!(rt; longest <= 80, "{line}");

@@ -53,7 +53,8 @@ def usage(words, patterns, room):
     checked.refused(room.run(*words, changes=model_rows.honest(room)), *patterns)
 
 
-OPTIONS = "--top -D -I --frames --time --limit --jobs --solver -s --keep --json --quiet --help --version"
+OPTIONS = "--equal --by-name --top -D -I --frames --time --limit --jobs --solver -s --keep --json --quiet --help "
+OPTIONS += "--version"
 VARIABLES = "AIGER YOSYS ABC SOLVER"
 
 
@@ -69,7 +70,7 @@ def help_(words, room):
 
 def version(words, room):
     said = room.run(*words, changes={"PATH": "/nowhere", "AIGER": None})
-    checked.need((said.status, said.out, said.err) == (0, "aiger-check 1.2.0\n", ""), "another version", said)
+    checked.need((said.status, said.out, said.err) == (0, "aiger-check 1.3.0\n", ""), "another version", said)
 
 
 def alike(which, room):

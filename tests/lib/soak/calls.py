@@ -102,7 +102,8 @@ def wrong_form(call, output, errors, status):
         return "nothing on standard error" if errors else None
     if status == 1 and not errors and is_denial(output) and "--witness" in call.words:
         return None
-    if status == 2 and errors.startswith(b"error: "):
+    # where there is no command, help is told
+    if status == 2 and errors.startswith((b"error: ", b"Tools for circuits in the AIGER format\n")):
         return "no output" if output else None
     if not refusals.kind_of(errors):
         return "one line 'aiger: ..' of a kind that is known on standard error"

@@ -3,7 +3,7 @@ import dataclasses
 import itertools
 import re
 
-from lib import answers, images, invariants, refusals, refutations, traces, unrolled, waves, witnesses
+from lib import answers, images, invariants, miters, refusals, refutations, traces, unrolled, waves, witnesses
 from lib.soak.calls import Call, Failed
 from lib.soak.editors import edited
 from lib.soak.generators import parsed, simulation, some_rows, stimulus
@@ -33,6 +33,7 @@ def relations(here, text):
     unrolled_alike(here, models, made)
     clauses_alike(here, models, made)
     witnesses_alike(here, models, made)
+    compared_alike(here, text, image, dataclasses.replace(made, symbols=end.decode("latin-1")))
 
 
 def there_and_back(here, text):
@@ -244,6 +245,25 @@ def same_answer(here, models, made, text):
     for model in models:
         call, name = simulation(here.chance, model, text, "--witness")
         here.expect("the answer to a witness", call, *witnesses.wanted(made, name, text.decode("latin-1")))
+
+
+def compared_alike(here, text, image, made):
+    """The miter of a circuit and its image, or of what may be something else, in either order."""
+    chance = here.chance
+    changed = miters.spread(chance, miters.changed(chance, made), len(miters.variables(made)) + 9)
+    changed = dataclasses.replace(changed, symbols=images.symbols(chance, changed))
+    both = [(text, made), chance.choice([(image, images.renumbered(made)), (images.ascii_text(changed), changed)])]
+    chance.shuffle(both)
+    same_miter(here, *both, ["aigmiter", *chance.choice(["", "--ascii", "--by-name", "--ascii --by-name"]).split()])
+
+
+def same_miter(here, first, second, words):
+    """The miter of two circuits, which come with their texts, is that of the plain model, or one of them is refused."""
+    (text, one), (other, two) = first, second
+    call, names = Call([*words, "first", "-"], other, {"first": text}), ("first", "-")
+    if here.chance.randrange(2):
+        call, names = Call([*words, "-", "second"], text, {"second": other}), ("-", "second")
+    here.expect("the miter", call, *miters.wanted(one, two, words, names))
 
 
 def answer_of_trace(lines, position):

@@ -2,17 +2,17 @@
 import dataclasses
 import itertools
 
-from lib import images, refusals, waves, witnesses
+from lib import images, miters, refusals, waves, witnesses
 from lib.soak.calls import TOO_WIDE, WIDE, Call, inputs_without_lines
 from lib.soak.editors import MAP_EDITS, edited
 from lib.soak.generators import bare, circuit, parsed, source, stimulus
-from lib.soak.oracles import relations, same_answer, same_trace, undone
+from lib.soak.oracles import relations, same_answer, same_miter, same_trace, undone
 
 LARGEST = 2**31 - 1
-WORDS = """aigtoaig aigtoaig aigsim aigsim aigunroll aigunroll --ascii --strip --keep-map --undo-map
+WORDS = """aigtoaig aigtoaig aigsim aigsim aigunroll aigunroll aigmiter aigmiter --ascii --strip --keep-map --undo-map
     --outputs-as-bad --max-var --max-var=9 --max-var=2147483648 --frames --frames=2 --frames=0 --batch --properties
     --vcd --witness --cnf --cnf --bad=0 --bad=1 --answer=source --answer
-    --refutation=source --refutation --invariant=source --invariant --sync --help -h -- - source source source out.aag
+    --refutation=source --refutation --invariant=source --invariant --by-name --sync --help -h -- - source source source out.aag
     out.aig out.gz 3 --unknown""".split() + [""]
 # what the arguments that refusals.py lists are refused for, in this order; and names of files that cannot be there
 REFUSED_WORDS = """aigtoaig --keep-map --ascii
@@ -35,11 +35,13 @@ aigunroll --invariant - --frames 2
 aigunroll --invariant - --bad 0
 aigunroll --invariant - --cnf
 aigunroll --invariant - --refutation - model
+aigmiter - -
 aigtoaig --sync model
 aigtoaig \udcff""".split("\n")
 NO_FILES = {
     "aigtoaig none/source": "none/source: cannot read",
     "aigsim none/model": "none/model: cannot read",
+    "aigmiter none/first -": "none/first: cannot read",
     "aigtoaig - none/out.aag": "none/out.aag: cannot write",
 }
 
@@ -85,6 +87,9 @@ def refused_alike(here, text, errors, limit):
         here.expect("a refusal is one of all tools", Call([*unroll, *words], text, steps), b"", errors, 1)
     for words in (["--cnf"], ["--refutation", "steps"]):
         call = Call(["aigunroll", "--invariant", "steps", *limit, *words], text, steps)
+        here.expect("a refusal is one of all tools", call, b"", errors, 1)
+    for words in (["-", "steps"], ["steps", "-"]):
+        call = Call(["aigmiter", *limit, *words], text, {"steps": b"aag 0 0 0 0 0\n"})
         here.expect("a refusal is one of all tools", call, b"", errors, 1)
     told = errors.replace(b"aiger: -: ", b"aiger: source: ", 1)
     named = [["aigtoaig", *limit, "source", "out.aag"], [*unroll, "source", "out.aag"], ["aigsim", *limit, "source"]]
@@ -182,6 +187,16 @@ def large_unrolling(here):
         here.expect("what would be too large is refused", call, b"", b"aiger: -: too large to unroll\n", 1)
 
 
+def two_circuits(here):
+    """Two circuits of miters.py, as ASCII or as their images."""
+    *both, words = miters.pair(here.chance)
+    if here.chance.randrange(2):
+        texts = [(images.image(it), images.renumbered(it)) for it in both]
+    else:
+        texts = [(images.ascii_text(it), it) for it in both]
+    same_miter(here, *texts, [*words, *here.chance.choice([[], ["--ascii"]])])
+
+
 def hostile_steps(here):
     """An edited stimulus has the trace up to its first bad line, and an edited witness its answer."""
     chance = here.chance
@@ -203,7 +218,7 @@ def hostile_words(here):
     for _ in range(12):
         words = chance.choices(WORDS, k=chance.randrange(1, 7))
         if chance.randrange(3):
-            words = [chance.choice(WORDS[:6]), *words]
+            words = [chance.choice(WORDS[:8]), *words]
         given = chance.choice([text, b"0\n", b""])
         here.ask(Call(words, given, {"source": text, "out.aig": b"as it was\n"}))
     for words, told in zip(REFUSED_WORDS, refusals.OF_ARGUMENTS, strict=True):
@@ -213,4 +228,4 @@ def hostile_words(here):
 
 
 KINDS = [good_round] * 4 + [hostile_circuit] * 7 + [hostile_steps] * 2 + [hostile_words]
-KINDS += [cyclic_circuit] + [misdefined_circuit] * 2 + [hostile_map] * 2 + [wide_circuit, large_unrolling]
+KINDS += [cyclic_circuit] + [misdefined_circuit] * 2 + [hostile_map] * 2 + [wide_circuit, large_unrolling, two_circuits]

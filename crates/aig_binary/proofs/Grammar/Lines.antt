@@ -23,7 +23,8 @@ use Rattle.aig_rows.proofs.Grammar.Entries.{AreGoodRows, reset_again}
 use Rattle.aig_text.specs.declared.header_line.Header.{Header}
 use Rattle.aig_text.specs.declared.section.Section.TheVariants.{Inputs, Latches, Gates}
 use Rattle.aig_text.specs.declared.section.Section.{Section}
-use Rattle.aig_text.specs.Sections.{latches_from, sections, in_ascii, in_binary}
+use Rattle.aig_text.specs.Sections.{latches_from, sections, in_ascii, in_binary, variable_after}
+use Rattle.aig_text.proofs.Loops.Sections.{as_many}
 use Rattle.aig_text.specs.Reading.{empty_circuit}
 use Rattle.aig_text.proofs.Grammar.Headers.{HasCounts}
 use Rattle.aig_text.proofs.Grammar.Sections.{FitRows, AllFit, AllApart, TellsRows, rows_by, with_all, tells_rows}
@@ -210,10 +211,12 @@ define variable (ns ∷ rows) =
     ap (λ (vs : List ℕ). variable ∷ vs)
     (define (suc variable) rows ∙ ap (λ (k : ℕ). range_with_len k (length rows)) (sym (add-one variable)))
 
-as_many : (variable : ℕ) (rows : List (List ℕ)) → length (latches_from variable rows) ≡ length rows
-unfolding latches_from
-as_many variable [] = refl
-as_many variable (ns ∷ rows) = ap suc (as_many (suc variable) rows)
+-- latches after none
+after_none : (h : Header) (ls : List Latch) (rows : List (List ℕ)) → map next_row ls ≡ []
+    → AreGoodRows next_form h.max_var (literal_of (1 + h.inputs)) rows
+    → map next_row (ls ++ latches_from (variable_after (1 + h.inputs) ls) rows) ≡ rows
+after_none h [] rows none good = next_rows_again h.max_var (1 + h.inputs) rows good
+after_none h (l ∷ ls) rows none good = cc
 
 -- The laws of sections.
 none : (rows : List (List ℕ)) → length rows ≡ 0 → [] ≡ rows
@@ -222,7 +225,7 @@ none (ns ∷ rows) e = absurd (omega arith)
 
 pub tells : (h : Header) (s : Section) → TellsRows in_binary h s
 tells h Inputs rows c empty fit = none rows fit.counted
-tells h Latches rows c empty fit = next_rows_again h.max_var (1 + h.inputs) rows fit.good
+tells h Latches rows c empty fit = after_none h c.latches rows empty fit.good
 tells h Gates rows c empty fit = none rows fit.counted
 tells h s rows c empty fit = tells_rows h s rows c empty fit
 

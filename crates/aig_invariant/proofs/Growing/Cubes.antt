@@ -1,5 +1,5 @@
 -- A circuit grows by chains of gates, by literals and by cubes, and stays well formed.
-use Rattle.std.proofs.Common.{◌≡◌, ◌<◌, ◌≤◌, ◌+◌, ◌%◌, ◌++◌, ◌∙◌, ◌∷◌, ℕ, List, [], ap, ap₂, arith, inl, inr}
+use Rattle.std.proofs.Common.{◌≡◌, ◌<◌, ◌≤◌, ◌+◌, ◌++◌, ◌∙◌, ◌∷◌, ℕ, List, [], ap, ap₂, arith, inl, inr}
 use Rattle.std.proofs.Common.{append_assoc, append-nil, length, length-append, map, refl, subst, suc, sym, All, Bool}
 use Rattle.std.proofs.Common.{Err, drop, drop-cons, false, get_or, if◌then◌else◌, min, set, take, true, Ok, Result}
 use Rattle.std.proofs.Common.{zero}
@@ -29,6 +29,7 @@ use Rattle.aig_meaning.specs.Meaning.{latch_variables, next_literals}
 use Rattle.aig_meaning.proofs.Related.{AreDefined, IsDefined, known_next}
 use Rattle.aig_lines.specs.Lines.{Line, line}
 use Rattle.aig_unroll.specs.Unrolled.{chain_behind, chained}
+use Rattle.aig_unroll.proofs.Growing.{all_fit, gate_formed, gate_known, known_still, negation_known, with_gate}
 use Rattle.aig_invariant.specs.declared.growth.Latches.{Latches}
 use Rattle.aig_invariant.specs.Invariant.{Cube, asked_literals, conjunction, freed, state_literals, with_conjunction}
 use Rattle.aig_invariant.specs.Invariant.{with_cube, with_cubes, with_now, with_invariant}
@@ -36,7 +37,6 @@ use Rattle.aig_invariant.specs.InvariantText.{is_passed}
 use Rattle.aig_invariant.specs.Outcome.{HasCubes, IsOverfull, NotInvariant}
 use Rattle.aig_invariant.specs.Parts.Growing.{AreTheLatches, IsRefused, with_line}
 use Rattle.aig_invariant.specs.Parts.Rows.{cube_at, cubes_at, value_or_x}
-use Rattle.aig_invariant.proofs.Growing.Formed.{all_fit, gate_formed, gate_known, known_still, with_gate}
 
 -- ---- chains
 
@@ -92,15 +92,6 @@ chain_grown chain (x ∷ xs) c good room chain_known known =
     (record { formed = rest.formed; still = λ l is. rest.still l (still l is); known = rest.known })
 
 -- ---- literals
-
-negation_variable : (l : ℕ) → variable_of (negation_of l) ≡ variable_of l
-negation_variable l = elim (cases_lt 0 (l % 2)) [
-  | inl odd ↦ let sign : l % 2 ≡ 1 = omega arith in rw sign (omega arith)
-  | inr even ↦ let sign : l % 2 ≡ 0 = omega arith in rw sign (omega arith)
-]
-
-pub negation_known : (vs : List ℕ) (l : ℕ) → IsKnown vs l → IsKnown vs (negation_of l)
-negation_known vs l known = rw (negation_variable l) known
 
 pub asked_known : (vs : List ℕ) (cube : Cube) (ls : List ℕ) → AllByRecursion (IsKnown vs) ls
     → AllByRecursion (IsKnown vs) (asked_literals cube ls)

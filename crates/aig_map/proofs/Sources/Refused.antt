@@ -24,7 +24,8 @@ use Rattle.aig_map.specs.Parts.Confirmed.{DifferWhereExchanged, ExchangesDiffer,
 use Rattle.aig_map.specs.Parts.Confirmed.{gate_in_place}
 use Rattle.aig_map.specs.Parts.Had.{gates_there}
 use Rattle.aig_map.specs.Parts.Tables.{IsFit}
-use Rattle.aig_map.specs.Undone.{comment_behind, exchanges_recorded, source_variables, undone, forged, IsMapFault, IsUndoneFrom}
+use Rattle.aig_map.specs.Undone.{comment_behind, exchanges_recorded, source_variables, undone, forged, IsMapFault}
+use Rattle.aig_map.specs.Undone.{IsUndoneFrom}
 use Rattle.aig_map.specs.Undone.{places_recorded}
 use Rattle.aig_fault.specs.Stopping.{StopsFor}
 use Rattle.aig_fault.specs.declared.fault.Fault.{Fault}

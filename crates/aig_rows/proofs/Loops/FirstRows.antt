@@ -1,6 +1,6 @@
 -- Rows of which the first were read: what the others are read as, and where they stand.
-use Rattle.std.proofs.Common.{◌≡◌, ◌≢◌, ◌+◌, ◌-◌, ◌<◌, ◌∙◌, ◌∷◌, ◌++◌, ◌⊎◌, ℕ, zero, suc, List, [], map, get_or, length}
-use Rattle.std.proofs.Common.{inl, inr, Result, Ok, Err, refl, sym, ap, subst, append_assoc, append-nil, length-append}
+use Rattle.std.proofs.Common.{◌≡◌, ◌≢◌, ◌+◌, ◌-◌, ◌<◌, ◌∙◌, ◌∷◌, ◌++◌, ℕ, zero, suc, List, [], map, get_or, length}
+use Rattle.std.proofs.Common.{Result, Ok, Err, refl, sym, ap, subst, append_assoc, append-nil, length-append}
 use Rattle.std.proofs.Common.{arith}
 use Rattle.std.proofs.lemmas.List.{map-append}
 use Rattle.aig_fault.specs.declared.stopped.Stopped.{Stopped}
@@ -8,9 +8,8 @@ use Rattle.aig_fault.specs.declared.kind.Kind.{Kind}
 use Rattle.aig_fault.specs.declared.kind.Kind.TheVariants as kinds
 use Rattle.aig_lines.specs.Lines.{Line, Ahead, IsBehind, ahead, lines_of, with_lines}
 use Rattle.aig_rows.specs.Rows.{Role, Form}
-use Rattle.aig_rows.specs.Outcomes.{row_meant, rows_meant}
-use Rattle.aig_rows.specs.Reading.{◌>>=◌, Found, carried_on, at_line, fault_at, line_found, row_of, row_at, rows_at}
-use Rattle.aig_fault.specs.declared.stopped.Stopped.TheVariants.{OutOfMemory}
+use Rattle.aig_rows.specs.Outcomes.{row_meant}
+use Rattle.aig_rows.specs.Reading.{◌>>=◌, Found, carried_on, at_line, line_found, row_of, row_at, rows_at}
 use Rattle.aig_rows.specs.declared.rows.Due.{Due}
 use Rattle.aig_rows.specs.Begun.{carried_over, AreFirst, HaveRead}
 use Rattle.aig_rows.proofs.Steps.{both_ok, ok_same}
@@ -254,35 +253,3 @@ module _ {A : Type 0} (tell : List ℕ → A) (form : Form) (m : ℕ) where
       first_wrong form m due left at (ahead number (lines_of rest)) h.rows more e h.first some
       (refused_joined kinds.Truncated (row_of form m left.carried) number (lines_of rest) more e
       (some_lines rest bytes) (no_meaning _ e row))
-
-  -- where no lines come
-  nothing_more : (at : Ahead) → with_lines at [] ≡ at
-  nothing_more at = ap (ahead at.number) (append-nil at.lines)
-
-  pub have_all : (due left : Due) (before found : List A) (from at now : Ahead) → from ≡ at → left.count ≡ 0
-      → HaveRead tell form m due left before found from now
-      → rows_meant tell before (rows_at form m due.carried due.count at) ≡ Ok (found, now)
-  have_all due left before found from at now same none h =
-      let all : due.count - left.count ≡ due.count = omega (arith, none) in
-      ap (λ (x : Ahead). rows_meant tell before (rows_at form m due.carried due.count x)) (sym same)
-      ∙ ap (λ (k : ℕ). rows_meant tell before (rows_at form m due.carried k from)) (sym all)
-      ∙ ap (rows_meant tell before) h.first.read ∙ ap (λ (xs : List A). Ok (xs, now)) (sym h.meant)
-
-  pub have_few : (due left : Due) (before found : List A) (from at now : Ahead) → from ≡ at → 0 < left.count
-      → now.lines ≡ [] → HaveRead tell form m due left before found from now
-      → rows_meant tell before (rows_at form m due.carried due.count at) ≡ Err (fault_at now.number kinds.Truncated)
-  have_few due left before found from at now same some none h =
-      ap (λ (x : Ahead). rows_meant tell before (rows_at form m due.carried due.count x))
-      (sym (nothing_more from ∙ same))
-      ∙ ap (rows_meant tell before) (first_wrong form m due left from now h.rows []
-      (fault_at now.number kinds.Truncated) h.first some
-      (ap (λ (ls : List Line). row_at form m left.carried (ahead now.number ls)) (append-nil now.lines ∙ none)))
-
-  pub wrong_alone : (due : Due) (from at : Ahead) (before : List A) (e : Stopped) → from ≡ at
-      → (e ≡ OutOfMemory)
-      ⊎ ((more : List Line) → rows_at form m due.carried due.count (with_lines from more) ≡ Err e)
-      → (e ≡ OutOfMemory) ⊎ (rows_meant tell before (rows_at form m due.carried due.count at) ≡ Err e)
-  wrong_alone due from at before e same (inl h) = inl h
-  wrong_alone due from at before e same (inr h) =
-      inr (ap (λ (x : Ahead). rows_meant tell before (rows_at form m due.carried due.count x))
-      (sym (nothing_more from ∙ same)) ∙ ap (rows_meant tell before) (h []))

@@ -1,14 +1,14 @@
 -- Reading rows one after another.
 use Rattle.std.proofs.Common.{◌≡◌, ◌+◌, ◌≤◌, ◌∷◌, subst, length, rules, ℕ, zero, suc, List, [], map, get_or, false}
-use Rattle.std.proofs.Common.{Option, Some, None, Ok, Err, refl, arith, Result, OnOk, sum, ltb-false}
+use Rattle.std.proofs.Common.{Option, Some, None, Ok, Err, refl, arith, sum, ltb-false}
 use Rattle.aig_rows.specs.Scanning.{numbers_at}
-use Rattle.std.proofs.lemmas.List.Sums.{sum_by-cons, sum_by-append}
+use Rattle.std.proofs.lemmas.List.Sums.{sum_by-cons}
 use Rattle.aig_fault.specs.declared.stopped.Stopped.{Stopped}
 use Rattle.aig_fault.specs.declared.kind.Kind.TheVariants as kinds
 use Rattle.aig_rows.specs.declared.row.Role.TheVariants as roles
 use Rattle.aig_lines.specs.Lines.{Line, Ahead}
 use Rattle.aig_rows.specs.Rows.{Role, Form, size_form, size_of}
-use Rattle.aig_rows.specs.Outcomes.{row_meant, rows_meant, GivesOrMemory}
+use Rattle.aig_rows.specs.Outcomes.{row_meant}
 use Rattle.aig_rows.specs.Reading.{◌>>=◌, Found, carried_on, oversizes, fault_in_row, checked_row, row_of, line_found}
 use Rattle.aig_rows.specs.Reading.{row_at, rows_at}
 use Rattle.aig_rows.proofs.Steps.{both_ok, ok_at_line, ok_same}
@@ -114,16 +114,3 @@ sizes_small m carried (suc count) at after rows l h =
     subst (λ (q : List (List ℕ) × Ahead). carried + sum (map size_of q.0) ≤ m) whole
     (more_sizes m carried n (map size_of o.0.0)
     (sizes_small m (carried + n) count f.0.1 o.0.1 o.0.0 (size_small size_form m carried f.0.0 right l refl) o.1))
-
-sizes_fit : (m start count : ℕ) (at after : Ahead) (before rows : List ℕ) (r : Found (List (List ℕ)))
-    → rows_at size_form m start count at ≡ r → start ≡ sum before → start ≤ m
-    → rows_meant size_of before r ≡ Ok (rows, after) → sum rows ≤ m
-sizes_fit m start count at after before rows (Err e) is from l h = cc
-sizes_fit m start count at after before rows (Ok x) is from l h = search (rules, ok_same, sizes_small, sum_by-append)
-
-pub sizes_read : {X : Type 0} (m start count : ℕ) (at after : Ahead) (before found : List ℕ)
-    (result : Result X Stopped) → start ≡ sum before → sum before ≤ m
-    → GivesOrMemory (λ _. (found, after)) result (rows_meant size_of before (rows_at size_form m start count at))
-    → OnOk result (sum found ≤ m)
-sizes_read m start count at after before found (Ok x) from l h = search (rules, sizes_fit)
-sizes_read m start count at after before found (Err e) from l h = tt

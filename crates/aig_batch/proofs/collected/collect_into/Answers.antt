@@ -29,7 +29,12 @@ returns-then-not-end-clause-err g c =
     let end = rw c.if-count-eq0.true at c.in-Ok.ensures.history in
     let bad = first_bad _ c.args.checked.now f c.end.new.taker bytes true true (c.end.ensures.folded _ i.folded)
     (flipped f.refused c.end.result false c.end.ensures.result c.if-not-end.true) in
-    rw (c.refused_at.ensures, c.number.ensures) (record { bytes = bytes; ending = AtEnd; says = (_, refl, tt, bad); came = end ∙ ap at_end i.history })
+    rw (c.refused_at.ensures, c.number.ensures) (record {
+      bytes = bytes;
+      ending = AtEnd;
+      says = (_, refl, tt, bad);
+      came = end ∙ ap at_end i.history;
+    })
 
 pub returns-then-count-eq0-clause-came : goal.returns-then-count-eq0-clause-came
 returns-then-count-eq0-clause-came g c =

@@ -1,7 +1,7 @@
 use Rattle.std.proofs.Common.{◌++◌, inr, true}
 use Rattle.std.proofs.lemmas.Result.{err_from_is_err_and}
 use Rattle.aig_io.specs.declared.transfer.ReadError.TheVariants as errors
-use Rattle.aig_binary.proofs.FileSource.{failed_by}
+use Rattle.aig_text.proofs.Sources.{failed_by}
 use Rattle.aig_binary.proofs.source.read_whole.Goals as goal
 
 pub returns-in_err-bytes : goal.returns-in_err-bytes

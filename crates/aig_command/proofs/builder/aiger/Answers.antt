@@ -3,6 +3,7 @@ use Rattle.aig_command.proofs.builder.aiger.Goals as goal
 -- Each subcommand in turn is added to what there is.
 pub returns : goal.returns
 returns c =
-    c.with_subcommand.ensures _ _
-    (c.with_subcommand-program-2.ensures _ _
-    (c.with_subcommand-program.ensures _ _ c.program.ensures c.to_aig.ensures) c.aigsim.ensures) c.aigunroll.ensures
+    let with1 = c.with_subcommand-program.ensures _ _ c.program.ensures c.to_aig.ensures in
+    let with2 = c.with_subcommand-program-2.ensures _ _ with1 c.aigsim.ensures in
+    let with3 = c.with_subcommand-program-3.ensures _ _ with2 c.aigunroll.ensures in
+    c.with_subcommand.ensures _ _ with3 c.aigmiter.ensures

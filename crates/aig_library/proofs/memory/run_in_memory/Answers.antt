@@ -4,7 +4,8 @@ use Rattle.aig_commands.specs.Jobs.{Makes, Refuses, sources_left, text_of}
 use Rattle.aig_io.specs.Runs.{AtEnd}
 use Rattle.aig_library.specs.Memory.{Comes, is_refused, is_written, makes}
 use Rattle.aig_library.proofs.Answered.{stops_as, text_is}
-use Rattle.aig_library.proofs.Comings.{fewer, no_steps_then}
+use Rattle.aig_commands.proofs.Fewer.{fewer}
+use Rattle.aig_library.proofs.Comings.{no_steps_then}
 use Rattle.aig_library.proofs.memory.run_in_memory.Goals as goal
 
 pub loop-job-preserved : goal.loop-job-preserved

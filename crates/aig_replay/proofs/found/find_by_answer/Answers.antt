@@ -52,7 +52,8 @@ returns-in-None g c = λ d formed means zeros.
     let are = values_read (all_inputs d n) c.args.bits.now bits taken.0 zeros taken.3 in
     let found = has_found d n bits None formed (λ rows trace.
     c.in-None.ensures.found d rows formed means are.bits_are are.many trace) in
-    let said = subst (λ (bs : List ℕ). answer_of (closed (read_from bs taken.0).reader) ≡ Ok Satisfiable) zeros taken.2 in
+    let said =
+    subst (λ (bs : List ℕ). answer_of (closed (read_from bs taken.0).reader) ≡ Ok Satisfiable) zeros taken.2 in
     rw c.refused_whole.ensures (record {
       bytes = taken.0;
       ending = AtEnd;

@@ -10,10 +10,10 @@ returns-in-Err-clause-read c =
 pub returns-then-not-is_done-clause-read : goal.returns-then-not-is_done-clause-read
 returns-then-not-is_done-clause-read c =
     inr (alone_short c.args.header.now c.args.self c.read_lines.new.self c.args.at.now c.read_lines.new.at
-    c.in_default.ensures.on c.in_default.ensures.all (search rules)
+    c.in-Ok.ensures.on c.in-Ok.ensures.all (search rules)
     ∙ ap (λ (e : Stopped). Err e) (sym c.missing_line.ensures))
 
-pub returns-clause-read : goal.returns-clause-read
-returns-clause-read c =
+pub returns-else-not-is_done-clause-read : goal.returns-else-not-is_done-clause-read
+returns-else-not-is_done-clause-read c =
     alone_done c.args.header.now c.args.self c.read_lines.new.self c.args.at.now c.read_lines.new.at
-    c.in_default.ensures.on (search rules)
+    c.in-Ok.ensures.on (search rules)

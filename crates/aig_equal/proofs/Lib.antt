@@ -1,0 +1,4 @@
+pub mod Alike
+pub mod OneStep
+pub mod StartsAlike
+pub mod Whole

@@ -1,0 +1,4 @@
+pub mod Beside
+pub mod Compared
+pub mod Whole
+pub mod Starting
