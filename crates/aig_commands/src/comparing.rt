@@ -12,7 +12,7 @@ use crate::answer::Answer;
 use crate::conversion::convert_as;
 use crate::file::read_circuit;
 use aig_command::Miter;
-use aig_core::{Checked, Keep, Source};
+use aig_core::{Checked, Keep, Source, Steps};
 use aig_fault::Stopped;
 use aig_miter::{check_comparable, miter};
 use aig_pairing::{check_names, order_by_names};
@@ -83,7 +83,7 @@ fn compare(
     ensures err { IfErr result (StopsFor (NotMadeOf request.now first second)) }
 {
     match pair(alloc, request, &first, second) {
-        Ok(paired) => miter(alloc, first, paired),
+        Ok(paired) => miter(alloc, first, paired, &mut Steps::new()),
         Err(stopped) => {
             drop(first); // for the proof
             Err(stopped)
