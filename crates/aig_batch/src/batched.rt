@@ -22,7 +22,7 @@ use aig_fault::Stopped;
 use aig_io::{Output, Sink, Source};
 use aig_lanes::{Bench, RunGroup};
 use aig_step::{Columns, Machine};
-use aig_trace::{MOST_INPUTS, RowTaker, StimulusReader, line_room};
+use aig_trace::{Lent, MOST_INPUTS, RowTaker, StimulusReader, line_room};
 use std::alloc::Global;
 
 /// Puts the texts of groups, one after the other.
@@ -174,8 +174,10 @@ pub fn simulate_batched<R: Source, W: Sink>(
     ensures transferred { Transferred (BatchSays checked.now columns result)
         (R.history source.old) (R.history source.new) (W.history sink.old) (W.history sink.new) }
 {
-    let output = Output::new(sink);
-    let (traced, output) = simulate_batched_into(alloc, checked, columns, source, output);
+    let mut output = Output::new(sink);
+    let lent = Lent::new(&mut output);
+    let (traced, lent) = simulate_batched_into(alloc, checked, columns, source, lent);
+    let _output = lent.into_taker();
     let _sink = output.into_sink();
     traced
 }

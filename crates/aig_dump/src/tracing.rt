@@ -10,7 +10,7 @@ use aig_batch::{simulate_batched, simulate_batched_into};
 use aig_core::{Checked, Sink, Source};
 use aig_fault::Stopped;
 use aig_step::Columns;
-use aig_trace::{RowTaker, simulate, simulate_into};
+use aig_trace::{Lent, RowTaker, simulate, simulate_into};
 use aig_wave::{WaveMemory, WaveTaker};
 use std::alloc::Global;
 
@@ -85,7 +85,9 @@ pub fn write_dump<R: Source, W: Sink>(
     let Ok(room) = WaveMemory::new(alloc, found) else {
         return Err(Stopped::OutOfMemory);
     };
-    let (ran, wave) = trace_into(alloc, batch, found, stimulus, WaveTaker::new(room, output));
+    let mut wave = WaveTaker::new(room, output);
+    let (ran, lent) = trace_into(alloc, batch, found, stimulus, Lent::new(&mut wave));
+    let _wave = lent.into_taker();
     let (sent, _output) = wave.finish(ran.is_ok());
     outcome_of_dump(ran, sent.is_err())
 }

@@ -1,5 +1,6 @@
 -- What takes a trace, line by line.
 use Rattle.std.specs.Prelude.{◌≡◌, ◌++◌, ℕ, List, Bool, false, true, []}
+use Rattle.std.specs.Borrow.{MutBor}
 use Rattle.aig_io.specs.Devices.{History}
 use Rattle.aig_io.specs.Runs.{All, Beginning, Delivery, Ending, NotSent, Read}
 use Rattle.aig_meaning.specs.Meaning.{Row}
@@ -15,6 +16,12 @@ pub record IsRowText (text : List ℕ) : Type 0 where
 -- A taker took a text: since it stood anywhere, it took that text after what it had taken.
 pub record Took {T : Type 0} (HasTaken : T → T → List ℕ → Type 0) (before after : T) (text : List ℕ) : Type 0 where
   pub more : (from : T) (front : List ℕ) → HasTaken from before front → HasTaken from after (front ++ text)
+
+-- The same taker, which is lent, took a text after what it had taken.
+pub record TookLent {T : Type 0} (HasTaken : T → T → List ℕ → Type 0) (before after : MutBor T) (text : List ℕ)
+    : Type 0 where
+  pub same : after.ghost_name ≡ before.ghost_name
+  pub took : Took HasTaken before.now after.now text
 
 -- what was meant to be taken of a text
 abbrev pub meant : List ℕ → Delivery → List ℕ

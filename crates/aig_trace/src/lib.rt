@@ -17,7 +17,7 @@ mod waiting;
 
 pub use crate::entry::is_entry;
 pub use crate::reader::StimulusReader;
-pub use crate::row_taker::RowTaker;
+pub use crate::row_taker::{Lent, RowTaker};
 pub use crate::side_by_side::MOST_INPUTS;
 pub use crate::stream::{simulate, simulate_into};
 pub use crate::tracer::line_room;

@@ -63,3 +63,50 @@ impl<'a, W: Sink> RowTaker for Output<'a, W> {
         Output::flush(self)
     }
 }
+
+/// A taker that is lent, so that it stays where it is: an output holds a block.
+pub struct Lent<'t, T: RowTaker> {
+    taker: &'t mut T,
+}
+
+impl<'t, T: RowTaker> Lent<'t, T> {
+    /// It lends this taker.
+    pub fn new(taker: &'t mut T) -> Self
+        ensures { result.taker ≡ taker.entry }
+    {
+        Lent { taker }
+    }
+
+    /// Gives the taker back.
+    pub fn into_taker(self) -> &'t mut T
+        ensures { result ≡ self.taker }
+    {
+        let Lent { taker } = self;
+        taker
+    }
+}
+
+/// The taker takes it.
+impl<'t, T: RowTaker> RowTaker for Lent<'t, T> {
+    ghost use Rattle.aig_trace.specs.Taken.{TookLent};
+
+    ghost took = { λ a b text. TookLent T.took a.taker b.taker text };
+
+    ghost failed = { λ l. T.failed l.taker.now };
+
+    ghost is_settled = { λ l. T.is_settled l.taker.now };
+
+    #[inline(always)]
+    fn take_row<L: Line>(&mut self, room: &mut [u8], line: &L, state: &mut L::State) {
+        self.taker.take_row(room, line, state);
+    }
+
+    #[inline]
+    fn take_stop(&mut self) {
+        self.taker.take_stop();
+    }
+
+    fn flush(&mut self) -> Result<(), DeviceFault> {
+        self.taker.flush()
+    }
+}

@@ -13,7 +13,7 @@ ghost use Rattle.aig_trace.specs.Parts.Tracing.{HasTraced, Task, point_of};
 
 use crate::line_tracer::LineTracer;
 use crate::reader::StimulusReader;
-use crate::row_taker::RowTaker;
+use crate::row_taker::{Lent, RowTaker};
 use aig_checked::Checked;
 use aig_fault::{Kind, Stopped, refused_at};
 use aig_io::{Output, ROOM, Sink, Source};
@@ -165,7 +165,9 @@ pub fn simulate<R: Source, W: Sink>(
     ensures transferred { Transferred (TraceSays checked.now columns result)
         (R.history source.old) (R.history source.new) (W.history sink.old) (W.history sink.new) }
 {
-    let (traced, output) = simulate_into(alloc, checked, columns, source, Output::new(sink));
+    let mut output = Output::new(sink);
+    let (traced, lent) = simulate_into(alloc, checked, columns, source, Lent::new(&mut output));
+    let _output = lent.into_taker();
     let _sink = output.into_sink();
     traced
 }
