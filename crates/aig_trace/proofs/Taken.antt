@@ -1,12 +1,13 @@
 -- Texts that a taker takes one after another, and what an output comes to.
 use Rattle.std.proofs.Common.{◌≡◌, ◌++◌, ◌∙◌, ℕ, List, [], Bool, false, ap, append-nil, append_assoc, refl, subst, sym}
+use Rattle.std.specs.Borrow.{MutBor}
 use Rattle.aig_io.specs.Devices.{History}
 use Rattle.aig_io.specs.Output.{Appended, Out}
 use Rattle.aig_io.specs.Runs.{All, Beginning, Delivery, Ending, NotSent, Open, Sent, Transferred}
 use Rattle.aig_io.proofs.Puts.{all_sent, beginning_sent, put_nothing, put_twice}
 use Rattle.aig_io.proofs.Runs.{read_none, read_weaker}
 use Rattle.aig_io.proofs.Took.{took_none}
-use Rattle.aig_trace.specs.Taken.{Ran, Taken, Tells, Took, meant}
+use Rattle.aig_trace.specs.Taken.{Ran, Taken, Tells, Took, TookLent, meant}
 
 module _ {T : Type 0} {H : T → T → List ℕ → Type 0} where
   pub took_twice : (a b c : T) (s t : List ℕ) → Took H a b s → Took H b c t → Took H a c (s ++ t)
@@ -20,6 +21,36 @@ module _ {T : Type 0} {H : T → T → List ℕ → Type 0} where
 
   pub took_on : (a b c : T) (s : List ℕ) → Took H a b s → Took H b c [] → Took H a c s
   took_on a b c s p q = subst (Took H a c) (append-nil s) (took_twice a b c s [] p q)
+
+  -- what a lent taker takes is taken after what it had taken
+  pub lent_more : (a b : MutBor T) (text : List ℕ) → b.ghost_name ≡ a.ghost_name → Took H a.now b.now text
+      → Took (TookLent H) a b text
+  lent_more a b text same took = record {
+    more = λ from front has.
+        record { same = same ∙ has.same; took = took_twice from.now a.now b.now front text has.took took };
+  }
+
+  pub lent_took : (a b : MutBor T) (text : List ℕ) → Took (TookLent H) a b text → TookLent H a b text
+  lent_took a b text took = took.more a [] (record { same = refl; took = took_nothing a.now })
+
+  -- a lent taker is the same, and took what the lender took
+  pub same_lent : (Says : List ℕ → Ending → List ℕ → Delivery → Type 0) (source source_now : History) (a b : MutBor T)
+      (failed : Bool) → Ran (TookLent H) Says source source_now a b failed → b.ghost_name ≡ a.ghost_name
+  same_lent Says source source_now a b failed ran = (lent_took a b _ ran.says.took).same
+
+  pub ran_lent : (Says : List ℕ → Ending → List ℕ → Delivery → Type 0) (source source_now : History) (a b : MutBor T)
+      (failed : Bool) → Ran (TookLent H) Says source source_now a b failed
+      → Ran H Says source source_now a.now b.now failed
+  ran_lent Says source source_now a b failed =
+      read_weaker (λ bytes ending. Taken (TookLent H) (Says bytes ending) a b failed)
+      (λ bytes ending. Taken H (Says bytes ending) a.now b.now failed) source source_now
+      (λ bytes ending t. record {
+      text = t.text;
+      delivery = t.delivery;
+      says = t.says;
+      took = (lent_took a b _ t.took).took;
+      tells = t.tells;
+  })
 
   -- nothing came
   pub ran_none : (Says : List ℕ → Ending → List ℕ → Delivery → Type 0) (source : History) (a : T) (failed : Bool)

@@ -2,6 +2,7 @@
 ghost use Rattle.std.specs.Prelude.{◌≡◌, ◌≤◌, ℕ, List, Bool, [], codes, is_err, length};
 
 use aig_io::{DeviceFault, Line, Output, Sink};
+use std::marker::Model;
 
 /// What takes the lines of a trace. It remembers that it failed.
 pub trait RowTaker {
@@ -69,17 +70,25 @@ pub struct Lent<'t, T: RowTaker> {
     taker: &'t mut T,
 }
 
+impl<'t, T: RowTaker> Model for Lent<'t, T> {
+    ghost use Rattle.std.specs.Borrow.{MutBor};
+
+    ghost Value = { MutBor T };
+
+    ghost view = { λ l. l.taker };
+}
+
 impl<'t, T: RowTaker> Lent<'t, T> {
     /// It lends this taker.
     pub fn new(taker: &'t mut T) -> Self
-        ensures { result.taker ≡ taker.entry }
+        ensures { result ≡ taker.entry }
     {
         Lent { taker }
     }
 
     /// Gives the taker back.
     pub fn into_taker(self) -> &'t mut T
-        ensures { result ≡ self.taker }
+        ensures { result ≡ self.entry }
     {
         let Lent { taker } = self;
         taker
@@ -90,22 +99,25 @@ impl<'t, T: RowTaker> Lent<'t, T> {
 impl<'t, T: RowTaker> RowTaker for Lent<'t, T> {
     ghost use Rattle.aig_trace.specs.Taken.{TookLent};
 
-    ghost took = { λ a b text. TookLent T.took a.taker b.taker text };
+    ghost took = { TookLent T.took };
 
-    ghost failed = { λ l. T.failed l.taker.now };
+    ghost failed = { λ l. T.failed l.now };
 
-    ghost is_settled = { λ l. T.is_settled l.taker.now };
+    ghost is_settled = { λ l. T.is_settled l.now };
 
     #[inline(always)]
+    #[tactic(auto, using(crate::proofs::Taken::lent_more))]
     fn take_row<L: Line>(&mut self, room: &mut [u8], line: &L, state: &mut L::State) {
         self.taker.take_row(room, line, state);
     }
 
     #[inline]
+    #[tactic(auto, using(crate::proofs::Taken::lent_more))]
     fn take_stop(&mut self) {
         self.taker.take_stop();
     }
 
+    #[tactic(auto, using(crate::proofs::Taken::lent_more))]
     fn flush(&mut self) -> Result<(), DeviceFault> {
         self.taker.flush()
     }
