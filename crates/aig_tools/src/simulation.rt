@@ -8,7 +8,7 @@ ghost use Rattle.aig_commands.specs.Simulation.{task_of};
 ghost use Rattle.aig_tools.specs.SimulationOutcome.{OfSteps, TaskSays, without_verdict};
 
 use aig_command::Sim;
-use aig_commands::{Stopped, Task, judge, read_circuit, task_of};
+use aig_commands::{Stopped, Task, judge, read_source, task_of};
 use aig_core::{Checked, Keep, Sink, Source};
 use aig_dump::{read_and_dump, send_dump, write_dump, write_trace};
 use aig_step::Columns;
@@ -125,7 +125,7 @@ pub fn run_sim<M: Source, R: Source, W: Sink>(
         (R.history stimulus.old) (R.history stimulus.new) (W.history output.old)
         (W.history output.new) }
 {
-    let found = read_circuit(alloc, model, request.max_var, Keep::Order)?;
+    let found = read_source(alloc, model, request.max_var, Keep::Order)?;
     perform(alloc, task_of(request), found, stimulus, output)?;
     Ok(())
 }

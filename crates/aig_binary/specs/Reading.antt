@@ -4,7 +4,7 @@ use Rattle.aig_fault.specs.declared.fault.Fault.{Fault}
 use Rattle.aig_fault.specs.declared.stopped.Stopped.{Stopped}
 use Rattle.aig_fault.specs.declared.stopped.Stopped.TheVariants.{OutOfMemory, ReadFailed, Refused, WriteFailed}
 use Rattle.aig_io.specs.Runs.{AtEnd, Broken, Ending, IsUnbroken, Open}
-use Rattle.aig_commands.specs.File.{first_fault}
+use Rattle.aig_binary.specs.File.{first_fault}
 
 -- all came, and is refused with this fault
 abbrev pub AtItsEnd : (Fault → List ℕ → Type 0) → Fault → List ℕ → Ending → Type 0
