@@ -94,3 +94,8 @@ returns g c =
     c.if-first_word_is.false c.begin-reader.ensures.within c.begin-reader.ensures.on c.pass-2.ensures in
     source_read c.args.max_var c.check_read.result _ _ (all_came (AnswersFile c.args.max_var) c.check_read.result _ _
     (checked begin c.in_ok-circuit.circuit _ _ _ c.check_read.result first c.in_ok-circuit.ensures c.check_read.ensures))
+
+pub returns-then-not-more : goal.returns-then-not-more
+returns-then-not-more g c =
+    source_read c.args.max_var c.read_whole.result _ _
+    (c.read_whole.ensures (g.R.Source.history c.args.source.now) c.in_ok-first.ensures.ok)
