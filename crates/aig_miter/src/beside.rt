@@ -81,7 +81,13 @@ pub(crate) fn put_beside(
     let comparing = later.saturating_add(3 * ones.len());
     make_room(alloc, second, comparing, &mut first.gates)?;
     steps.add(3 * ones.len() as u64);
-    put_gates(alloc, first.inputs.as_slice(), second, &mut first.gates, steps)?;
+    put_gates(
+        alloc,
+        first.inputs.as_slice(),
+        second,
+        &mut first.gates,
+        steps,
+    )?;
     extend(alloc, &mut first.latches, second.latches.as_slice())?;
     first.bad = Listing::new(alloc);
     put_differences(

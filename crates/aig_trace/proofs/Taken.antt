@@ -45,12 +45,12 @@ module _ {T : Type 0} {H : T → T → List ℕ → Type 0} where
       read_weaker (λ bytes ending. Taken (TookLent H) (Says bytes ending) a b failed)
       (λ bytes ending. Taken H (Says bytes ending) a.now b.now failed) source source_now
       (λ bytes ending t. record {
-      text = t.text;
-      delivery = t.delivery;
-      says = t.says;
-      took = (lent_took a b _ t.took).took;
-      tells = t.tells;
-  })
+        text = t.text;
+        delivery = t.delivery;
+        says = t.says;
+        took = (lent_took a b _ t.took).took;
+        tells = t.tells;
+      })
 
   -- nothing came
   pub ran_none : (Says : List ℕ → Ending → List ℕ → Delivery → Type 0) (source : History) (a : T) (failed : Bool)
