@@ -1,13 +1,7 @@
 use Rattle.std.proofs.Common.{refl, rules}
 use Rattle.aig_trace.proofs.Ending.{cut_anywhere}
-use Rattle.aig_trace.proofs.Taken.{same_sink, transferred_as_ran}
+use Rattle.aig_trace.proofs.Taken.{ran_lent, same_lent, same_sink, transferred_as_ran}
 use Rattle.aig_trace.proofs.stream.simulate.Goals as goal
 
 pub returns : goal.returns
-returns g c =
-    let ran = c.simulate_into-traced in
-    let same = same_sink _ _ _ _ _ _ ran.ensures.ran in
-    record {
-      transferred = transferred_as_ran _ (cut_anywhere c.args.checked.now c.args.columns ran.result.0) _ _ _ _ _ _
-          c.new.ensures refl refl ran.ensures.sent (search rules) ran.ensures.ran;
-    }
+returns g c = ?
