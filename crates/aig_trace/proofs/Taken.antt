@@ -100,18 +100,22 @@ module _ {W : Type 0} (Says : List ℕ → Ending → List ℕ → Delivery → 
       sent_by bytes ending t.text t.delivery t.says (t.took.more o [] (put_nothing o)) t.tells)
 
 -- it goes to the same sink
-pub same_sink : {W : Type 0} (Says : List ℕ → Ending → List ℕ → Delivery → Type 0) (o b : Out W) (failed : Bool)
-    (source source_now : History) → Ran Appended Says source source_now o b failed → b.name ≡ o.name
-same_sink Says o b failed source source_now ran = (ran.says.took.more o [] (put_nothing o)).same
+pub same_sink : {W : Type 0} (Says : List ℕ → Ending → List ℕ → Delivery → Type 0) (a b : MutBor (Out W))
+    (failed : Bool) (source source_now : History) → Ran (TookLent Appended) Says source source_now a b failed
+    → b.now.name ≡ a.now.name
+same_sink Says a b failed source source_now ran =
+    ((lent_took a b _ ran.says.took).took.more a.now [] (put_nothing a.now)).same
 
--- an output was made, and took a text
+-- an output was made and lent, and took a text
 pub transferred_as_ran : {W : Type 0} (Says : List ℕ → Ending → List ℕ → Delivery → Type 0)
     (cut : (bytes : List ℕ) (ending : Ending) (text : List ℕ) (n m : ℕ) → Says bytes ending text (Beginning n)
-    → Says bytes ending text (Beginning m)) (new o b : Out W) (source source_now sink_now : History) → o ≡ new
-    → new.held ≡ [] → new.failed ≡ false → b.held ≡ [] → sink_now ≡ b.history
-    → Ran Appended Says source source_now o b b.failed → Transferred Says source source_now new.history sink_now
-transferred_as_ran {W} Says cut new o b source source_now sink_now made unheld fine empty now ran =
+    → Says bytes ending text (Beginning m)) (new : Out W) (a b : MutBor (Out W))
+    (source source_now sink_now : History) → a.now ≡ new → new.held ≡ [] → new.failed ≡ false → b.now.held ≡ []
+    → sink_now ≡ b.now.history → Ran (TookLent Appended) Says source source_now a b b.now.failed
+    → Transferred Says source source_now new.history sink_now
+transferred_as_ran {W} Says cut new a b source source_now sink_now made unheld fine empty now ran =
     rw now
-    (subst (λ (x : Out W). Transferred Says source source_now x.history b.history) made
-    (as_ran Says cut o b (ap (λ (x : Out W). x.held) made ∙ unheld) (ap (λ (x : Out W). x.failed) made ∙ fine) empty
-    source source_now ran))
+    (subst (λ (x : Out W). Transferred Says source source_now x.history b.now.history) made
+    (as_ran Says cut a.now b.now (ap (λ (x : Out W). x.held) made ∙ unheld)
+    (ap (λ (x : Out W). x.failed) made ∙ fine) empty source source_now
+    (ran_lent Says source source_now a b b.now.failed ran)))
