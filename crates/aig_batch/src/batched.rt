@@ -138,26 +138,29 @@ pub fn simulate_batched_into<R: Source, T: RowTaker>(
     checked: &Checked,
     columns: Columns,
     source: &mut R,
-    output: T,
-) -> (Result<(), Stopped>, T)
-    requires fine { T.failed output ≡ false }
-    requires sent { T.is_settled output }
-    ensures ran { Ran T.took (BatchSays checked.now columns result.0)
-        (R.history source.old) (R.history source.new) output result.1 (T.failed result.1) }
-    ensures sent { T.is_settled result.1 }
+    output: &mut T,
+) -> Result<(), Stopped>
+    requires fine { T.failed output.old ≡ false }
+    requires sent { T.is_settled output.old }
+    ensures ran { Ran T.took (BatchSays checked.now columns result)
+        (R.history source.old) (R.history source.new) output.old output.new
+        (T.failed output.new) }
+    ensures sent { T.is_settled output.new }
 {
     let Ok(reader) = StimulusReader::new(alloc, checked, columns) else {
-        return (Err(Stopped::OutOfMemory), output);
+        return Err(Stopped::OutOfMemory);
     };
     let bytes = match collect(alloc, checked, source) {
         Ok(bytes) => bytes,
         Err(fault) => {
             drop(reader); // for the proof
-            return (Err(fault), output);
+            return Err(fault);
         }
     };
-    let traced = trace_collected(alloc, checked, columns, reader, output, &bytes);
+    let lent = Lent::new(output);
+    let (traced, lent) = trace_collected(alloc, checked, columns, reader, lent, &bytes);
     drop(bytes); // for the proof
+    let _output = lent.into_taker();
     traced
 }
 
@@ -175,9 +178,7 @@ pub fn simulate_batched<R: Source, W: Sink>(
         (R.history source.old) (R.history source.new) (W.history sink.old) (W.history sink.new) }
 {
     let mut output = Output::new(sink);
-    let lent = Lent::new(&mut output);
-    let (traced, lent) = simulate_batched_into(alloc, checked, columns, source, lent);
-    let _output = lent.into_taker();
+    let traced = simulate_batched_into(alloc, checked, columns, source, &mut output);
     let _sink = output.into_sink();
     traced
 }

@@ -10,7 +10,7 @@ use aig_batch::{simulate_batched, simulate_batched_into};
 use aig_core::{Checked, Sink, Source};
 use aig_fault::Stopped;
 use aig_step::Columns;
-use aig_trace::{Lent, RowTaker, simulate, simulate_into};
+use aig_trace::{RowTaker, simulate, simulate_into};
 use aig_wave::{WaveMemory, WaveTaker};
 use std::alloc::Global;
 
@@ -44,12 +44,13 @@ fn trace_into<R: Source, T: RowTaker>(
     batch: bool,
     found: &Checked,
     stimulus: &mut R,
-    output: T,
-) -> (Result<(), Stopped>, T)
-    requires fine { T.failed output ≡ false }
-    requires sent { T.is_settled output }
-    ensures { Ran T.took (TraceSaysAs batch found.now Properties result.0)
-        (R.history stimulus.old) (R.history stimulus.new) output result.1 (T.failed result.1) }
+    output: &mut T,
+) -> Result<(), Stopped>
+    requires fine { T.failed output.old ≡ false }
+    requires sent { T.is_settled output.old }
+    ensures { Ran T.took (TraceSaysAs batch found.now Properties result)
+        (R.history stimulus.old) (R.history stimulus.new) output.old output.new
+        (T.failed output.new) }
 {
     if batch {
         simulate_batched_into(alloc, found, Columns::Properties, stimulus, output)
@@ -86,8 +87,7 @@ pub fn write_dump<R: Source, W: Sink>(
         return Err(Stopped::OutOfMemory);
     };
     let mut wave = WaveTaker::new(room, output);
-    let (ran, lent) = trace_into(alloc, batch, found, stimulus, Lent::new(&mut wave));
-    let _wave = lent.into_taker();
+    let ran = trace_into(alloc, batch, found, stimulus, &mut wave);
     let (sent, _output) = wave.finish(ran.is_ok());
     outcome_of_dump(ran, sent.is_err())
 }

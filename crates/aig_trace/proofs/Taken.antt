@@ -38,19 +38,21 @@ module _ {T : Type 0} {H : T → T → List ℕ → Type 0} where
       (failed : Bool) → Ran (TookLent H) Says source source_now a b failed → b.ghost_name ≡ a.ghost_name
   same_lent Says source source_now a b failed ran = (lent_took a b _ ran.says.took).same
 
-  pub ran_lent : (Says : List ℕ → Ending → List ℕ → Delivery → Type 0) (source source_now : History) (a b : MutBor T)
-      (failed : Bool) → Ran (TookLent H) Says source source_now a b failed
-      → Ran H Says source source_now a.now b.now failed
-  ran_lent Says source source_now a b failed =
-      read_weaker (λ bytes ending. Taken (TookLent H) (Says bytes ending) a b failed)
-      (λ bytes ending. Taken H (Says bytes ending) a.now b.now failed) source source_now
+  pub ran_lent : (failed : T → Bool) (Says : List ℕ → Ending → List ℕ → Delivery → Type 0)
+      (source source_now : History) (a b r : MutBor T) (old new : T) → a.now ≡ old → r ≡ b → new ≡ r.now
+      → Ran (TookLent H) Says source source_now a b (failed b.now)
+      → Ran H Says source source_now old new (failed new)
+  ran_lent failed Says source source_now a b r old new before given back ran =
+      rw (← before, back, given)
+      (read_weaker (λ bytes ending. Taken (TookLent H) (Says bytes ending) a b (failed b.now))
+      (λ bytes ending. Taken H (Says bytes ending) a.now b.now (failed b.now)) source source_now
       (λ bytes ending t. record {
         text = t.text;
         delivery = t.delivery;
         says = t.says;
         took = (lent_took a b _ t.took).took;
         tells = t.tells;
-      })
+      }) ran)
 
   -- nothing came
   pub ran_none : (Says : List ℕ → Ending → List ℕ → Delivery → Type 0) (source : History) (a : T) (failed : Bool)
@@ -100,22 +102,18 @@ module _ {W : Type 0} (Says : List ℕ → Ending → List ℕ → Delivery → 
       sent_by bytes ending t.text t.delivery t.says (t.took.more o [] (put_nothing o)) t.tells)
 
 -- it goes to the same sink
-pub same_sink : {W : Type 0} (Says : List ℕ → Ending → List ℕ → Delivery → Type 0) (a b : MutBor (Out W))
-    (failed : Bool) (source source_now : History) → Ran (TookLent Appended) Says source source_now a b failed
-    → b.now.name ≡ a.now.name
-same_sink Says a b failed source source_now ran =
-    ((lent_took a b _ ran.says.took).took.more a.now [] (put_nothing a.now)).same
+pub same_sink : {W : Type 0} (Says : List ℕ → Ending → List ℕ → Delivery → Type 0) (o b : Out W) (failed : Bool)
+    (source source_now : History) → Ran Appended Says source source_now o b failed → b.name ≡ o.name
+same_sink Says o b failed source source_now ran = (ran.says.took.more o [] (put_nothing o)).same
 
--- an output was made and lent, and took a text
+-- an output was made, and took a text
 pub transferred_as_ran : {W : Type 0} (Says : List ℕ → Ending → List ℕ → Delivery → Type 0)
     (cut : (bytes : List ℕ) (ending : Ending) (text : List ℕ) (n m : ℕ) → Says bytes ending text (Beginning n)
-    → Says bytes ending text (Beginning m)) (new : Out W) (a b : MutBor (Out W))
-    (source source_now sink_now : History) → a.now ≡ new → new.held ≡ [] → new.failed ≡ false → b.now.held ≡ []
-    → sink_now ≡ b.now.history → Ran (TookLent Appended) Says source source_now a b b.now.failed
-    → Transferred Says source source_now new.history sink_now
-transferred_as_ran {W} Says cut new a b source source_now sink_now made unheld fine empty now ran =
+    → Says bytes ending text (Beginning m)) (new o b : Out W) (source source_now sink_now : History) → o ≡ new
+    → new.held ≡ [] → new.failed ≡ false → b.held ≡ [] → sink_now ≡ b.history
+    → Ran Appended Says source source_now o b b.failed → Transferred Says source source_now new.history sink_now
+transferred_as_ran {W} Says cut new o b source source_now sink_now made unheld fine empty now ran =
     rw now
-    (subst (λ (x : Out W). Transferred Says source source_now x.history b.now.history) made
-    (as_ran Says cut a.now b.now (ap (λ (x : Out W). x.held) made ∙ unheld)
-    (ap (λ (x : Out W). x.failed) made ∙ fine) empty source source_now
-    (ran_lent Says source source_now a b b.now.failed ran)))
+    (subst (λ (x : Out W). Transferred Says source source_now x.history b.history) made
+    (as_ran Says cut o b (ap (λ (x : Out W). x.held) made ∙ unheld) (ap (λ (x : Out W). x.failed) made ∙ fine) empty
+    source source_now ran))

@@ -131,26 +131,28 @@ pub fn simulate_into<R: Source, T: RowTaker>(
     checked: &Checked,
     columns: Columns,
     source: &mut R,
-    output: T,
-) -> (Result<(), Stopped>, T)
-    requires fine { T.failed output ≡ false }
-    requires sent { T.is_settled output }
-    ensures ran { Ran T.took (TraceSays checked.now columns result.0)
-        (R.history source.old) (R.history source.new) output result.1 (T.failed result.1) }
-    ensures sent { T.is_settled result.1 }
+    output: &mut T,
+) -> Result<(), Stopped>
+    requires fine { T.failed output.old ≡ false }
+    requires sent { T.is_settled output.old }
+    ensures ran { Ran T.took (TraceSays checked.now columns result)
+        (R.history source.old) (R.history source.new) output.old output.new
+        (T.failed output.new) }
+    ensures sent { T.is_settled output.new }
 {
     let Ok(mut block) = vec![in alloc; 0; block_room(checked)] else {
-        return (Err(Stopped::OutOfMemory), output);
+        return Err(Stopped::OutOfMemory);
     };
     let Ok(reader) = StimulusReader::new(alloc, checked, columns) else {
         drop(block); // for the proof
-        return (Err(Stopped::OutOfMemory), output);
+        return Err(Stopped::OutOfMemory);
     };
-    let (mut feeder, mut lines) = reader.into_line_tracer(output);
+    let (mut feeder, mut lines) = reader.into_line_tracer(Lent::new(output));
     let traced = trace_all(&mut feeder, &mut lines, &mut block, source);
     drop(block); // for the proof
     drop(feeder); // for the proof
-    (traced, lines.into_output())
+    let _output = lines.into_output().into_taker();
+    traced
 }
 
 /// Simulates a circuit over a stimulus text, and writes the trace text, as `simulate_into` says.
@@ -166,8 +168,7 @@ pub fn simulate<R: Source, W: Sink>(
         (R.history source.old) (R.history source.new) (W.history sink.old) (W.history sink.new) }
 {
     let mut output = Output::new(sink);
-    let (traced, lent) = simulate_into(alloc, checked, columns, source, Lent::new(&mut output));
-    let _output = lent.into_taker();
+    let traced = simulate_into(alloc, checked, columns, source, &mut output);
     let _sink = output.into_sink();
     traced
 }

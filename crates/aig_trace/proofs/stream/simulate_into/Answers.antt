@@ -1,5 +1,9 @@
+use Rattle.std.proofs.Common.{ap, rules, subst, sym, ◌∙◌}
+use Rattle.std.specs.Borrow.{MutBor}
 use Rattle.aig_io.proofs.Runs.{read_weaker}
+use Rattle.aig_step.specs.Outcome.{TraceSays}
 use Rattle.aig_trace.proofs.Ending.{trace_says_too}
+use Rattle.aig_trace.proofs.Taken.{ran_lent, same_lent}
 use Rattle.aig_trace.proofs.stream.simulate_into.Goals as goal
 
 -- what is said of the circuit that is run holds of the one that was given
@@ -7,7 +11,10 @@ pub returns-clause-ran : goal.returns-clause-ran
 returns-clause-ran g c =
     let ends = rw (c.into_line_tracer-feeder.ensures.lines, c.in-Ok-new.ensures.columns)
     at c.trace_all-traced.ensures.ran in
-    rw c.into_output.ensures
+    let same = same_lent _ _ _ _ _ _ ends in
+    ran_lent g.T.RowTaker.failed (TraceSays c.args.checked.now c.args.columns c.trace_all-traced.result) _ _
+    c.new-2.result c.trace_all-traced.new.lines.output c.into_output.result _ _
+    (ap (λ (b : MutBor g.row.T.Denot). b.now) c.new-2.ensures) c.into_output.ensures (search rules)
     (read_weaker _ _ _ _ (λ bytes ending t. record {
       text = t.text;
       delivery = t.delivery;
@@ -16,3 +23,11 @@ returns-clause-ran g c =
       took = t.took;
       tells = t.tells;
     }) ends)
+
+pub returns-clause-sent : goal.returns-clause-sent
+returns-clause-sent g c =
+    let ends = rw (c.into_line_tracer-feeder.ensures.lines, c.in-Ok-new.ensures.columns)
+    at c.trace_all-traced.ensures.ran in
+    let same = same_lent _ _ _ _ _ _ ends in
+    subst g.T.RowTaker.is_settled (ap (λ (b : MutBor g.row.T.Denot). b.now) (sym c.into_output.ensures) ∙ search rules)
+    c.trace_all-traced.ensures.sent
