@@ -1,17 +1,25 @@
 -- A value that is read at once is read as it is byte by byte.
 use mir.Val.{bool_byte}
-use Rattle.std.proofs.Common.{◌≡◌, ◌<◌, ◌^◌, ◌++◌, ◌∙◌, ℕ, List, [], ◌∷◌, Bool, true, false, Some}
-use Rattle.std.proofs.Common.{ap, append_assoc, arith, codes, decimal, drop, eqb-true, fold, if◌then◌else◌, length}
-use Rattle.std.proofs.Common.{length-append, sym, true≢false}
+use Rattle.std.proofs.Common.{◌≡◌, ◌==◌, ◌+◌, ◌<◌, ◌≤◌, ◌^◌, ◌++◌, ◌∙◌, ◌⊎◌, ℕ, suc, List, [], ◌∷◌, Bool, true, false, Option, Some}
+use Rattle.std.proofs.Common.{ap, append_assoc, arith, codes, decimal, drop, eqb-true, fold, if◌then◌else◌, inl, inr}
+use Rattle.std.proofs.Common.{length, length-append, refl, subst, sym, true≢false}
+use Rattle.std.specs.List.{position_or_len}
 use Rattle.aig_rows.specs.CanonicalNumber.{canonical_before}
 use Rattle.aig_rows.proofs.Canonical.{canonical_reads}
 use Rattle.aig_answer.specs.declared.reader.Reader.{Reader}
 use Rattle.aig_answer.specs.declared.reader.Signed.{Signed}
+use Rattle.aig_answer.specs.declared.reader.Spot.{Spot}
 use Rattle.aig_answer.specs.declared.reader.Spot.TheVariants as spots
-use Rattle.aig_answer.specs.Answer.{SoFar, after, on_next_line, so_far, with_value}
+use Rattle.aig_answer.specs.declared.reader.Status.{Status}
+use Rattle.aig_answer.specs.Answer.{SoFar, after, on_next_line, so_far, standing_at, with_value}
 use Rattle.aig_answer.specs.AnswerText.{IsValue, value_text}
-use Rattle.aig_answer.specs.Parts.{BeginsWithValue, awaiting, begins_with_minus}
-use Rattle.aig_answer.proofs.Answers.{number_goes, on, signed_read, within}
+use Rattle.aig_answer.specs.Parts.{awaiting, begins_with_minus, behind_value}
+use Rattle.aig_answer.proofs.Answers.{at, number_goes, on, signed_read, within}
+
+-- after a space, the bytes go on with this value, and then these
+pub record BeginsWithValue (bytes : List ℕ) (value : Signed) (rest : List ℕ) : Type 0 where
+  pub is_value : IsValue value
+  pub spelled : codes " " ++ bytes ≡ value_text value ++ rest
 
 abbrev sign : Bool → List ℕ
 sign is_negative = if is_negative then codes "-" else []
@@ -39,10 +47,12 @@ begins_with_value bytes digits rest value stop minus behind read is = record {
 }
 
 -- what follows it is shorter
-pub value_shortens : (bytes rest : List ℕ) (value : Signed) (stop : ℕ) → BeginsWithValue bytes value (stop ∷ rest)
-    → length rest < length bytes
-value_shortens bytes rest value stop b =
-    let same : length (codes " " ++ bytes) ≡ length (value_text value ++ (stop ∷ rest)) = ap length b.spelled in
+pub number_shortens : (digits rest : List ℕ) (number stop : ℕ) → number ≤ 2147483647
+    → canonical_before stop digits ≡ Some (number, rest) → length rest < length digits
+number_shortens digits rest number stop few read =
+    let fits : number < 2 ^ 33 = omega (arith, few) in
+    let same : length digits ≡ length (decimal number ++ stop ∷ rest) =
+    ap length (canonical_reads number stop digits rest fits read) in
     omega (arith, simp length-append at same)
 
 module _ (line : ℕ) (bits bytes rest : List ℕ) (value : Signed) where
@@ -71,20 +81,46 @@ module _ (line : ℕ) (bits bytes rest : List ℕ) (value : Signed) where
   before_feed b =
       value_read 10 b ∙ ap (λ (s : SoFar). fold after s rest) (number_goes line bits value b.is_value).feed
 
--- the value is put, and a number may begin again
-pub value_then_space : (r : Reader) (bits bytes rest : List ℕ) (value : Signed) → r ≡ awaiting r.line
-    → BeginsWithValue bytes value (32 ∷ rest)
-    → fold after (so_far r bits) bytes ≡ fold after (so_far r (with_value bits value)) rest
-value_then_space r bits bytes rest value is b =
-    ap (λ (q : Reader). fold after (so_far q bits) bytes) is
-    ∙ before_space r.line bits bytes rest value b
-    ∙ ap (λ (q : Reader). fold after (so_far q (with_value bits value)) rest) (sym is)
+  -- the value is put, and what is behind it goes on
+  pub behind_value_is : (stop : ℕ) → (stop ≡ 32) ⊎ (stop ≡ 10) → BeginsWithValue bytes value (stop ∷ rest)
+      → (r : Reader) → standing_at r spots.Space ≡ awaiting line
+      → fold after (so_far (awaiting line) bits) bytes
+      ≡ fold after (so_far (behind_value r stop) (with_value bits value)) rest
+  behind_value_is stop (inl is) b r at =
+      let b = rw is at b in
+      rw is (before_space b ∙ ap (λ (q : Reader). fold after (so_far q (with_value bits value)) rest) (sym at))
+  behind_value_is stop (inr is) b r at =
+      let b = rw is at b in
+      rw is (before_feed b ∙ ap (λ (q : Reader). fold after (so_far (on_next_line q) (with_value bits value)) rest) (sym at))
 
--- the value is put, and the next line begins
-pub value_then_feed : (r : Reader) (bits bytes rest : List ℕ) (value : Signed) → r ≡ awaiting r.line
-    → BeginsWithValue bytes value (10 ∷ rest)
-    → fold after (so_far r bits) bytes ≡ fold after (so_far (on_next_line r) (with_value bits value)) rest
-value_then_feed r bits bytes rest value is b =
-    ap (λ (q : Reader). fold after (so_far q bits) bytes) is
-    ∙ before_feed r.line bits bytes rest value b
-    ∙ ap (λ (q : Reader). fold after (so_far (on_next_line q) (with_value bits value)) rest) (sym is)
+-- a comment goes on to its line feed
+module _ (status : Option Status) (ended : Bool) (bits : List ℕ) (line : ℕ) where
+  abbrev in_comment : SoFar
+  in_comment = at spots.Comment status ended line bits
+
+  comment_passed : (bytes : List ℕ)
+      → fold after in_comment bytes ≡ fold after in_comment (drop (position_or_len (λ b. b == 10) bytes) bytes)
+  comment_passed [] = refl
+  comment_passed (b ∷ bs) =
+      elim (b == 10) as
+      (λ d. (b == 10) ≡ d → fold after in_comment (b ∷ bs)
+      ≡ fold after in_comment (drop (position_or_len (λ c. c == 10) (b ∷ bs)) (b ∷ bs))) [
+        | true ↦ λ is.
+            let none : position_or_len (λ c. c == 10) (b ∷ bs) ≡ 0 = rw is refl in
+            ap (λ (n : ℕ). fold after in_comment (drop n (b ∷ bs))) (sym none)
+        | false ↦ λ is.
+            let more = position_or_len (λ c. c == 10) bs in
+            let same : drop (1 + more) (b ∷ bs) ≡ drop more bs =
+            let one : 1 + more ≡ suc more = omega arith in
+            rw one refl in
+            rw (is, same) (comment_passed bs)
+      ] refl
+
+pub comment_is_passed : (r : Reader) (bits bytes : List ℕ) → r.spot ≡ spots.Comment
+    → fold after (so_far r bits) bytes
+    ≡ fold after (so_far r bits) (drop (position_or_len (λ b. b == 10) bytes) bytes)
+comment_is_passed r bits bytes is =
+    subst
+    (λ (spot : Spot). fold after (at spot r.status r.ended r.line bits) bytes
+    ≡ fold after (at spot r.status r.ended r.line bits) (drop (position_or_len (λ b. b == 10) bytes) bytes))
+    (sym is) (comment_passed r.status r.ended bits r.line bytes)

@@ -1,11 +1,10 @@
 //! Where each byte of an answer leads.
-ghost use Rattle.std.specs.Prelude.{◌≡◌, ◌^◌, ◌<◌, IfErr, IfOk, IsTrue, Err, Ok, true};
+ghost use Rattle.std.specs.Prelude.{◌≡◌, ◌^◌, ◌<◌, IfErr, IfOk, Err, Ok, true};
 ghost use Rattle.aig_answer.specs.Answer.{answer_of, awaits_values, begun, behind_line, closed};
 ghost use Rattle.aig_answer.specs.Answer.{ended_by, ends_line, goes_on, in_comment, in_line_start};
 ghost use Rattle.aig_answer.specs.Answer.{in_minus, in_number, in_return, in_space, in_values};
 ghost use Rattle.aig_answer.specs.Answer.{in_word, is_digit, more_digits, next, on_next_line};
 ghost use Rattle.aig_answer.specs.Answer.{signed_by, standing_at, status_text};
-ghost use Rattle.aig_answer.specs.Parts.{awaiting};
 
 use aig_fault::{Fault, Kind, Place};
 
@@ -166,18 +165,10 @@ impl Reader {
         }
     }
 
-    fn awaits_values(self) -> bool
+    pub(crate) fn awaits_values(self) -> bool
         ensures { result ≡ awaits_values self }
     {
         matches!(self.status, Some(Status::Satisfiable)) && !self.ended
-    }
-
-    /// Whether a number may come here as a value, or as the 0 at the end.
-    #[inline(always)]
-    pub(crate) fn awaits_number(self) -> bool
-        ensures { IsTrue result → self ≡ awaiting self.line }
-    {
-        matches!(self.spot, Spot::Space) && self.awaits_values()
     }
 
     fn in_line_start(self, byte: u8) -> Reader

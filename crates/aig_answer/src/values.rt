@@ -1,9 +1,11 @@
 //! The values of variables.
-ghost use Rattle.std.specs.Prelude.{◌≡◌, ◌∷◌, ◌⊎◌, IfSome, fold};
-ghost use Rattle.aig_answer.specs.Answer.{after, so_far, with_value};
-ghost use Rattle.aig_answer.specs.Parts.{BeginsWithValue, awaiting, begins_with_minus};
+ghost use Rattle.std.specs.Prelude.{◌≡◌, ◌==◌, ◌<◌, ◌≤◌, ◌⊎◌, ℕ, List, IfSome, fold, length};
+ghost use Rattle.std.specs.List.{position_or_len};
+ghost use Rattle.aig_answer.specs.declared.reader.Spot.TheVariants.{Space};
+ghost use Rattle.aig_answer.specs.Answer.{after, so_far, standing_at, with_value};
+ghost use Rattle.aig_answer.specs.Parts.{awaiting, begins_with_minus, behind_value};
 
-use crate::reader::{LARGEST_NUMBER, Reader, Signed};
+use crate::reader::{LARGEST_NUMBER, Reader, Signed, Spot};
 use aig_rows::canonical_number;
 
 /// Nothing is put for a variable that has no place.
@@ -50,15 +52,37 @@ fn likely_stop(bytes: &[u8]) -> u8
     }
 }
 
-/// The value at the front, spelled as solvers do, the space or line feed behind it, and what
-/// follows that.
+/// What is left from the next number on, if one is due: after a space, or first in a line.
 #[inline(always)]
-fn front_value(bytes: &[u8]) -> Option<(Signed, u8, &[u8])>
-    ensures value { IfSome result (λ x. BeginsWithValue bytes.now x.0 (x.1 ∷ x.2.now)) }
-    ensures stop { IfSome result (λ x. (x.1 ≡ 32) ⊎ (x.1 ≡ 10)) }
+fn due_number(reader: Reader, bytes: &[u8]) -> Option<&[u8]>
+    ensures due { (bits : List ℕ) → IfSome result (λ number.
+        fold after (so_far reader bits) bytes.now
+        ≡ fold after (so_far (awaiting reader.line) bits) number.now) }
+    ensures awaiting { IfSome result (λ _. standing_at reader Space ≡ awaiting reader.line) }
+    ensures within { IfSome result (λ number. length number.now ≤ length bytes.now) }
 {
-    let is_negative = begins_with_minus(bytes);
-    let (_, digits) = bytes.split_at(usize::from(is_negative));
+    if !reader.awaits_values() {
+        return None;
+    }
+    match (reader.spot, bytes) {
+        (Spot::Space, _) => Some(bytes),
+        (Spot::LineStart, [b'v', b' ', number @ ..]) => Some(number),
+        _ => None,
+    }
+}
+
+/// The next value, the space or line feed behind it, and what follows that; if a number is due and
+/// is spelled as solvers do.
+#[inline(always)]
+fn due_value(reader: Reader, bytes: &[u8]) -> Option<(Signed, u8, &[u8])>
+    ensures read { (bits : List ℕ) → IfSome result (λ x.
+        fold after (so_far reader bits) bytes.now
+        ≡ fold after (so_far (behind_value reader x.1) (with_value bits x.0)) x.2.now) }
+    ensures shorter { IfSome result (λ x. length x.2.now < length bytes.now) }
+{
+    let text = due_number(reader, bytes)?;
+    let is_negative = begins_with_minus(text);
+    let (_, digits) = text.split_at(usize::from(is_negative));
     let stop = likely_stop(digits);
     let (number, rest) = canonical_number(digits, stop)?;
     if number == 0 || number > LARGEST_NUMBER {
@@ -72,18 +96,25 @@ fn front_value(bytes: &[u8]) -> Option<(Signed, u8, &[u8])>
     Some((value, stop, rest))
 }
 
-/// The value at the front, the byte behind it and what follows that, where a number is due.
-#[inline(always)]
-fn due_value(reader: Reader, bytes: &[u8]) -> Option<(Signed, u8, &[u8])>
-    ensures due { IfSome result (λ x. reader ≡ awaiting reader.line) }
-    ensures value { IfSome result (λ x. BeginsWithValue bytes.now x.0 (x.1 ∷ x.2.now)) }
-    ensures stop { IfSome result (λ x. (x.1 ≡ 32) ⊎ (x.1 ≡ 10)) }
+/// How many bytes stand before the first line feed.
+fn line_length(bytes: &[u8]) -> usize
+    ensures value { result ≡ position_or_len (λ byte. byte == 10) bytes.now }
+    ensures within { result ≤ length bytes.now }
 {
-    if reader.awaits_number() {
-        front_value(bytes)
-    } else {
-        None
+    bytes.iter().take_while(|byte| **byte != b'\n').count()
+}
+
+/// What follows the rest of a comment, up to its line feed, if the bytes stand in one.
+fn behind_comment(reader: Reader, bytes: &[u8]) -> &[u8]
+    ensures read { (bits : List ℕ) → fold after (so_far reader bits) bytes.now
+        ≡ fold after (so_far reader bits) result.now }
+    ensures within { length result.now ≤ length bytes.now }
+{
+    if let Spot::Comment = reader.spot {
+        let (_, rest) = bytes.split_at(line_length(bytes));
+        return rest;
     }
+    bytes
 }
 
 /// Reads one byte.
@@ -110,12 +141,14 @@ pub fn read_values(reader: Reader, bits: &mut [u8], bytes: &[u8]) -> Reader
                 put_value(bits, value);
                 if stop == b'\n' {
                     reader = reader.on_next_line();
+                } else {
+                    reader.spot = Spot::Space;
                 }
                 rest = after;
             }
             None => {
                 reader = read_byte(reader, bits, *byte);
-                rest = behind;
+                rest = behind_comment(reader, behind);
             }
         }
     }
