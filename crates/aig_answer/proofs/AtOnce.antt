@@ -1,6 +1,7 @@
 -- A value that is read at once is read as it is byte by byte.
 use mir.Val.{bool_byte}
-use Rattle.std.proofs.Common.{◌≡◌, ◌==◌, ◌+◌, ◌<◌, ◌≤◌, ◌^◌, ◌++◌, ◌∙◌, ◌⊎◌, ℕ, suc, List, [], ◌∷◌, Bool, true, false, Option, Some}
+use Rattle.std.proofs.Common.{◌≡◌, ◌==◌, ◌+◌, ◌<◌, ◌≤◌, ◌^◌, ◌++◌, ◌∙◌, ◌⊎◌, ℕ, suc, List, [], ◌∷◌, Bool, true, false}
+use Rattle.std.proofs.Common.{Option, Some}
 use Rattle.std.proofs.Common.{ap, append_assoc, arith, codes, decimal, drop, eqb-true, fold, if◌then◌else◌, inl, inr}
 use Rattle.std.proofs.Common.{length, length-append, refl, subst, sym, true≢false}
 use Rattle.std.specs.List.{position_or_len}
@@ -91,7 +92,8 @@ module _ (line : ℕ) (bits bytes rest : List ℕ) (value : Signed) where
       rw is (before_space b ∙ ap (λ (q : Reader). fold after (so_far q (with_value bits value)) rest) (sym at))
   behind_value_is stop (inr is) b r at =
       let b = rw is at b in
-      rw is (before_feed b ∙ ap (λ (q : Reader). fold after (so_far (on_next_line q) (with_value bits value)) rest) (sym at))
+      let after_line = λ (q : Reader). fold after (so_far (on_next_line q) (with_value bits value)) rest in
+      rw is (before_feed b ∙ ap after_line (sym at))
 
 -- a comment goes on to its line feed
 module _ (status : Option Status) (ended : Bool) (bits : List ℕ) (line : ℕ) where
