@@ -17,6 +17,7 @@ mod kernel;
 mod propagation;
 mod reader;
 mod reading;
+mod store;
 mod words;
 
 pub use crate::checker::Checker;

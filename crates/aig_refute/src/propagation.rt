@@ -51,6 +51,24 @@ impl Propagation {
         })
     }
 
+    /// No clause is watched by one more literal.
+    fn add_room(&mut self) -> Result<(), AllocError>
+        ensures { self.new.kernel ≡ self.old.kernel }
+    {
+        self.watches.push(Vec::new(self.alloc))?;
+        Ok(())
+    }
+
+    /// There is room for the literals below this one.
+    pub(crate) fn make_room(&mut self, literals: usize) -> Result<(), AllocError>
+        ensures { Grows self.old.kernel self.new.kernel }
+    {
+        for _literal in self.watches.len()..literals {
+            self.add_room()?;
+        }
+        self.kernel.make_room(literals)
+    }
+
     /// A literal watches a clause from now on.
     #[inline(always)]
     pub(crate) fn watch(
@@ -190,7 +208,7 @@ impl Propagation {
     /// Forgets all but the first so many literals.
     pub(crate) fn forget(&mut self, base: usize)
         requires { base ≤ length self.old.kernel.trail.items }
-        ensures words { self.new.kernel.words ≡ self.old.kernel.words }
+        ensures store { self.new.kernel.store ≡ self.old.kernel.store }
         ensures refuted { self.new.kernel.refuted ≡ self.old.kernel.refuted }
         ensures extends { Extends self.new.kernel.trail.items self.old.kernel.trail.items }
         ensures len { length self.new.kernel.trail.items ≡ base }
