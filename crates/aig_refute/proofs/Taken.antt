@@ -11,6 +11,7 @@ use Rattle.aig_io.proofs.Took.{took_none, took_twice}
 use Rattle.aig_refute.specs.Agree.{Agrees}
 use Rattle.aig_refute.specs.Refuted.{EndsFor, IsLineFault, Keeps, ReadingSays}
 use Rattle.aig_refute.specs.declared.checker.Checker.{Checker}
+use Rattle.aig_refute.proofs.Kept.{keeps_both, keeps_same}
 
 -- so many bytes came, and each assignment that agreed at first has one that agrees now
 pub record HasFollowed (source source_now : History) (old new : Checker) : Type 0 where
@@ -19,7 +20,7 @@ pub record HasFollowed (source source_now : History) (old new : Checker) : Type 
   pub keeps : Keeps old new
 
 pub has_followed_none : (source : History) (checker : Checker) → HasFollowed source source checker checker
-has_followed_none source checker = record { bytes = []; history = took_none source; keeps = λ a agrees. (a, agrees) }
+has_followed_none source checker = record { bytes = []; history = took_none source; keeps = keeps_same checker }
 
 ends_for : (stopped : Stopped) (ending : Ending) → StopsFor IsLineFault stopped → IsUnbroken ending
     → EndsFor stopped ending
@@ -41,7 +42,7 @@ module _ (a b : History) (old now : Checker) (so : HasFollowed a b old now) wher
     refuted_last none = record {
       bytes = so.bytes;
       ending = AtEnd;
-      says = (refl, λ x agrees. none (so.keeps x agrees).0 (so.keeps x agrees).1);
+      says = (refl, λ x agrees. let last = so.keeps.admits x agrees in none last.0 last.1);
       came = is ∙ ap at_end so.history;
     }
 

@@ -21,8 +21,8 @@ abbrev pub CanExtend : List ℕ → Checker → Type 0
 CanExtend clause checker = (b : ℕ → Bool) × (Admits checker b) × (HasTrue b clause)
 
 -- each assignment that was admitted has one that is admitted now
-abbrev pub Keeps : Checker → Checker → Type 0
-Keeps old new = (a : ℕ → Bool) → Admits old a → (b : ℕ → Bool) × (Admits new b)
+pub record Keeps (old new : Checker) : Type 0 where
+  pub admits : (a : ℕ → Bool) → Admits old a → (b : ℕ → Bool) × (Admits new b)
 
 -- this is wrong with a line
 abbrev pub IsLineFault : Fault → Type 0

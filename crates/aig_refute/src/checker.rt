@@ -183,10 +183,10 @@ impl Checker {
         ensures extends { IfOk result (λ yes. yes ≡ true → (a : ℕ → Bool)
             → Admits self.old a → CanExtend clause.now self.new) }
     {
-        match clause.first() {
-            Some(pivot) => self.can_make_true(clause, *pivot),
-            None => Ok(false),
+        if clause.is_empty() {
+            return Ok(false);
         }
+        self.can_make_true(clause, clause[0])
     }
 
     /// There is room for the literals of a clause.
@@ -261,6 +261,7 @@ impl Checker {
     }
 
     /// Does what a line says.
+    #[tactic(auto, using(crate::proofs::Kept::keeps_all, crate::proofs::Kept::keeps_same))]
     fn follow_line(&mut self, reader: &RefutationReader, end: LineEnd) -> Result<(), Stopped>
         ensures keeps { OnOk result (Keeps self.old self.new) }
         ensures err { IfErr result (StopsFor IsLineFault) }
@@ -284,6 +285,7 @@ impl Checker {
 
     /// Follows a piece of a refutation, until the clauses are refuted or a line is wrong. What
     /// comes once they are is not looked at.
+    #[tactic(auto, using(crate::proofs::Kept::keeps_both, crate::proofs::Kept::keeps_same))]
     pub fn follow(&mut self, reader: &mut RefutationReader, piece: &[u8]) -> Result<(), Stopped>
         ensures keeps { OnOk result (Keeps self.old self.new) }
         ensures err { IfErr result (StopsFor IsLineFault) }

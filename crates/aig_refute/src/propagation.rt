@@ -60,6 +60,7 @@ impl Propagation {
     }
 
     /// There is room for the literals below this one.
+    #[tactic(auto, using(crate::proofs::Later::grows_both, crate::proofs::Later::grows_same))]
     pub(crate) fn make_room(&mut self, literals: usize) -> Result<(), AllocError>
         ensures { Grows self.old.kernel self.new.kernel }
     {
