@@ -170,7 +170,10 @@ impl Checker {
     {
         let alloc = self.alloc;
         match self.propagation.kernel.resolvents(alloc, clause, pivot)? {
-            Some(joined) => self.follow_all(&joined),
+            Some(joined) => {
+                let do_follow = self.follow_all(&joined)?;
+                Ok(do_follow)
+            }
             None => Ok(false),
         }
     }
@@ -186,7 +189,8 @@ impl Checker {
         if clause.is_empty() {
             return Ok(false);
         }
-        self.can_make_true(clause, clause[0])
+        let can_extend = self.can_make_true(clause, clause[0])?;
+        Ok(can_extend)
     }
 
     /// There is room for the literals of a clause.
