@@ -1,4 +1,4 @@
-use Rattle.std.proofs.Common.{◌≡◌, ◌∙◌, Ok, Some, ap}
+use Rattle.std.proofs.Common.{◌≡◌, Ok, Some}
 use Rattle.aig_refute.specs.Extended.{made_true}
 use Rattle.aig_refute.proofs.checker.Checker.can_make_true.Goals as goal
 
