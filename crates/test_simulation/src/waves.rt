@@ -34,8 +34,8 @@ fn is_dumped(alloc: Global, circuit: &Checked, dump: &[u8]) -> Option<bool> {
     let mut source = MemorySource::new(Vec::from_slice(alloc, b"\n\n").ok()?, 1, 0);
     let mut sink = MemorySink::new(alloc, 4096, 3, 0).ok()?;
     let room = WaveMemory::new(alloc, circuit).ok()?;
-    let wave = WaveTaker::new(room, &mut sink);
-    let (ran, wave) = simulate_into(alloc, circuit, Columns::Properties, &mut source, wave);
+    let mut wave = WaveTaker::new(room, &mut sink);
+    let ran = simulate_into(alloc, circuit, Columns::Properties, &mut source, &mut wave);
     let (sent, sink) = wave.finish(ran.is_ok());
     Some(ran.is_ok() && sent.is_ok() && sink.bytes() == dump)
 }
