@@ -10,7 +10,7 @@ returns-clause-ok c =
     whole c.args.model.now _ c.gives_its_bytes.ensures
     (λ (found : Circuit) (bytes : List ℕ). IsFileOf bytes c.args.max_var found)
     (AtItsEnd (IsUnreadable c.args.max_var)) c.read_source-read.result
-    (rw c.in_ok-source.ensures at c.read_source-read.ensures.read)
+    (rw c.in_ok-source.ensures at c.read_source-read.ensures)
 
 pub returns-clause-err : goal.returns-clause-err
 returns-clause-err c =
@@ -19,4 +19,4 @@ returns-clause-err c =
     (AtItsEnd (IsUnreadable c.args.max_var)) (λ fault. IsUnreadable c.args.max_var fault c.args.model.now)
     c.read_source-read.result
     (at_its_end c.args.model.now _ c.gives_its_bytes.ensures (IsUnreadable c.args.max_var))
-    (rw c.in_ok-source.ensures at c.read_source-read.ensures.read)
+    (rw c.in_ok-source.ensures at c.read_source-read.ensures)
