@@ -13,7 +13,8 @@ use Rattle.aig_witness.specs.declared.verdict.Verdict.{Verdict}
 use Rattle.aig_fault.specs.declared.stopped.Stopped.{Stopped}
 use Rattle.aig_fault.specs.declared.stopped.Stopped.TheVariants as stops
 use Rattle.aig_claims.specs.RunDump.{HasNoDump, JudgedWith, comment_line}
-use Rattle.aig_dump.specs.Dumped.{TraceSaysAs, meant}
+use Rattle.aig_dump.specs.Dumped.{TraceSaysAs}
+use Rattle.aig_trace.specs.Taken.{meant}
 use Rattle.aig_dump.specs.InMemory.{JudgedRun}
 use Rattle.aig_wave.specs.Wave.{wave_text}
 use Rattle.aig_commands.specs.File.{IsFileOf}
