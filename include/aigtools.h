@@ -359,7 +359,7 @@ uint32_t aigtools_step(const aigtools_counts *counts, const uint32_t *words, siz
 /*
  * Puts the words for an outcome into the output, as the program reports it, without a file's name or a line feed:
  * "line 3: bad line". Returns how many bytes they have, at most 80; with less room nothing is written. It is 0 where
- * the status tells of no fault. For AIGTOOLS_SECOND_REFUSED set it to AIGTOOLS_REFUSED before. This call takes no memory.
+ * the status tells of no fault. This call takes no memory.
  */
 size_t aigtools_message(const aigtools_outcome *outcome, uint8_t *output, size_t output_length);
 

@@ -264,9 +264,6 @@ def _raise(outcome: _Outcome, parts: Optional[Mapping[str, Sized]] = None) -> No
         raise MemoryError
     if outcome.status == _BAD_OPTIONS:
         raise ValueError(f"an option that libaigtools {version()} does not know")
-    second = outcome.status == _SECOND_REFUSED
-    # the library has words for a refused input, whichever of two it is
-    outcome.status = _REFUSED
     room = ctypes.create_string_buffer(80)
     length = _library.aigtools_message(outcome, room, len(room))
     words = room.raw[:length].decode()
@@ -277,7 +274,7 @@ def _raise(outcome: _Outcome, parts: Optional[Mapping[str, Sized]] = None) -> No
         entry = _LISTS[outcome.place], outcome.number
     elif entry:
         words = f"{entry[0]}[{entry[1]}]: {words.partition(': ')[2]}"
-    raise Refused(words, Kind(outcome.kind), line, gate, outcome.subject, entry, second)
+    raise Refused(words, Kind(outcome.kind), line, gate, outcome.subject, entry, outcome.status == _SECOND_REFUSED)
 
 
 def _address(output: bytearray) -> int:

@@ -1,4 +1,5 @@
-"""Compares what the program makes of refutations with a plain checker: forward, by unit propagation alone.
+"""Compares what the program makes of refutations with a plain checker: forward, by unit propagation, and by the first literal
+of a line if that is of a new variable.
 
 The circuits are those of answers.py, and some that compare two sums of the same inputs and latches in other orders, which are
 mostly equal. A refutation of their clauses is made here by trying all inputs: behind each conflict stands
@@ -30,7 +31,8 @@ CODE, BEGUN = re.compile(rb"[\x80-\xff]{0,4}[\0-\x7f]"), re.compile(rb"[\x80-\xf
 class Checker:
     """Clauses, and the literals that follow from them by unit propagation. These stay, whatever is deleted."""
 
-    def __init__(self, clauses):
+    def __init__(self, clauses, largest):
+        self.largest = largest
         self.having, self.places = collections.defaultdict(list), collections.defaultdict(list)
         self.true, self.order, self.is_refuted = set(), [], False
         for clause in clauses:
@@ -81,6 +83,14 @@ class Checker:
         self.forget(start)
         return found
 
+    def extends(self, clause):
+        """Whether the first literal is of a new variable, and can be made true: what the clauses with its negation come to,
+        joined to this one, follows. Of those that were deleted, the ones of new variables alone count too."""
+        if not clause or abs(clause[0]) <= self.largest or -clause[0] in self.true:
+            return False
+        others = [it for is_there, it in self.having[-clause[0]] if is_there or min(map(abs, it)) > self.largest]
+        return all(self.follows(clause + [it for it in other if it != -clause[0]]) for other in others)
+
     def contradicts(self, literal):
         """Whether this literal is true; if not, it is false from here on."""
         if literal in self.true:
@@ -119,7 +129,7 @@ def lines_of_text(proof, largest):
         number, comment = NUMBER.match(proof, at), COMMENT.match(proof, at)
         if number:
             at, digits = number.end(), number[0].lstrip(b"-0")
-            if len(digits) > 10 or int(digits or 0) > largest:
+            if len(digits) > 10 or int(digits or 0) > largest + line:
                 yield BAD, [], line
                 return
             if digits:
@@ -150,7 +160,7 @@ def lines_of_binary(proof, largest):
             if value == 0:
                 at = found.end()
                 break
-            if 2 <= value < 2 * largest + 2:
+            if 2 <= value < 2 * (largest + line) + 2:
                 at = found.end()
                 clause.append(-(value // 2) if value % 2 else value // 2)
             else:
@@ -168,14 +178,14 @@ def lines(proof, largest):
 
 def why_not(clauses, largest, proof):
     """Why a text does not show that the clauses cannot be satisfied, if it does not."""
-    checker = Checker(clauses)
+    checker = Checker(clauses, largest)
     found = iter(() if checker.is_refuted else lines(proof, largest))
     for how, clause, line in found:
         if how == BAD:
             return f"line {line}: bad line"
         if how == DELETED:
             checker.delete(clause)
-        elif not checker.follows(clause):
+        elif not checker.follows(clause) and not checker.extends(clause):
             return f"line {line}: does not follow"
         else:
             checker.keep(clause)
@@ -234,7 +244,7 @@ class TooMany(Exception):
 
 def search(clauses, inputs):
     """Whether no values of the inputs satisfy the clauses, and the lemmas that show it or that were tried."""
-    checker, lemmas = Checker(clauses), []
+    checker, lemmas = Checker(clauses, 0), []
 
     def fails(tried):
         if len(lemmas) > LEMMAS:

@@ -16,6 +16,7 @@ rows_refutations() {
     rows_without_refutation
     rows_texts_of_refutations
     rows_binary_refutations
+    rows_new_variables
     rows_bad_lines_of_texts
     rows_bad_lines_of_binaries
     rows_what_does_not_follow
@@ -104,19 +105,36 @@ rows_binary_refutations() {
     does_not_follow 'a binary line that does not follow, behind others' 4 'a\004\006\000d\004\006\000d\000a\000a\006\000'
 }
 
+# 12 and above are in no clause. Line N may have numbers up to 11 + N.
+rows_new_variables() {
+    model "$four"
+    refutes_it 'a new variable' '12 -2 -3 0\n-12 2 0\n-12 3 0\n3 0\n0\n'
+    refutes_it 'a new variable in binary' 'a\030\005\007\000a\031\004\000a\031\006\000a\006\000'
+    refutes_it 'new variables in turn' '12 0\n13 0\n14 0\n3 0\n'
+    refutes_it 'the negation of a new variable' '-12 2 3 0\n12 -2 0\n12 -3 0\n3 0\n'
+    refutes_it 'what joins to a tautology' '12 2 0\n-12 -2 0\n3 0\n'
+    refutes_it 'a clause with a new variable is deleted' '12 -2 0\n12 2 0\nd 12 2 0\nd 12 -2 0\n-12 0\n3 0\n'
+    bad_at 'a new variable too soon' 1 '13 0\n'
+    does_not_follow 'a new variable that is true and false' 2 '12 0\n-12 0\n'
+    does_not_follow 'a new variable both ways' 3 '2 3 0\n12 13 0\n-12 0\n'
+    does_not_follow 'a new variable behind another number' 1 '-11 12 0\n'
+    does_not_follow 'a new variable does not make others true' 2 '12 0\n-11 -12 0\n'
+    open 'a new variable, and no more' '12 0\n'
+}
+
 rows_bad_lines_of_texts() {
     local text
     model "$four"
     for text in 'x' 'p cnf 11 26' 's UNSATISFIABLE' '+3 0' '-0' '--3 0' '- 3 0' '-03 0' '3 x 0' '3,0' '3\t0' '3 0x' '3\0' '\0' \
-        '\xff' '12 0' '-12 0' '12' '0012 0' '2147483648 0' '4294967299 0' '18446744073709551619 0' "$(digits 100 9) 0" \
-        '2 d 3 0' '2 c\n3 0' 'd d 3 0' 'd c\n3 0' '27 3 0 1 2 0' 'd 12 0' 'd -12 0' 'd x' 'D 3 0'; do
+        '\xff' '16 0' '-16 0' '16' '0016 0' '2147483648 0' '4294967299 0' '18446744073709551619 0' "$(digits 100 9) 0" \
+        '2 d 3 0' '2 c\n3 0' 'd d 3 0' 'd c\n3 0' '27 3 0 1 2 0' 'd 16 0' 'd -16 0' 'd x' 'D 3 0'; do
         bad_at "a bad line of a refutation: $text" 1 "$text\n3 0\n"
         bad_at "the same behind others: $text" 4 "c\n2 3 0\n\n$text\n3 0\n"
     done
     bad_at 'a bad line behind CR LF' 2 '2 3 0\r\nx\r\n'
-    bad_at 'a bad number in the last line of a lemma' 3 '2\n3\n12 0\n'
+    bad_at 'a bad number in the last line of a lemma' 3 '2\n3\n15 0\n'
     bad_at 'a bad byte where a lemma ends' 2 '2 3\n0x\n'
-    bad_at 'a bad number at the end of a file' 2 '2 3 0\n12'
+    bad_at 'a bad number at the end of a file' 2 '2 3 0\n14'
     bad_at 'two bad lines' 1 'x\ny\n'
     bad_at 'a bad line before what does not follow' 1 'x\n0\n'
 }
@@ -124,12 +142,12 @@ rows_bad_lines_of_texts() {
 rows_bad_lines_of_binaries() {
     model "$four"
     bad_at 'a binary number that is 1' 1 'a\001\000'
-    bad_at 'a binary number above the largest' 1 'a\030\000'
-    bad_at 'a negated binary number above the largest' 1 'a\031\000'
+    bad_at 'a binary number above the largest' 1 'a\032\000'
+    bad_at 'a negated binary number above the largest' 1 'a\033\000'
     bad_at 'a binary number of 35 bits' 1 'a\0377\0377\0377\0377\0177\000'
     bad_at 'a binary number of 32 bits and more' 1 'a\0206\0200\0200\0200\0020\000'
     bad_at 'a binary number of six bytes' 1 'a\0206\0200\0200\0200\0200\000\000'
-    bad_at 'a binary number above the largest in a deletion' 2 'a\004\006\000d\030\000'
+    bad_at 'a binary number above the largest in a deletion' 2 'a\004\006\000d\034\000'
     bad_at 'another letter of a binary line' 2 'a\004\006\000b\006\000'
     bad_at 'an LF between binary lines' 2 'a\004\006\000\na\006\000'
     bad_at 'a comment behind a binary line' 2 'a\004\006\000c\n'

@@ -23,11 +23,11 @@ use Rattle.aig_answer.specs.AnswerText.{values_of, values_text}
 use Rattle.aig_answer.specs.Laws.{AnswersAreRead, StatusesAreRead}
 
 -- what is read so far, where it stands
-abbrev at : Spot → Option Status → Bool → ℕ → List ℕ → SoFar
+abbrev pub at : Spot → Option Status → Bool → ℕ → List ℕ → SoFar
 at spot status ended line bits = so_far (record { spot = spot; status = status; ended = ended; line = line }) bits
 
 -- a text, and what is after it
-on : (s t : SoFar) (xs ys : List ℕ) → fold after s xs ≡ t → fold after s (xs ++ ys) ≡ fold after t ys
+pub on : (s t : SoFar) (xs ys : List ℕ) → fold after s xs ≡ t → fold after s (xs ++ ys) ≡ fold after t ys
 on s t xs ys is = fold-append after s xs ys ∙ ap (λ (u : SoFar). fold after u ys) is
 
 module _ (status : Option Status) (ended : Bool) (bits : List ℕ) where
@@ -99,7 +99,7 @@ AreDigits text = AllByRecursion (λ b. is_digit b ≡ true) text
 -- the values of a satisfiable answer, in a line of this number
 module _ (line : ℕ) where
   -- it stands there, in the values of a satisfiable answer
-  abbrev within : Spot → List ℕ → SoFar
+  abbrev pub within : Spot → List ℕ → SoFar
   within spot bits = at spot (Some Satisfiable) false line bits
 
   digits_read : (is_negative : Bool) (bits : List ℕ) (n : ℕ) (digits : List ℕ) → 1 ≤ n → AreDigits digits
@@ -143,7 +143,7 @@ module _ (line : ℕ) where
       (digits_read true bits (d - 48) ds (omega (arith, high)) are.1 (omega (arith, from_first d ds, small))
       ∙ ap (λ n. within (spots.Number true n) bits) (from_first d ds))
 
-  signed_read : (bits : List ℕ) (is_negative : Bool) (n : ℕ) → 1 ≤ n → n ≤ 2147483647
+  pub signed_read : (bits : List ℕ) (is_negative : Bool) (n : ℕ) → 1 ≤ n → n ≤ 2147483647
       → fold after (within spots.Space bits) ((if is_negative then codes "-" else []) ++ decimal n)
       ≡ within (spots.Number is_negative n) bits
   signed_read bits is_negative n some small =
@@ -162,11 +162,11 @@ module _ (line : ℕ) where
             number_read bits digits are high few ∙ ap (λ m. within (spots.Number false m) bits) is
 
   -- where a space or a line feed may come, and these are the values then
-  record Goes (s : SoFar) (bits : List ℕ) : Type 0 where
+  pub record Goes (s : SoFar) (bits : List ℕ) : Type 0 where
     pub space : after s 32 ≡ within spots.Space bits
     pub feed : after s 10 ≡ at spots.LineStart (Some Satisfiable) false (line_after line) bits
 
-  number_goes : (bits : List ℕ) (value : Signed) → IsValue value
+  pub number_goes : (bits : List ℕ) (value : Signed) → IsValue value
       → Goes (within (spots.Number value.is_negative value.number) bits) (with_value bits value)
   number_goes bits value is = record {
     space = rw (ne_eqb value.number 0 (λ e. omega (arith, e, is.0)));

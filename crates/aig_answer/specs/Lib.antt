@@ -1,3 +1,4 @@
 pub mod Answer
 pub mod AnswerText
 pub mod Laws
+pub mod Parts

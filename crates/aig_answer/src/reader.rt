@@ -139,7 +139,7 @@ impl Reader {
         }
     }
 
-    fn on_next_line(self) -> Reader
+    pub(crate) fn on_next_line(self) -> Reader
         ensures { result ≡ on_next_line self }
     {
         let line = if self.line < u64::MAX {
@@ -165,7 +165,7 @@ impl Reader {
         }
     }
 
-    fn awaits_values(self) -> bool
+    pub(crate) fn awaits_values(self) -> bool
         ensures { result ≡ awaits_values self }
     {
         matches!(self.status, Some(Status::Satisfiable)) && !self.ended

@@ -1,2 +1,1 @@
 pub mod RunsRead
-pub mod Sent

@@ -9,4 +9,4 @@ mod front;
 mod runs_read;
 mod text_group;
 
-pub use crate::batched::simulate_batched;
+pub use crate::batched::{simulate_batched, simulate_batched_into};

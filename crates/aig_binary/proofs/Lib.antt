@@ -5,4 +5,5 @@ pub mod Grammar
 pub mod Refusals
 pub mod Files
 pub mod FileSource
+pub mod Readings
 pub mod TailRead

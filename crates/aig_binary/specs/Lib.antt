@@ -6,3 +6,4 @@ pub mod Begun
 pub mod Laws
 pub mod FileLaws
 pub mod File
+pub mod Reading

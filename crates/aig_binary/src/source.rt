@@ -1,7 +1,9 @@
 //! A source that is read to its end as a file of either kind.
 ghost use Rattle.std.specs.Prelude.{◌≡◌, ◌+◌, ◌^◌, ◌≤◌, IfErr, IfOk, length, not};
 ghost use Rattle.aig_io.specs.Devices.{GaveSome, History, gave};
-ghost use Rattle.aig_binary.specs.File.{AnswersFile};
+ghost use Rattle.aig_io.specs.Runs.{Read};
+ghost use Rattle.aig_binary.specs.File.{AnswersFile, IsFileOf};
+ghost use Rattle.aig_binary.specs.Reading.{AtItsEnd, IsUnreadable, ReadSays};
 ghost use Rattle.aig_text.specs.Sources.{ReadsAs};
 
 use crate::file::read_file;
@@ -64,17 +66,20 @@ fn read_whole<R: Source>(
     read_file(alloc, bytes.as_slice(), limits, keep)
 }
 
-/// Reads the source to its end, as a file of either kind within these limits, and keeps what is
+/// Reads the source to its end, as a file of either kind within this limit, and keeps what is
 /// wanted of the check later. Only a part of it is held at a time.
 pub fn read_source<R: Source>(
     alloc: Global,
     source: &mut R,
-    limits: Limits,
+    max_var: u32,
     keep: Keep,
 ) -> Result<Checked, Stopped>
-    ensures { ReadsAs (AnswersFile limits.max_var) result (R.history source.old)
-        (R.history source.new) }
+    ensures { Read
+        (ReadSays (λ found bytes. IsFileOf bytes max_var found) (AtItsEnd (IsUnreadable max_var))
+        result)
+        (R.history source.old) (R.history source.new) }
 {
+    let limits = Limits { max_var };
     let (first, more) = fetch_first(alloc, source)?;
     let (lines, _) = ended_lines(first.as_slice());
     if !more || lines.is_empty() {

@@ -124,8 +124,8 @@ With --answer the solver's output on those clauses is read, by the same K and
 written as a witness, which aigsim --witness confirms whatever the solver said.
 
 With --refutation a solver's proof that those clauses cannot be satisfied is
-checked, by the same K and --bad: DRAT, in text or binary, as CaDiCaL writes it
-without RAT lines. If it is right, 'none within K' is written: no run of at
+checked, by the same K and --bad: DRAT, in text or binary, with RAT lines on new
+variables alone. If it is right, 'none within K' is written: no run of at
 most K steps reaches a bad state with all constraints kept.
 
 With --invariant the clauses are those in which an invariant is to be shown, for

@@ -18,11 +18,11 @@ pub record IsAccepted (request : Miter) (first : Circuit) : Type 0 where
   pub comparable : IsComparable first
   pub named : request.by_name ≡ true → first_name_fault first ≡ None
 
--- why it cannot be compared
+-- why it cannot be: only of one that can be compared are the names looked at
 abbrev pub NotAccepted : Miter → Circuit → Fault → Type 0
 NotAccepted request first fault =
     (comparable first ≡ Err (Refused fault))
-    ⊎ ((request.by_name ≡ true) × (first_name_fault first ≡ Some fault))
+    ⊎ (IsComparable first × (request.by_name ≡ true) × (first_name_fault first ≡ Some fault))
 
 -- The bytes are the file of this circuit, and it can be compared.
 pub record IsFirst (request : Miter) (bytes : List ℕ) (first : Circuit) : Type 0 where

@@ -1,4 +1,5 @@
 pub use Rattle.aig_binary.specs.File
+pub use Rattle.aig_binary.specs.Reading
 pub mod OutputsAsBad
 pub mod Comparing
 pub mod Conversion
@@ -7,7 +8,6 @@ pub mod Unrolling
 pub mod Reaching
 pub mod Refuting
 pub mod Proving
-pub mod Reading
 pub mod Outcome
 pub mod WitnessOutcome
 pub mod WitnessDump

@@ -10,9 +10,9 @@ ghost use Rattle.aig_commands.specs.Reading.{AtItsEnd, ReadSays};
 
 use crate::answer::Answer;
 use crate::conversion::convert_as;
-use crate::file::read_circuit;
+use aig_binary::read_source;
 use aig_command::Miter;
-use aig_core::{Checked, Keep, Source};
+use aig_core::{Checked, Keep, Source, Steps};
 use aig_fault::Stopped;
 use aig_miter::{check_comparable, miter};
 use aig_pairing::{check_names, order_by_names};
@@ -42,7 +42,7 @@ pub(crate) fn read_first<R: Source>(
         (R.history source.new) }
     ensures accepted { IfOk result (IsAccepted request.now) }
 {
-    let first = read_circuit(alloc, source, request.max_var, Keep::Circuit)?;
+    let first = read_source(alloc, source, request.max_var, Keep::Circuit)?;
     match check_first(alloc, request, &first) {
         Ok(()) => Ok(first),
         Err(stopped) => {
@@ -83,7 +83,7 @@ fn compare(
     ensures err { IfErr result (StopsFor (NotMadeOf request.now first second)) }
 {
     match pair(alloc, request, &first, second) {
-        Ok(paired) => miter(alloc, first, paired),
+        Ok(paired) => miter(alloc, first, paired, &mut Steps::new()),
         Err(stopped) => {
             drop(first); // for the proof
             Err(stopped)
@@ -105,7 +105,7 @@ pub(crate) fn read_second<R: Source>(
         (R.history source.new) }
     ensures some { IfOk result (λ answer. 0 < length (text_of answer)) }
 {
-    let second = read_circuit(alloc, source, request.max_var, Keep::Circuit)?;
+    let second = read_source(alloc, source, request.max_var, Keep::Circuit)?;
     let made = compare(alloc, request, first, second)?;
     Ok(convert_as(alloc, request.ascii, false, made)?)
 }

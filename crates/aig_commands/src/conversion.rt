@@ -14,8 +14,8 @@ ghost use Rattle.aig_commands.specs.Outcome.{Says};
 ghost use Rattle.aig_commands.specs.Reading.{AtItsEnd, ReadSays};
 
 use crate::answer::Answer;
-use crate::file::read_circuit;
 use crate::outputs_as_bad::{symbols_if_free, with_outputs_as_bad};
+use aig_binary::read_source;
 use aig_command::ToAig;
 use aig_convert::{into_binary, into_binary_with_map, undo};
 use aig_core::{Checked, Circuit, Keep, OutOfMemory, Sink, Source, Steps, Symbols};
@@ -113,7 +113,7 @@ pub(crate) fn read_conversion<R: Source>(
         (R.history source.old) (R.history source.new) }
     ensures some { IfOk result (λ answer. 0 < length (text_of answer)) }
 {
-    let found = read_circuit(alloc, source, request.max_var, what_to_keep(request))?;
+    let found = read_source(alloc, source, request.max_var, what_to_keep(request))?;
     let source_circuit = undo_if_asked(alloc, request, found)?;
     let turned_circuit = turn_if_asked(alloc, request, source_circuit)?;
     let circuit = strip_if_asked(alloc, request, turned_circuit);

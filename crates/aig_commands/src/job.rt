@@ -10,11 +10,11 @@ ghost use Rattle.aig_commands.specs.Reading.{ReadSays};
 use crate::answer::Answer;
 use crate::comparing::{read_first, read_second};
 use crate::conversion::read_conversion;
-use crate::file::read_circuit;
 use crate::proving::{read_clauses, read_never, read_proving_model, read_strengthened};
 use crate::reaching::{read_selected, read_solved};
 use crate::task::{Task, task_of};
 use crate::unrolling::read_unrolling;
+use aig_binary::read_source;
 use aig_command::{Command, Invariant, Miter, Reach, Sim, ToAig, Unroll};
 use aig_core::{Checked, Keep, Source};
 use aig_fault::Stopped;
@@ -186,7 +186,7 @@ impl Reading {
                 Ok(Job::Write(answer))
             }
             Reading::Sim(request) => {
-                let model = read_circuit(alloc, source, request.max_var, Keep::Order)?;
+                let model = read_source(alloc, source, request.max_var, Keep::Order)?;
                 Ok(Job::Steps {
                     task: task_of(&request),
                     model,

@@ -2,7 +2,7 @@
 //!
 //! Others call `Job`, which a command becomes, `Reading`, whose `read` makes the next job of a
 //! source, and `Answer`, which is written; `run_toaig`, `run_witness` and `run_unroll`, which work
-//! over any source and sink; `read_circuit`, `judge` and `Task`. Files, streams and what is reported
+//! over any source and sink; `read_source`, `judge` and `Task`. Files, streams and what is reported
 //! stand above, in `aig_tools`.
 //!
 //! The definitions that matter most are `Makes`, `Refuses` and `text_of`, `IsConversionText`,
@@ -14,7 +14,6 @@ mod comparing;
 pub mod comparing_laws;
 mod conversion;
 pub mod dump_laws;
-mod file;
 mod job;
 pub mod laws;
 mod outputs_as_bad;
@@ -27,9 +26,9 @@ mod witness;
 
 pub use crate::answer::Answer;
 pub use crate::conversion::run_toaig;
-pub use crate::file::read_circuit;
 pub use crate::job::{Job, Part, Reading};
 pub use crate::task::{Task, task_of};
 pub use crate::unrolling::run_unroll;
 pub use crate::witness::{judge, run_witness};
+pub use aig_binary::read_source;
 pub use aig_fault::{Stopped, refused, refused_at, refused_whole};

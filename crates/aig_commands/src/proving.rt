@@ -9,10 +9,10 @@ ghost use Rattle.aig_commands.specs.Reading.{AtItsEnd, ReadSays};
 ghost use Rattle.aig_commands.specs.Refuting.{CanUnroll, IsRefutationRefused};
 
 use crate::answer::Answer;
-use crate::file::read_circuit;
 use crate::reaching::selected_with_clauses;
 use crate::refuting::read_refutation;
 use crate::unrolling::unroll_as;
+use aig_binary::read_source;
 use aig_command::{Invariant, UnrolledForm};
 use aig_core::{Checked, Keep, Source};
 use aig_fault::Stopped;
@@ -31,7 +31,7 @@ pub(crate) fn read_proving_model<R: Source>(
         (AtItsEnd (NotInvariantModel request.now)) result) (R.history model.old)
         (R.history model.new) }
 {
-    let found = read_circuit(alloc, model, request.max_var, Keep::Order)?;
+    let found = read_source(alloc, model, request.max_var, Keep::Order)?;
     selected_with_clauses(alloc, found, request.bad, 1)
 }
 

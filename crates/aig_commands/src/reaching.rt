@@ -16,9 +16,9 @@ ghost use Rattle.aig_commands.specs.Refuting.{CanUnroll};
 ghost use Rattle.aig_commands.specs.Unrolling.{IsUnrolledFor, NotUnrolledAs};
 
 use crate::answer::Answer;
-use crate::file::read_circuit;
 use crate::refuting::read_none_within;
 use crate::unrolling::unroll_as;
+use aig_binary::read_source;
 use aig_command::{Reach, SolverFile, UnrolledForm};
 use aig_core::{Checked, Keep, Source};
 use aig_fault::Stopped;
@@ -77,7 +77,7 @@ pub(crate) fn read_selected<R: Source>(
         (R.history model.new) }
     ensures can_unroll { IfOk result (λ selected. CanUnroll selected request.now.frames) }
 {
-    let found = read_circuit(alloc, model, request.max_var, Keep::Order)?;
+    let found = read_source(alloc, model, request.max_var, Keep::Order)?;
     selected_with_clauses(alloc, found, request.bad, request.frames)
 }
 

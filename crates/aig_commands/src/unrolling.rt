@@ -12,7 +12,7 @@ ghost use Rattle.aig_commands.specs.Unrolling.{IsUnrollingText, IsWritable, NotU
 ghost use Rattle.aig_commands.specs.Unrolling.{NotWritable};
 
 use crate::answer::Answer;
-use crate::file::read_circuit;
+use aig_binary::read_source;
 use aig_command::{Unroll, UnrolledForm};
 use aig_core::{Checked, Keep, Sink, Source};
 use aig_fault::Stopped;
@@ -80,7 +80,7 @@ pub(crate) fn read_unrolling<R: Source>(
         (R.history source.old) (R.history source.new) }
     ensures some { IfOk result (λ answer. 0 < length (text_of answer)) }
 {
-    let found = read_circuit(alloc, source, request.max_var, Keep::Order)?;
+    let found = read_source(alloc, source, request.max_var, Keep::Order)?;
     let circuit = unroll_as(alloc, request.form, request.frames, found)?;
     Ok(Answer::Unrolled(request.form, circuit))
 }

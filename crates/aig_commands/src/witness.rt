@@ -8,7 +8,7 @@ ghost use Rattle.aig_commands.specs.Outcome.{TransferredFor};
 ghost use Rattle.aig_commands.specs.WitnessOutcome.{answer_line, AnswerSays};
 
 use crate::answer::send_message;
-use crate::file::read_circuit;
+use aig_binary::read_source;
 use aig_command::Sim;
 use aig_core::{Checked, DeviceFault, Keep, Sink, Source};
 use aig_fault::{Message, Stopped};
@@ -75,6 +75,6 @@ pub fn run_witness<M: Source, R: Source, W: Sink>(
         (R.history witness.old) (R.history witness.new) (W.history output.old)
         (W.history output.new) }
 {
-    let found = read_circuit(alloc, model, request.max_var, Keep::Order)?;
+    let found = read_source(alloc, model, request.max_var, Keep::Order)?;
     judge(alloc, found, witness, output)
 }

@@ -1,173 +1,95 @@
 -- What is sent where the dump of a trace is written.
-use Rattle.std.proofs.Common.{◌≡◌, ◌∙◌, ◌++◌, ℕ, List, [], Bool, true, false, Result, Ok, Err, OnOk, ap, ap₂, arith}
-use Rattle.std.proofs.Common.{cond, is_err, is_ok, refl, subst, sym, take, drop, take-append-drop}
-use Rattle.aig_io.specs.Devices.{History, Origin, TookBeginning, unused}
-use Rattle.aig_io.specs.Runs.{All, AtEnd, Beginning, Broken, Delivery, Ending, IsCut, NotSent, Open, Transferred, came}
-use Rattle.aig_io.specs.Runs.{sent}
-use Rattle.aig_io.specs.Runs.{taken}
-use Rattle.aig_io.proofs.Puts.{beginning_longer}
+use Rattle.std.proofs.Common.{◌≡◌, ◌∙◌, ℕ, List, [], Bool, true, false, Result, Ok, Err, ap, ap₂, cond, is_err, is_ok}
+use Rattle.std.proofs.Common.{refl, subst, sym}
+use Rattle.aig_io.specs.Devices.{History}
+use Rattle.aig_io.specs.Output.{Appended, Out}
+use Rattle.aig_io.specs.Runs.{All, Beginning, Delivery, Ending, IsCut, NotSent, Open, Sent, Transferred}
+use Rattle.aig_io.proofs.Puts.{all_sent, beginning_sent, put_nothing}
+use Rattle.aig_io.proofs.Runs.{read_weaker}
 use Rattle.aig_io.proofs.Took.{took_none}
 use Rattle.aig_circuit.specs.declared.circuit.Circuit.{Circuit}
 use Rattle.aig_lines.specs.Lines.{lines_of}
 use Rattle.aig_fault.specs.declared.stopped.Stopped.{Stopped}
 use Rattle.aig_fault.specs.declared.stopped.Stopped.TheVariants as stops
 use Rattle.aig_step.specs.declared.trace.Columns.TheVariants.{Properties}
+use Rattle.aig_trace.specs.Taken.{Ran, Taken, Tells, Took, meant}
+use Rattle.aig_wave.specs.declared.wave.WaveTaker.{WaveTaker}
+use Rattle.aig_wave.specs.Dumping.{Dumps}
 use Rattle.aig_wave.specs.Frames.{frames_of, most_frames}
 use Rattle.aig_wave.specs.Layout.{Layout, layout_of}
-use Rattle.aig_wave.specs.Standing.{WasSent, wave_origin}
 use Rattle.aig_wave.specs.Wave.{dump, wave_text}
-use Rattle.aig_wave.proofs.Growing.{wave_grows}
-use Rattle.aig_dump.specs.Dumped.{DumpSays, IsDumpOf, TraceSaysAs, meant}
+use Rattle.aig_dump.specs.Dumped.{DumpSays, TraceSaysAs}
 
--- devices keep their origins
-came_origin : (bytes : List ℕ) (ending : Ending) (source : History) → (came bytes ending source).origin ≡ source.origin
-came_origin bytes AtEnd source = refl
-came_origin bytes Open source = refl
-came_origin bytes Broken source = refl
-
-sent_origin : (text : List ℕ) (delivery : Delivery) (sink : History) → (sent text delivery sink).origin ≡ sink.origin
-sent_origin text NotSent sink = refl
-sent_origin text All sink = refl
-sent_origin text (Beginning count) sink = refl
-
-pub transferred_origins : (P : List ℕ → Ending → List ℕ → Delivery → Type 0) (s s_now o o_now : History)
-    → Transferred P s s_now o o_now
-    → (s_now.origin ≡ s.origin) × (o_now.origin ≡ o.origin)
-transferred_origins P s s_now o o_now ran = (
-  ap (λ (p : History). p.origin) ran.came ∙ came_origin ran.bytes ran.ending s,
-  ap (λ (p : History). p.origin) ran.says.sent ∙ sent_origin ran.says.text ran.says.delivery o,
-)
-
--- what a sink took that was unused before, and whether it failed
-taken_is : (text : List ℕ) (delivery : Delivery) (origin : Origin)
-    → (sent text delivery (unused origin)).bytes ≡ taken text delivery
-taken_is text NotSent origin = refl
-taken_is text All origin = refl
-taken_is text (Beginning count) origin = refl
-
-uncut : (text : List ℕ) (delivery : Delivery) (origin : Origin) → (sent text delivery (unused origin)).failures ≡ 0
+uncut : (delivery : Delivery) (failed : Bool) → Tells failed delivery → (failed ≡ true → false ≡ true)
     → ¬ IsCut delivery
-uncut text NotSent origin good = λ cut. cut
-uncut text All origin good = λ cut. cut
-uncut text (Beginning count) origin good = absurd (omega arith)
+uncut NotSent failed tells fine = λ cut. cut
+uncut All failed tells fine = λ cut. cut
+uncut (Beginning count) failed tells fine = λ cut. (let e : false ≡ true = fine tells in absurd cc)
 
-meant_is : (text : List ℕ) (delivery : Delivery) → ¬ IsCut delivery → taken text delivery ≡ meant text delivery
-meant_is text NotSent whole = refl
-meant_is text All whole = refl
-meant_is text (Beginning count) whole = absurd (whole tt)
-
-module _ (c : Circuit) where
-  abbrev Says : Bool → Result (Unit {0}) Stopped → List ℕ → Ending → List ℕ → Delivery → Type 0
-  Says batch ran bytes ending trace delivery = TraceSaysAs batch c Properties ran bytes ending trace delivery
-
-  cut_where_told : (batch : Bool) (bytes : List ℕ) (ending : Ending) (trace : List ℕ) (delivery : Delivery)
-      → Says batch (Err stops.WriteFailed) bytes ending trace delivery → IsCut delivery
+module _ (batch : Bool) (c : Circuit) where
+  cut_where_told : (b : Bool) (bytes : List ℕ) (ending : Ending) (trace : List ℕ) (delivery : Delivery)
+      → TraceSaysAs b c Properties (Err stops.WriteFailed) bytes ending trace delivery → IsCut delivery
   cut_where_told true bytes ending trace delivery says = says.1
   cut_where_told false bytes ending trace delivery says = says.1
 
-  all_at_end : (batch : Bool) (done : Unit {0}) (bytes : List ℕ) (ending : Ending) (trace : List ℕ)
-      (delivery : Delivery)
-      → Says batch (Ok done) bytes ending trace delivery → delivery ≡ All
-  all_at_end true done bytes ending trace delivery says = says.1
-  all_at_end false done bytes ending trace delivery says = says.1
-
   -- the sink took all of the dump
-  whole : (batch : Bool) (ran : Result (Unit {0}) Stopped) (bytes : List ℕ) (ending : Ending) (trace text : List ℕ)
-      (delivery : Delivery) → ¬ IsCut delivery → Says batch ran bytes ending trace delivery
-      → text ≡ wave_text c (meant trace delivery) (is_ok ran) → DumpSays batch c ran bytes ending text All
-  whole batch (Err stops.WriteFailed) bytes ending trace text delivery not_cut says is =
+  whole : (ran : Result (Unit {0}) Stopped) (bytes : List ℕ) (ending : Ending) (trace : List ℕ) (delivery : Delivery)
+      → ¬ IsCut delivery → TraceSaysAs batch c Properties ran bytes ending trace delivery
+      → DumpSays batch c ran bytes ending (wave_text c (meant trace delivery) (is_ok ran)) All
+  whole (Err stops.WriteFailed) bytes ending trace delivery not_cut says =
       absurd (not_cut (cut_where_told batch bytes ending trace delivery says))
-  whole batch (Err fault) bytes ending trace text delivery not_cut says is =
-      (refl, record { trace = trace; delivery = delivery; says = says; is_dump = is })
-  whole batch (Ok done) bytes ending trace text delivery not_cut says is =
-      (refl, record { trace = trace; delivery = delivery; says = says; is_dump = is })
+  whole (Err fault) bytes ending trace delivery not_cut says =
+      (refl, record { trace = trace; delivery = delivery; says = says; is_dump = refl })
+  whole (Ok done) bytes ending trace delivery not_cut says =
+      (refl, record { trace = trace; delivery = delivery; says = says; is_dump = refl })
 
-  -- the dump of a beginning of a trace is a beginning of its dump
-  longer : (trace : List ℕ) (delivery : Delivery) (o o_now : History)
-      → TookBeginning (wave_text c (taken trace delivery) false) o o_now
-      → TookBeginning (wave_text c (meant trace delivery) false) o o_now
-  longer trace NotSent o o_now begun = begun
-  longer trace All o o_now begun = begun
-  longer trace (Beginning count) o o_now begun =
-      let grown = wave_grows c (take count trace) (drop count trace) false in
-      subst (λ (text : List ℕ). TookBeginning text o o_now)
-      (sym grown.1 ∙ ap (λ (text : List ℕ). wave_text c text false) (take-append-drop count trace))
-      (beginning_longer o o_now [] _ grown.0 begun)
+  module _ {W : Type 0} (from now : WaveTaker W) (new end : Out W) (ran : Result (Unit {0}) Stopped) (done : Bool)
+      (shows : from.dump_state.layout ≡ layout_of c) (made : from.output ≡ new) (unheld : new.held ≡ [])
+      (fine : new.failed ≡ false) (begun : Dumps from from []) (ended : done ≡ is_ok ran)
+      (finish : (other : WaveTaker W) (text : List ℕ) → Dumps other now text
+      → Appended other.output end (dump other.dump_state.layout (frames_of other.dump_state.layout text) done))
+      (empty : end.held ≡ []) where
+    put : (text : List ℕ) → Took Dumps from now text → Appended new end (wave_text c text (is_ok ran))
+    put text took =
+        subst (λ (o : Out W). Appended o end (wave_text c text (is_ok ran))) made
+        (subst (Appended from.output end)
+        (ap₂ (λ (v : Layout) (b : Bool). dump v (frames_of v text) b) shows ended)
+        (finish from text (took.more from [] begun)))
 
-  -- a beginning of the dump of all of the trace
-  begun_of : (batch : Bool) (ran : Result (Unit {0}) Stopped) (bytes : List ℕ) (ending : Ending) (trace : List ℕ)
-      (delivery : Delivery) (o o_now : History) → Says batch ran bytes ending trace delivery
-      → TookBeginning (wave_text c (taken trace delivery) (is_ok ran)) o o_now
-      → TookBeginning (wave_text c (meant trace delivery) (is_ok ran)) o o_now
-  begun_of batch (Ok done) bytes ending trace delivery o o_now says begun =
-      let all = all_at_end batch done bytes ending trace delivery says in
-      rw all (rw all at begun)
-  begun_of batch (Err fault) bytes ending trace delivery o o_now says begun = longer trace delivery o o_now begun
-
-module _ (batch : Bool) (c : Circuit) (s s_now o o_now : History) where
-  abbrev IsTraced : Result (Unit {0}) Stopped → (wave trace : History) → Type 0
-  IsTraced ran wave trace = Transferred (TraceSaysAs batch c Properties ran) s s_now wave trace
-
-  answered : {T E : Type 0} (r : Result T E) (ran answer : Result (Unit {0}) Stopped) (origin : Origin)
-      (trace : History)
-      → answer ≡ cond (is_err r) (Err stops.WriteFailed) ran → IsTraced ran (unused origin) trace
-      → OnOk r (trace.failures ≡ 0) → WasSent r (wave_text c trace.bytes (is_ok ran)) o o_now
-      → Transferred (DumpSays batch c answer) s s_now o o_now
-  answered (Ok x) ran answer origin trace e run good put =
-      let t = run.says in
-      let not_cut = uncut t.text t.delivery origin (rw t.sent at good) in
-      let text : trace.bytes ≡ meant t.text t.delivery =
-      ap (λ (p : History). p.bytes) t.sent ∙ taken_is t.text t.delivery origin ∙ meant_is t.text t.delivery not_cut in
-      rw e (record {
-        bytes = run.bytes;
-        ending = run.ending;
-        says = record {
-          text = wave_text c trace.bytes (is_ok ran);
-          delivery = All;
-          says = whole c batch ran run.bytes run.ending t.text _ t.delivery not_cut t.says
-              (ap (λ (t : List ℕ). wave_text c t (is_ok ran)) text);
-          sent = put;
-        };
-        came = run.came;
-      })
-  answered (Err fault) ran answer origin trace e run good put =
-      let t = run.says in
-      let text : trace.bytes ≡ taken t.text t.delivery =
-      ap (λ (p : History). p.bytes) t.sent ∙ taken_is t.text t.delivery origin in
-      let begun = begun_of c batch ran run.bytes run.ending t.text t.delivery o o_now t.says
-      (subst (λ (t : List ℕ). TookBeginning (wave_text c t (is_ok ran)) o o_now) text put) in
-      rw e (record {
-        bytes = run.bytes;
-        ending = run.ending;
-        says = record {
+    answered : {T E : Type 0} (r : Result T E) (answer : Result (Unit {0}) Stopped) (bytes : List ℕ) (ending : Ending)
+        → end.failed ≡ is_err r → (now.output.failed ≡ true → is_err r ≡ true)
+        → answer ≡ cond (is_err r) (Err stops.WriteFailed) ran
+        → Taken Dumps (TraceSaysAs batch c Properties ran bytes ending) from now now.output.failed
+        → Sent (DumpSays batch c answer bytes ending) new.history end.history
+    answered (Ok x) answer bytes ending fails tells is t =
+        rw is (record {
           text = wave_text c (meant t.text t.delivery) (is_ok ran);
-          delivery = Beginning begun.count;
+          delivery = All;
+          says = whole ran bytes ending t.text t.delivery (uncut t.delivery now.output.failed t.tells tells) t.says;
+          sent = all_sent new new end end _ refl unheld (put _ t.took) (put_nothing end) empty fails;
+        })
+    answered (Err fault) answer bytes ending fails tells is t =
+        let part = beginning_sent new new end end _ refl unheld fine (put _ t.took) (put_nothing end) fails in
+        rw is (record {
+          text = wave_text c (meant t.text t.delivery) (is_ok ran);
+          delivery = Beginning part.count;
           says = (tt, (ran, record { trace = t.text; delivery = t.delivery; says = t.says; is_dump = refl }));
-          sent = begun.history;
-        };
-        came = run.came;
-      })
+          sent = part.history;
+        })
 
-  -- The trace went through a wave sink to a sink with this history.
-  pub dumped : {T E : Type 0} (r : Result T E) (ran answer : Result (Unit {0}) Stopped) (wave trace : History)
-      (w : Layout)
-      (name : ℕ) (o_end : History) (done failed : Bool) → w ≡ layout_of c → wave ≡ unused (wave_origin w name o)
-      → IsTraced ran wave trace → done ≡ is_ok ran
-      → ((v : Layout) (other : ℕ) (before : History) → trace.origin ≡ wave_origin v other before
-      → WasSent r (dump v (frames_of v trace.bytes) done) before o_end)
-      → OnOk r (trace.failures ≡ 0) → failed ≡ is_err r → answer ≡ cond failed (Err stops.WriteFailed) ran
-      → o_now ≡ o_end
-      → Transferred (DumpSays batch c answer) s s_now o o_now
-  dumped r ran answer wave trace w name o_end done failed is new run ended put good fails answers output =
-      let kept : trace.origin ≡ wave_origin w name o =
-      (transferred_origins _ s s_now wave trace run).1 ∙ ap (λ (p : History). p.origin) new in
-      let text : dump w (frames_of w trace.bytes) done ≡ wave_text c trace.bytes (is_ok ran) =
-      ap₂ (λ (v : Layout) (d : Bool). dump v (frames_of v trace.bytes) d) is ended in
-      answered r ran answer (wave_origin w name o) trace
-      (answers ∙ ap (λ (b : Bool). cond b (Err stops.WriteFailed) ran) fails)
-      (subst (λ (p : History). IsTraced ran p trace) new run) good
-      (subst (λ (p : History). WasSent r (wave_text c trace.bytes (is_ok ran)) o p) (sym output)
-      (subst (λ (t : List ℕ). WasSent r t o o_end) text (put w name o kept)))
+    -- the trace was taken, and the dump of it ended
+    pub dumped : {T E : Type 0} (r : Result T E) (answer : Result (Unit {0}) Stopped) (failed : Bool)
+        (s s_now o_now : History) → end.failed ≡ is_err r → (now.output.failed ≡ true → is_err r ≡ true)
+        → failed ≡ is_err r → answer ≡ cond failed (Err stops.WriteFailed) ran
+        → Ran Dumps (TraceSaysAs batch c Properties ran) s s_now from now now.output.failed → o_now ≡ end.history
+        → Transferred (DumpSays batch c answer) s s_now new.history o_now
+    dumped r answer failed s s_now o_now fails tells told is run output =
+        rw output
+        (read_weaker
+        (λ bytes ending. Taken Dumps (TraceSaysAs batch c Properties ran bytes ending) from now now.output.failed)
+        (λ bytes ending. Sent (DumpSays batch c answer bytes ending) new.history end.history) s s_now
+        (λ bytes ending. answered r answer bytes ending fails tells
+        (is ∙ ap (λ (b : Bool). cond b (Err stops.WriteFailed) ran) told)) run)
 
 -- nothing comes of a dump for which there is no memory
 no_frame : (c : Circuit) → wave_text c [] false ≡ []

@@ -1,5 +1,5 @@
 -- What a source over bytes in memory gave, once it was read.
-use Rattle.std.proofs.Common.{◌≡◌, ◌∙◌, ◌+◌, ◌<◌, ℕ, List, Bool, false, OnOk, ap, IfErr, IfOk, Result}
+use Rattle.std.proofs.Common.{◌≡◌, ◌∙◌, ℕ, List, Bool, false, OnOk, ap, IfErr, IfOk, Result}
 use Rattle.std.proofs.Common.{Ok, Err, refl, subst, arith, None, Some, length, take, true}
 use Rattle.aig_io.specs.Devices.{History, Origin, unused}
 use Rattle.aig_io.specs.Lent.{HasGiven, lent}

@@ -1,12 +1,13 @@
 -- What the answer of a simulation says that writes its trace, or the dump of that.
-use Rattle.std.specs.Prelude.{◌≡◌, ℕ, List, [], Bool, Result, Ok, Err, MatchBool, is_ok}
-use Rattle.aig_io.specs.Runs.{All, Beginning, Delivery, Ending, IsCut, NotSent}
+use Rattle.std.specs.Prelude.{◌≡◌, ℕ, List, Bool, Result, Err, MatchBool, is_ok}
+use Rattle.aig_io.specs.Runs.{All, Delivery, Ending, IsCut}
 use Rattle.aig_circuit.specs.declared.circuit.Circuit.{Circuit}
 use Rattle.aig_fault.specs.declared.stopped.Stopped.{Stopped}
 use Rattle.aig_fault.specs.declared.stopped.Stopped.TheVariants.{WriteFailed}
 use Rattle.aig_step.specs.declared.trace.Columns.{Columns}
 use Rattle.aig_step.specs.declared.trace.Columns.TheVariants.{Properties}
 use Rattle.aig_step.specs.Outcome.{TraceSays}
+use Rattle.aig_trace.specs.Taken.{meant}
 use Rattle.aig_batch.specs.Batched.{BatchSays}
 use Rattle.aig_wave.specs.Wave.{wave_text}
 
@@ -16,12 +17,6 @@ abbrev pub TraceSaysAs : Bool → Circuit → Columns → Result (Unit {0}) Stop
 TraceSaysAs batch c columns answer bytes ending text delivery =
     MatchBool batch (BatchSays c columns answer bytes ending text delivery)
     (TraceSays c columns answer bytes ending text delivery)
-
--- what a sink was to take of a text
-abbrev pub meant : List ℕ → Delivery → List ℕ
-meant text NotSent = []
-meant text All = text
-meant text (Beginning count) = text
 
 -- This is the dump of all of the trace, with all its columns, that goes with this answer. It is ended where the
 -- simulation succeeded.

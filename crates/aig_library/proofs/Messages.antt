@@ -31,6 +31,8 @@ pub messages_tell_faults : MessagesTellFaults
 messages_tell_faults = (
   λ fault. ap₂ (λ place kind. place_text place ++ words_of kind fault.subject) (same_place fault.place)
       (same_kind fault.kind),
+  λ fault. ap₂ (λ place kind. place_text place ++ words_of kind fault.subject) (same_place fault.place)
+      (same_kind fault.kind),
   refl,
 )
 

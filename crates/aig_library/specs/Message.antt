@@ -7,9 +7,9 @@ use Rattle.aig_fault.specs.declared.fault.Place.{Place}
 use Rattle.aig_fault.specs.declared.fault.Place.TheVariants.{Bad, Gate, Input, Line, MapLine, Output}
 use Rattle.aig_fault.specs.declared.fault.Place.TheVariants.{Value, Whole, Word}
 use Rattle.aig_fault.specs.declared.kind.Kind.{Kind}
-use Rattle.aig_fault.specs.declared.stopped.Stopped.TheVariants.{OutOfMemory}
+use Rattle.aig_fault.specs.declared.stopped.Stopped.TheVariants.{OutOfMemory, Refused}
 use Rattle.aig_library.specs.Numbers as numbers
-use Rattle.aig_library.specs.Outcome.{fault_outcome, out_of_memory}
+use Rattle.aig_library.specs.Outcome.{fault_outcome, out_of_memory, second_outcome}
 use Rattle.aig_library.specs.declared.outcome.Outcome.{Outcome}
 
 -- the place of these numbers; those of no place stand for the whole
@@ -29,17 +29,23 @@ abbrev pub words_of : Option Kind → (subject : ℕ) → List ℕ
 words_of None subject = []
 words_of (Some kind) subject = kind_text kind subject
 
--- the words for an outcome: none where nothing is wrong with the input and memory was not refused
+-- where it is wrong, and what
+abbrev pub fault_words : Outcome → List ℕ
+fault_words o = place_text (place_of o.place o.number) ++ words_of (kind_of_number o.kind) o.subject
+
+-- the words for an outcome: none where nothing is wrong with an input and memory was not refused
 abbrev pub outcome_text : Outcome → List ℕ
 outcome_text o =
     if o.status == numbers.out_of_memory then stopped_text OutOfMemory
-    else if o.status == numbers.refused then
-    place_text (place_of o.place o.number) ++ words_of (kind_of_number o.kind) o.subject else []
+    else if o.status == numbers.refused then fault_words o
+    else if o.status == numbers.second_refused then fault_words o else []
 
--- the words for the outcome of a fault are those in which the program reports it, and so are those for want of memory
+-- the words for the outcome of a fault, of the first input or of the second, are those in which the program reports it,
+-- and so are those for want of memory
 abbrev pub MessagesTellFaults : Type 0
 MessagesTellFaults =
     ((fault : Fault) → outcome_text (fault_outcome fault) ≡ fault_text fault)
+    × ((fault : Fault) → outcome_text (second_outcome (Refused fault)) ≡ fault_text fault)
     × (outcome_text out_of_memory ≡ stopped_text OutOfMemory)
 
 -- The text is at the front of the output, where there is room for it, and else the output is as it was. Its length is

@@ -12,7 +12,7 @@ ghost use Rattle.aig_library.specs.Asked.{CanSimulate, has, simulation};
 use crate::asked::{PROPERTIES, VCD, has, only_has};
 use crate::outcome::{BAD_OPTIONS, Outcome, answer, ending};
 use aig_batch::simulate_batched;
-use aig_commands::{Stopped, read_circuit};
+use aig_commands::{Stopped, read_source};
 use aig_core::{Checked, Keep, LARGEST, SliceSource, VecSink};
 use aig_dump::dump;
 use aig_step::Columns;
@@ -24,7 +24,7 @@ pub(crate) fn circuit_of(alloc: Global, max_var: u32, model: &[u8]) -> Result<Ch
     ensures err { IfErr result (StopsInMemory (λ fault. IsUnreadable max_var fault model.now)) }
 {
     let mut source = SliceSource::new(model)?;
-    let read = read_circuit(alloc, &mut source, max_var, Keep::Order);
+    let read = read_source(alloc, &mut source, max_var, Keep::Order);
     source.gives_its_bytes();
     read
 }

@@ -2,10 +2,12 @@
 ghost use Rattle.std.specs.Prelude.{◌≡◌, ◌≤◌, ◌+◌, ◌++◌, [], length};
 ghost use Rattle.aig_fault.specs.Words.{kind_of_number, message_text, number_text};
 ghost use Rattle.aig_io.specs.declared.block.TheConstants.{ROOM};
-ghost use Rattle.aig_library.specs.Message.{IsWritten, outcome_text, place_of, words_of};
+ghost use Rattle.aig_library.specs.Message.{IsWritten, fault_words, outcome_text, place_of};
+ghost use Rattle.aig_library.specs.Message.{words_of};
 
 use crate::outcome::{
-    BAD, GATE, INPUT, LINE, MAP_LINE, OUT_OF_MEMORY, OUTPUT, Outcome, REFUSED, VALUE, WORD,
+    BAD, GATE, INPUT, LINE, MAP_LINE, OUT_OF_MEMORY, OUTPUT, Outcome, REFUSED, SECOND_REFUSED,
+    VALUE, WORD,
 };
 use aig_core::Block;
 use aig_fault::{Kind, Message, Place};
@@ -71,8 +73,18 @@ fn put_kind(words: &mut Block, number: u32, subject: u32)
     }
 }
 
-/// Puts the words for an outcome.
+/// Puts where it is wrong, and what.
 #[tactic(auto, using(crate::proofs::Messages::place_short))]
+fn put_fault(words: &mut Block, outcome: &Outcome)
+    requires { words.old ≡ [] }
+    ensures value { words.new ≡ fault_words outcome.now }
+    ensures short { length words.new ≤ 80 }
+{
+    put_message(words, &place_of(outcome.place, outcome.number).words());
+    put_kind(words, outcome.kind, outcome.subject);
+}
+
+/// Puts the words for an outcome.
 fn put_words(words: &mut Block, outcome: &Outcome)
     requires { words.old ≡ [] }
     ensures value { words.new ≡ outcome_text outcome.now }
@@ -80,10 +92,7 @@ fn put_words(words: &mut Block, outcome: &Outcome)
 {
     match outcome.status {
         OUT_OF_MEMORY => put(words, "out of memory"),
-        REFUSED => {
-            put_message(words, &place_of(outcome.place, outcome.number).words());
-            put_kind(words, outcome.kind, outcome.subject);
-        }
+        REFUSED | SECOND_REFUSED => put_fault(words, outcome),
         _ => {}
     }
 }

@@ -15,8 +15,9 @@ use Rattle.aig_circuit.specs.declared.circuit.TheConstants.{LARGEST}
 use Rattle.aig_circuit.specs.Literal.{literal_of, negation_of}
 use Rattle.aig_circuit.specs.Wellformed.{IsVariableUpTo, IsWellFormed}
 use Rattle.aig_circuit.proofs.Checking.{all_weaker, back, front}
-use Rattle.aig_image.specs.Relabelled.{relabelled_latch, relabelled_literal}
+use Rattle.aig_image.specs.Relabelled.{relabelled_gate, relabelled_latch, relabelled_literal}
 use Rattle.aig_miter.specs.Miter.{compared, differences, first_compared, moved, plain_miter, shifted}
+use Rattle.aig_miter.specs.Outcome.{miter_steps}
 use Rattle.aig_miter.specs.Parts.Comparable.{AreComparable, more_for}
 use Rattle.aig_miter.specs.Starts.{free_among, free_literals, free_only, miter, negations, pairs, started_miter}
 
@@ -122,6 +123,15 @@ free_moved h ls =
 
 pub pairs_moved : (c d : Circuit) → min (length (free_literals c)) (length (free_literals (moved c d))) ≡ pairs c d
 pairs_moved c d = ap (λ (n : ℕ). min (length (free_literals c)) n) (free_moved (shifted c.max_var) d.latches)
+
+pub steps_moved : (c d : Circuit) → miter_steps c (moved c d) ≡ miter_steps c d
+steps_moved c d =
+    omega (
+      arith,
+      length-map d.gates (relabelled_gate (shifted c.max_var)),
+      length-map d.inputs (shifted c.max_var),
+      pairs_moved c d,
+    )
 
 pub negations_many : (v : ℕ) (xs : List ℕ) → length (negations v xs) ≡ length xs
 negations_many v [] = refl

@@ -9,6 +9,7 @@ ghost use Rattle.aig_miter.specs.Parts.Moved.{side_by_side};
 use crate::gates::{put_differences, put_negations, put_ties};
 use crate::lists::{extend, reserve};
 use aig_circuit::{Circuit, Gate, Listing, Lit, Var};
+use aig_image::Steps;
 use std::alloc::{AllocError, Global};
 
 /// The literals of a circuit that are compared.
@@ -39,12 +40,17 @@ fn put_gates(
     inputs: &[Var],
     second: &Circuit,
     gates: &mut Listing<Gate>,
+    steps: &mut Steps,
 ) -> Result<(), AllocError>
     requires inputs { length second.now.inputs ≡ length inputs.now }
     requires low { All (λ v. v ≤ largest) inputs.now }
-    ensures { OnOk result
+    ensures gates { OnOk result
         (gates.new ≡ gates.old ++ (tied inputs.now second.now.inputs ++ second.now.gates)) }
+    ensures counted { steps.new.count
+        ≡ steps.old.count + (length second.now.gates + length second.now.inputs) }
 {
+    steps.add(second.gates.len() as u64);
+    steps.add(second.inputs.len() as u64);
     put_ties(inputs, second.inputs.as_slice(), gates)?;
     extend(alloc, gates, second.gates.as_slice())
 }
@@ -57,19 +63,31 @@ pub(crate) fn put_beside(
     first: &mut Circuit,
     second: &Circuit,
     later: usize,
+    steps: &mut Steps,
 ) -> Result<(), AllocError>
     requires inputs { length second.now.inputs ≡ length first.old.inputs }
     requires low { All (λ v. v ≤ largest) first.old.inputs }
     requires room { first.old.max_var + second.now.max_var + 3 * length (compared first.old)
         ≤ largest }
-    ensures { OnOk result (first.new ≡ side_by_side first.old second.now) }
+    ensures beside { OnOk result (first.new ≡ side_by_side first.old second.now) }
+    ensures counted { OnOk result (steps.new.count ≡ steps.old.count
+        + (length second.now.gates + length second.now.inputs + 3 * length (compared first.old))) }
+    ensures few { steps.new.count ≤ steps.old.count
+        + (length second.now.gates + length second.now.inputs + 3 * length (compared first.old)) }
 {
     let ones = list_compared(alloc, first)?;
     let others = list_compared(alloc, second)?;
     let before = first.max_var + second.max_var;
     let comparing = later.saturating_add(3 * ones.len());
     make_room(alloc, second, comparing, &mut first.gates)?;
-    put_gates(alloc, first.inputs.as_slice(), second, &mut first.gates)?;
+    steps.add(3 * ones.len() as u64);
+    put_gates(
+        alloc,
+        first.inputs.as_slice(),
+        second,
+        &mut first.gates,
+        steps,
+    )?;
     extend(alloc, &mut first.latches, second.latches.as_slice())?;
     first.bad = Listing::new(alloc);
     put_differences(

@@ -9,6 +9,7 @@ ghost use Rattle.aig_miter.specs.Starts.{free_among, with_equal_starts};
 
 use crate::gates::{put_differences, put_gates_with};
 use aig_circuit::{Circuit, Latch, Listing, Lit, Reset, Var};
+use aig_image::Steps;
 use std::alloc::{AllocError, Global};
 
 /// The literals of uninitialised latches.
@@ -33,10 +34,15 @@ fn put_equal_starts(
     circuit: &mut Circuit,
     ones: &[Lit],
     others: &[Lit],
+    steps: &mut Steps,
 ) -> Result<(), AllocError>
     requires { circuit.old.max_var + 1 + 4 * min (length ones.now) (length others.now) ≤ largest }
-    ensures { OnOk result (circuit.new ≡ with_equal_starts ones.now others.now circuit.old) }
+    ensures equal { OnOk result
+        (circuit.new ≡ with_equal_starts ones.now others.now circuit.old) }
+    ensures counted { steps.new.count
+        ≡ steps.old.count + 4 * min (length ones.now) (length others.now) }
 {
+    steps.add(4 * ones.len().min(others.len()) as u64);
     let later = circuit.max_var + 1;
     let latch = Latch {
         var: Var(later),
@@ -63,13 +69,16 @@ pub(crate) fn put_starts(
     circuit: &mut Circuit,
     ones: &[Lit],
     others: &[Lit],
+    steps: &mut Steps,
 ) -> Result<(), AllocError>
     requires { circuit.old.max_var + more_for (min (length ones.now) (length others.now))
         ≤ largest }
-    ensures { OnOk result (circuit.new ≡ with_starts ones.now others.now circuit.old) }
+    ensures alike { OnOk result (circuit.new ≡ with_starts ones.now others.now circuit.old) }
+    ensures counted { steps.new.count
+        ≡ steps.old.count + 4 * min (length ones.now) (length others.now) }
 {
     if ones.len().min(others.len()) == 0 {
         return Ok(());
     }
-    put_equal_starts(alloc, circuit, ones, others)
+    put_equal_starts(alloc, circuit, ones, others, steps)
 }

@@ -9,17 +9,18 @@ use Rattle.aig_io.specs.Devices.{History, failed_once, took}
 use Rattle.aig_io.specs.Runs.{AtEnd, Broken, Ending, IsUnbroken, Open, Read}
 use Rattle.aig_io.proofs.Took.{took_none, took_twice}
 use Rattle.aig_refute.specs.Agree.{Agrees}
-use Rattle.aig_refute.specs.Refuted.{EndsFor, IsLineFault, ReadingSays}
+use Rattle.aig_refute.specs.Refuted.{EndsFor, IsLineFault, Keeps, ReadingSays}
 use Rattle.aig_refute.specs.declared.checker.Checker.{Checker}
+use Rattle.aig_refute.proofs.Kept.{keeps_both, keeps_same}
 
--- so many bytes came, and whatever agreed at first agrees now
+-- so many bytes came, and each assignment that agreed at first has one that agrees now
 pub record HasFollowed (source source_now : History) (old new : Checker) : Type 0 where
   pub bytes : List ℕ
   pub history : source_now ≡ took bytes source
-  pub agrees : (a : ℕ → Bool) → Agrees a old.propagation.kernel → Agrees a new.propagation.kernel
+  pub keeps : Keeps old new
 
 pub has_followed_none : (source : History) (checker : Checker) → HasFollowed source source checker checker
-has_followed_none source checker = record { bytes = []; history = took_none source; agrees = λ a agrees. agrees }
+has_followed_none source checker = record { bytes = []; history = took_none source; keeps = keeps_same checker }
 
 ends_for : (stopped : Stopped) (ending : Ending) → StopsFor IsLineFault stopped → IsUnbroken ending
     → EndsFor stopped ending
@@ -41,7 +42,7 @@ module _ (a b : History) (old now : Checker) (so : HasFollowed a b old now) wher
     refuted_last none = record {
       bytes = so.bytes;
       ending = AtEnd;
-      says = (refl, λ x agrees. none x (so.agrees x agrees));
+      says = (refl, λ x agrees. let last = so.keeps.admits x agrees in none last.0 last.1);
       came = is ∙ ap at_end so.history;
     }
 
@@ -59,12 +60,12 @@ module _ (a b : History) (old now : Checker) (so : HasFollowed a b old now) wher
   -- more came
   module _ (c : History) (chunk : List ℕ) (came : c ≡ took chunk b) where
     pub has_followed_more : (next : Checker)
-        → ((x : ℕ → Bool) → Agrees x now.propagation.kernel → Agrees x next.propagation.kernel)
+        → Keeps now next
         → HasFollowed a c old next
-    has_followed_more next agrees = record {
+    has_followed_more next keeps = record {
       bytes = so.bytes ++ chunk;
       history = took_twice a b c so.bytes chunk so.history came;
-      agrees = λ x old_agrees. agrees x (so.agrees x old_agrees);
+      keeps = keeps_both old now next so.keeps keeps;
     }
 
     pub wrong_within : (stopped : Stopped) → StopsFor IsLineFault stopped → Read (ReadingSays old (Err stopped)) a c

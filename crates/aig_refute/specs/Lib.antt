@@ -1,3 +1,4 @@
 pub mod Store
+pub mod Extended
 pub mod Agree
 pub mod Refuted

@@ -1,7 +1,7 @@
 -- What comes of a refutation that is read (this project's profile).
 use Rattle.std.specs.Prelude.{◌≡◌, ◌⊎◌, ℕ, List, Bool, Result, Ok, Err, ⊤}
 use Rattle.aig_circuit.specs.declared.circuit.Circuit.{Circuit}
-use Rattle.aig_cnf.specs.Clauses.{Satisfies, bad_clauses}
+use Rattle.aig_cnf.specs.Clauses.{HasTrue, Satisfies, bad_clauses}
 use Rattle.aig_fault.specs.Stopping.{fault_at}
 use Rattle.aig_fault.specs.declared.fault.Fault.{Fault}
 use Rattle.aig_fault.specs.declared.fault.Place.TheVariants.{Line, Whole}
@@ -15,6 +15,14 @@ use Rattle.aig_refute.specs.declared.checker.Checker.{Checker}
 -- each clause that a checker keeps has a true literal, and each literal that it knows is true
 abbrev pub Admits : Checker → (ℕ → Bool) → Type 0
 Admits checker a = Agrees a checker.propagation.kernel
+
+-- an assignment that is admitted makes this clause true beside them
+abbrev pub CanExtend : List ℕ → Checker → Type 0
+CanExtend clause checker = (b : ℕ → Bool) × (Admits checker b) × (HasTrue b clause)
+
+-- each assignment that was admitted has one that is admitted now
+pub record Keeps (old new : Checker) : Type 0 where
+  pub admits : (a : ℕ → Bool) → Admits old a → (b : ℕ → Bool) × (Admits new b)
 
 -- this is wrong with a line
 abbrev pub IsLineFault : Fault → Type 0

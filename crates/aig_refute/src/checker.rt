@@ -1,9 +1,11 @@
 //! Clauses, and what follows from them: what was given, and what a refutation adds.
-ghost use Rattle.std.specs.Prelude.{◌≡◌, ℕ, Bool, true, IfErr, IfOk, OnOk};
+ghost use Rattle.std.specs.Prelude.{◌≡◌, ℕ, All, Bool, true, IfErr, IfOk, OnOk};
 ghost use Rattle.aig_cnf.specs.Clauses.{HasTrue};
 ghost use Rattle.aig_refute.specs.Agree.{Excludes, Supposes};
-ghost use Rattle.aig_refute.specs.Refuted.{Admits, IsLineFault};
 ghost use Rattle.aig_fault.specs.Stopping.{StopsFor};
+ghost use Rattle.aig_refute.specs.Extended.{made_true};
+ghost use Rattle.aig_refute.specs.Refuted.{Admits, CanExtend, IsLineFault, Keeps};
+ghost use Rattle.aig_refute.specs.Store.{IsFalse};
 
 use crate::clause_table::ClauseTable;
 use crate::kernel::Derived;
@@ -19,10 +21,22 @@ const LEAST_GARBAGE: usize = 100_000;
 /// Clauses, and what follows from them.
 #[derive(Drop)]
 pub struct Checker {
+    alloc: Global,
     propagation: Propagation,
     table: ClauseTable,
     /// About how many words of the store belong to clauses that were let go.
     garbage: usize,
+}
+
+/// The largest literal of a clause, or 0.
+fn largest(clause: &[u32]) -> u32 {
+    let mut most = 0;
+    for literal in clause {
+        if *literal > most {
+            most = *literal;
+        }
+    }
+    most
 }
 
 impl Checker {
@@ -32,6 +46,7 @@ impl Checker {
     {
         let literals = max_var.saturating_mul(2).saturating_add(2) as usize;
         Ok(Checker {
+            alloc,
             propagation: Propagation::new(alloc, literals)?,
             table: ClauseTable::new(alloc, literals)?,
             garbage: 0,
@@ -131,17 +146,81 @@ impl Checker {
         Ok(conflict)
     }
 
-    /// Adds a clause if it follows, and answers whether it does.
-    fn add(&mut self, clause: &[u32]) -> Result<bool, AllocError>
+    /// Whether all clauses follow by unit propagation.
+    fn follow_all(&mut self, clauses: &[Vec<u32>]) -> Result<bool, AllocError>
+        ensures agrees { OnOk result ((a : ℕ → Bool) → Admits self.old a
+            → Admits self.new a) }
+        ensures follow { IfOk result (λ yes. yes ≡ true → (a : ℕ → Bool)
+            → Admits self.old a → All (λ c. HasTrue a c.items) clauses.now) }
+    {
+        for k in 0..clauses.len() {
+            if !self.follows(&clauses[k])? {
+                return Ok(false);
+            }
+        }
+        Ok(true)
+    }
+
+    /// Whether the pivot can be made true where a clause does not hold, by unit propagation.
+    fn can_make_true(&mut self, clause: &[u32], pivot: u32) -> Result<bool, AllocError>
+        ensures agrees { OnOk result ((a : ℕ → Bool) → Admits self.old a
+            → Admits self.new a) }
+        ensures made { IfOk result (λ yes. yes ≡ true → (a : ℕ → Bool)
+            → Admits self.old a → IsFalse a clause.now → Admits self.new (made_true pivot a)) }
+    {
+        let alloc = self.alloc;
+        match self.propagation.kernel.resolvents(alloc, clause, pivot)? {
+            Some(joined) => {
+                let do_follow = self.follow_all(&joined)?;
+                Ok(do_follow)
+            }
+            None => Ok(false),
+        }
+    }
+
+    /// Whether the first literal of a clause can be made true where that does not hold, by unit
+    /// propagation.
+    fn extends(&mut self, clause: &[u32]) -> Result<bool, AllocError>
+        ensures agrees { OnOk result ((a : ℕ → Bool) → Admits self.old a
+            → Admits self.new a) }
+        ensures extends { IfOk result (λ yes. yes ≡ true → (a : ℕ → Bool)
+            → Admits self.old a → CanExtend clause.now self.new) }
+    {
+        if clause.is_empty() {
+            return Ok(false);
+        }
+        let can_extend = self.can_make_true(clause, clause[0])?;
+        Ok(can_extend)
+    }
+
+    /// There is room for the literals of a clause.
+    fn make_room(&mut self, clause: &[u32]) -> Result<(), AllocError>
         ensures { OnOk result ((a : ℕ → Bool) → Admits self.old a
             → Admits self.new a) }
     {
+        let most = largest(clause) as usize;
+        if most >= self.literals() {
+            let literals = (most | 1).saturating_add(1);
+            self.propagation.make_room(literals)?;
+            self.table.make_room(literals)?;
+        }
+        Ok(())
+    }
+
+    /// Adds a clause if it follows, or brings in a new variable, and answers whether it does.
+    fn add(&mut self, clause: &[u32]) -> Result<bool, AllocError>
+        ensures { OnOk result (Keeps self.old self.new) }
+    {
+        self.make_room(clause)?;
         if self.follows(clause)? {
             self.add_given(clause)?;
-            Ok(true)
-        } else {
-            Ok(false)
+            return Ok(true);
         }
+        if self.extends(clause)? {
+            self.add_given(clause)?;
+            return Ok(true);
+        }
+        Ok(false)
     }
 
     /// Lets a clause go, if it is found.
@@ -186,9 +265,9 @@ impl Checker {
     }
 
     /// Does what a line says.
+    #[tactic(auto, using(crate::proofs::Kept::keeps_all, crate::proofs::Kept::keeps_same))]
     fn follow_line(&mut self, reader: &RefutationReader, end: LineEnd) -> Result<(), Stopped>
-        ensures agrees { OnOk result ((a : ℕ → Bool) → Admits self.old a
-            → Admits self.new a) }
+        ensures keeps { OnOk result (Keeps self.old self.new) }
         ensures err { IfErr result (StopsFor IsLineFault) }
     {
         match end {
@@ -210,9 +289,9 @@ impl Checker {
 
     /// Follows a piece of a refutation, until the clauses are refuted or a line is wrong. What
     /// comes once they are is not looked at.
+    #[tactic(auto, using(crate::proofs::Kept::keeps_both, crate::proofs::Kept::keeps_same))]
     pub fn follow(&mut self, reader: &mut RefutationReader, piece: &[u8]) -> Result<(), Stopped>
-        ensures agrees { OnOk result ((a : ℕ → Bool) → Admits self.old a
-            → Admits self.new a) }
+        ensures keeps { OnOk result (Keeps self.old self.new) }
         ensures err { IfErr result (StopsFor IsLineFault) }
     {
         if self.is_refuted() {

@@ -1,8 +1,9 @@
 //! Refutations of clauses, checked.
 //!
 //! A refutation (DRAT, as text or binary) adds clauses one after the other, each of which follows
-//! from those before it, up to one that no assignment satisfies. Here a clause is added only where
-//! unit propagation shows that it follows, so the refutation is not believed.
+//! from those before it, or brings in a variable, up to one that no assignment satisfies. Here a
+//! clause is added only where unit propagation shows that it follows, or that its first literal, if
+//! no clause of the model has it, can be made true. So the refutation is not believed.
 //!
 //! Others call `check_refutation` with a circuit and a source; or parts of that, a `Checker`, which
 //! is given clauses, and `read_refutation`.
@@ -17,6 +18,7 @@ mod kernel;
 mod propagation;
 mod reader;
 mod reading;
+mod store;
 mod words;
 
 pub use crate::checker::Checker;

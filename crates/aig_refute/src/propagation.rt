@@ -34,6 +34,17 @@ pub(crate) struct Propagation {
     next: usize,
 }
 
+/// Takes out what stands from the one place up to the other, if anything does.
+fn take_out(list: &mut Vec<Watch>, from: usize, to: usize) {
+    if from >= to || to > list.len() {
+        return;
+    }
+    for at in to..list.len() {
+        list[at - to + from] = list[at];
+    }
+    list.truncate(list.len() - (to - from));
+}
+
 impl Propagation {
     /// No clauses, over literals below this one.
     pub(crate) fn new(alloc: Global, literals: usize) -> Result<Propagation, AllocError>
@@ -49,6 +60,25 @@ impl Propagation {
             watches,
             next: 0,
         })
+    }
+
+    /// No clause is watched by one more literal.
+    fn add_room(&mut self) -> Result<(), AllocError>
+        ensures { self.new.kernel ≡ self.old.kernel }
+    {
+        self.watches.push(Vec::new(self.alloc))?;
+        Ok(())
+    }
+
+    /// There is room for the literals below this one.
+    #[tactic(auto, using(crate::proofs::Later::grows_both, crate::proofs::Later::grows_same))]
+    pub(crate) fn make_room(&mut self, literals: usize) -> Result<(), AllocError>
+        ensures { Grows self.old.kernel self.new.kernel }
+    {
+        for _literal in self.watches.len()..literals {
+            self.add_room()?;
+        }
+        self.kernel.make_room(literals)
     }
 
     /// A literal watches a clause from now on.
@@ -94,7 +124,7 @@ impl Propagation {
         }
     }
 
-    /// Looks at the clauses of a list, and answers whether one is false.
+    /// Looks at the clauses of a list, and answers whether one is false: then the rest stays.
     #[tactic(auto, using(crate::proofs::Later::grows_both, crate::proofs::Later::grows_same))]
     fn pass_list(&mut self, literal: u32, list: &mut Vec<Watch>) -> Result<bool, AllocError>
         ensures grows { Grows self.old.kernel self.new.kernel }
@@ -102,20 +132,14 @@ impl Propagation {
             → (a : ℕ → Bool) → ¬ Agrees a self.old.kernel) }
     {
         let mut kept = 0;
-        let mut conflict = false;
         for at in 0..list.len() {
             let watch = list[at];
-            let look = if conflict {
-                Look::Kept(watch.blocking)
-            } else {
-                self.look(literal, watch)?
-            };
-            let blocking = match look {
+            let blocking = match self.look(literal, watch)? {
                 Look::Kept(blocking) => blocking,
                 Look::Left => continue,
                 Look::Conflict => {
-                    conflict = true;
-                    watch.blocking
+                    take_out(list, kept, at);
+                    return Ok(true);
                 }
             };
             list[kept] = Watch {
@@ -125,7 +149,7 @@ impl Propagation {
             kept += 1;
         }
         list.truncate(kept);
-        Ok(conflict)
+        Ok(false)
     }
 
     /// Looks at the clauses that a literal watches which has become false, and answers whether one
@@ -190,7 +214,7 @@ impl Propagation {
     /// Forgets all but the first so many literals.
     pub(crate) fn forget(&mut self, base: usize)
         requires { base ≤ length self.old.kernel.trail.items }
-        ensures words { self.new.kernel.words ≡ self.old.kernel.words }
+        ensures store { self.new.kernel.store ≡ self.old.kernel.store }
         ensures refuted { self.new.kernel.refuted ≡ self.old.kernel.refuted }
         ensures extends { Extends self.new.kernel.trail.items self.old.kernel.trail.items }
         ensures len { length self.new.kernel.trail.items ≡ base }

@@ -125,7 +125,7 @@ impl RefutationReader {
     /// A literal by its code: twice the number of the variable, and one more if it is negated.
     #[inline(always)]
     fn push_code(&mut self, code: u64) -> Result<LineEnd, AllocError> {
-        if code < 2 || code - 2 >= self.limit {
+        if code < 2 || code - 2 >= self.limit.saturating_add(self.line.saturating_mul(2)) {
             return Ok(self.refuse());
         }
         if let Ok(literal) = u32::try_from(code - 2) {

@@ -16,5 +16,5 @@ pub use aig_fault::{Fault, Kind, Place, Stopped};
 pub use aig_lanes::{FullRow, Run, Trace};
 pub use aig_runs::simulate_batch;
 pub use aig_step::{Columns, Row, Simulator};
-pub use aig_trace::simulate;
+pub use aig_trace::{simulate, simulate_into};
 pub use aig_witness::{Verdict, confirm};

@@ -1,5 +1,5 @@
 -- What is written where a simulation is done.
-use Rattle.std.proofs.Common.{◌≡◌, ℕ, List, Bool, true, false, Option, None, Some, Ok, Err, MatchBool, ap}
+use Rattle.std.proofs.Common.{◌≡◌, ℕ, List, Bool, true, false, Option, None, Some, Result, Ok, Err, MatchBool, ap}
 use Rattle.std.proofs.Common.{if◌then◌else◌}
 use Rattle.std.proofs.Common.{refl, ◌∙◌, ◌++◌}
 use Rattle.aig_io.specs.Devices.{History, took}
@@ -13,14 +13,23 @@ use Rattle.aig_witness.specs.declared.verdict.Verdict.{Verdict}
 use Rattle.aig_fault.specs.declared.stopped.Stopped.{Stopped}
 use Rattle.aig_fault.specs.declared.stopped.Stopped.TheVariants as stops
 use Rattle.aig_claims.specs.RunDump.{HasNoDump, JudgedWith, comment_line}
-use Rattle.aig_dump.specs.Dumped.{TraceSaysAs, meant}
+use Rattle.aig_dump.specs.Dumped.{TraceSaysAs}
+use Rattle.aig_trace.specs.Taken.{meant}
 use Rattle.aig_dump.specs.InMemory.{JudgedRun}
 use Rattle.aig_wave.specs.Wave.{wave_text}
 use Rattle.aig_commands.specs.File.{IsFileOf}
 use Rattle.aig_commands.specs.Simulation.{IsDumpText, IsSimulationText, columns_of, task_of}
-use Rattle.aig_tools.specs.SimulationOutcome.{SimulationsWriteTheirTexts, TaskSays}
+use Rattle.aig_tools.specs.SimulationOutcome.{OfSteps, SimulationsWriteTheirTexts, TaskSays, without_verdict}
 use Rattle.aig_commands.specs.WitnessDump.{RunDumpSays}
 use Rattle.aig_commands.specs.declared.task.Task.TheVariants as tasks
+
+-- steps that were answered without a verdict
+pub of_steps : (Says : Result (Unit {0}) Stopped → List ℕ → Ending → List ℕ → Delivery → Type 0)
+    (result : Result (Unit {0}) Stopped) (source source_now sink sink_now : History)
+    → Transferred (Says result) source source_now sink sink_now
+    → Transferred (OfSteps Says (without_verdict result)) source source_now sink sink_now
+of_steps Says (Ok done) source source_now sink sink_now ran = ran
+of_steps Says (Err stopped) source source_now sink sink_now ran = ran
 
 -- whether as a batch or not, what is done is said alike
 traced : (batch : Bool) (c : Circuit) (columns : Columns) (bytes text : List ℕ) (ending : Ending) (delivery : Delivery)

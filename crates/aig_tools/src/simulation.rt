@@ -1,58 +1,17 @@
 //! `aigsim`: simulation of AIGER files, and witness files that are judged.
 ghost use Rattle.std.specs.Prelude.{◌≡◌, false};
 ghost use Rattle.aig_io.specs.Runs.{Transferred};
-ghost use Rattle.aig_dump.specs.Dumped.{DumpSays, TraceSaysAs};
 ghost use Rattle.aig_commands.specs.Outcome.{TransferredFor};
 ghost use Rattle.aig_commands.specs.WitnessDump.{RunDumpSays};
 ghost use Rattle.aig_commands.specs.Simulation.{task_of};
-ghost use Rattle.aig_tools.specs.SimulationOutcome.{OfSteps, TaskSays, without_verdict};
+ghost use Rattle.aig_tools.specs.SimulationOutcome.{TaskSays, without_verdict};
 
 use aig_command::Sim;
-use aig_commands::{Stopped, Task, judge, read_circuit, task_of};
+use aig_commands::{Stopped, Task, judge, read_source, task_of};
 use aig_core::{Checked, Keep, Sink, Source};
 use aig_dump::{read_and_dump, send_dump, write_dump, write_trace};
-use aig_step::Columns;
 use aig_witness::Verdict;
 use std::alloc::Global;
-
-/// Writes the trace of a stimulus.
-fn trace_stimulus<R: Source, W: Sink>(
-    alloc: Global,
-    batch: bool,
-    columns: Columns,
-    found: Checked,
-    stimulus: &mut R,
-    output: &mut W,
-) -> Result<Option<Verdict>, Stopped>
-    ensures stimulus { (R.history stimulus.new).origin ≡ (R.history stimulus.old).origin }
-    ensures transferred { Transferred (OfSteps (TraceSaysAs batch found columns) result)
-        (R.history stimulus.old) (R.history stimulus.new) (W.history output.old)
-        (W.history output.new) }
-{
-    let written = write_trace(alloc, batch, &found, columns, stimulus, output);
-    drop(found); // for the proof
-    written?;
-    Ok(None)
-}
-
-/// Writes the dump of that trace.
-fn dump_stimulus<R: Source, W: Sink>(
-    alloc: Global,
-    batch: bool,
-    found: Checked,
-    stimulus: &mut R,
-    output: &mut W,
-) -> Result<Option<Verdict>, Stopped>
-    ensures stimulus { (R.history stimulus.new).origin ≡ (R.history stimulus.old).origin }
-    ensures transferred { Transferred (OfSteps (DumpSays batch found) result)
-        (R.history stimulus.old) (R.history stimulus.new) (W.history output.old)
-        (W.history output.new) }
-{
-    let written = write_dump(alloc, batch, &found, stimulus, output);
-    drop(found); // for the proof
-    written?;
-    Ok(None)
-}
 
 /// Judges a witness file, and writes the verdict in a comment and the dump of the run. The file is
 /// read to its end first, and all of the dump is made before anything is sent.
@@ -87,10 +46,16 @@ pub(crate) fn perform<R: Source, W: Sink>(
         (W.history output.new) }
 {
     match task {
-        Task::Trace { batch, columns } => trace_stimulus(
-            alloc, batch, columns, found, stimulus, output,
-        ),
-        Task::Dump { batch } => dump_stimulus(alloc, batch, found, stimulus, output),
+        Task::Trace { batch, columns } => {
+            let written = write_trace(alloc, batch, &found, columns, stimulus, output);
+            drop(found); // for the proof
+            without_verdict(written)
+        }
+        Task::Dump { batch } => {
+            let written = write_dump(alloc, batch, &found, stimulus, output);
+            drop(found); // for the proof
+            without_verdict(written)
+        }
         Task::Verdict => Ok(Some(judge(alloc, found, stimulus, output)?)),
         Task::RunDump => Ok(Some(dump_run(alloc, found, stimulus, output)?)),
     }
@@ -125,7 +90,7 @@ pub fn run_sim<M: Source, R: Source, W: Sink>(
         (R.history stimulus.old) (R.history stimulus.new) (W.history output.old)
         (W.history output.new) }
 {
-    let found = read_circuit(alloc, model, request.max_var, Keep::Order)?;
+    let found = read_source(alloc, model, request.max_var, Keep::Order)?;
     perform(alloc, task_of(request), found, stimulus, output)?;
     Ok(())
 }

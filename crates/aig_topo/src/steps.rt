@@ -29,8 +29,9 @@ impl Steps {
         }
     }
 
+    /// Counts so many steps more.
     #[inline(always)]
-    pub(crate) fn add(&mut self, steps: u64)
+    pub fn add(&mut self, steps: u64)
         ensures { self.new.count ≡ self.old.count + steps }
     {
         self.made.note(&[steps], &[]);

@@ -1,3 +1,4 @@
+pub mod Taken
 pub mod RunTexts
 pub mod Shows
 pub mod Traced

@@ -3,11 +3,11 @@ use Rattle.std.proofs.Common.{◌≡◌, ◌∙◌, ◌<◌, ◌∷◌, ◌++◌
 use Rattle.std.proofs.Common.{subst, sym, true, false, Bool, Some, None, append_assoc, get_or, take}
 use Rattle.std.proofs.lemmas.List.{take_more}
 use Rattle.aig_lanes.specs.declared.bench.Bench.{Bench}
+use Rattle.aig_lanes.specs.declared.run.Run.{Run}
 use Rattle.aig_lanes.specs.Parts.Benches.{HasSameRoom}
 use Rattle.aig_circuit.specs.declared.circuit.Circuit.{Circuit}
 use Rattle.aig_circuit.specs.declared.circuit.Latch.{Latch}
 use Rattle.aig_circuit.specs.declared.value.Val.{Val}
-use Rattle.aig_io.specs.Output.{Appended, Out}
 use Rattle.aig_meaning.specs.Meaning.{IsRow, Row, literal_value}
 use Rattle.aig_meaning.specs.Trace.{reset_state, reset_value}
 use Rattle.aig_lanes.specs.declared.lane_columns.LaneColumns.{LaneColumns}
@@ -16,8 +16,9 @@ use Rattle.aig_lanes.specs.Parts.LaneTexts.{KeepsRun, KeepsTrace, shown_text}
 use Rattle.aig_lanes.specs.Parts.Sheets.{BytesText, text_in}
 use Rattle.aig_step.specs.declared.trace.Columns.{Columns}
 use Rattle.aig_step.specs.Stimulus.{Entry, Step, Stop, entry_in}
+use Rattle.aig_trace.specs.Taken.{IsRowText, Took}
 use Rattle.aig_step.specs.TraceText.{row_text, values_text}
-use Rattle.aig_lanes.proofs.Benches.ShownTexts.{line_kept}
+use Rattle.aig_lanes.proofs.Benches.ShownTexts.{line_kept, no_row}
 use Rattle.aig_lanes.proofs.Benches.Steps.{steps_room_stays}
 use Rattle.aig_trace.specs.declared.side_by_side.SideBySide.{SideBySide}
 use Rattle.aig_trace.specs.declared.waiting.Waiting.{Waiting}
@@ -27,6 +28,17 @@ use Rattle.aig_trace.specs.Parts.Taking.{KeepsLanes, ShowsSteps}
 use Rattle.aig_trace.specs.Parts.Waits.{Serves}
 use Rattle.aig_trace.proofs.RunTexts.{goes_one}
 use Rattle.aig_trace.proofs.Traced.{did_twice}
+
+-- what is kept of a step of a run is the line of a row
+pub kept_row : (c : Circuit) (run : Run) (lane : ℕ) (shown : LaneColumns) (sheet : List BytesText)
+    → KeepsRun c run lane shown sheet → (step : ℕ) → step < length run.steps
+    → IsRowText (shown_text shown step (values_text (get_or run.steps step [])) (text_in lane sheet))
+kept_row c run lane shown sheet (rows, keeps) step below = record {
+  columns = shown.columns;
+  row = get_or rows step no_row;
+  is = line_kept shown step (get_or run.steps step []) (text_in lane sheet) (get_or rows step no_row)
+      (keeps.each step no_row (omega (arith, below, keeps.count)));
+}
 
 -- the row that a lane shows
 pub record ShowsRow (c : Circuit) (vector : List Val) (shown : LaneColumns) (text : List ℕ) : Type 0 where
@@ -54,12 +66,13 @@ no_values [] none = refl
 no_values (v ∷ vs) none = absurd (omega (arith, none))
 
 -- the line of a step was put, which a lane shows
-pub did_step : {W : Type 0} (t u : Tracing) (a b : Out W) (vector : List Val) (shown : LaneColumns)
-    (sheet : List BytesText) (lane : ℕ) → t.circuit.latches ≡ [] → length t.state ≡ length t.circuit.latches
+pub did_step : {W : Type 0} {H : W → W → List ℕ → Type 0} (t u : Tracing) (a b : W) (vector : List Val)
+    (shown : LaneColumns) (sheet : List BytesText) (lane : ℕ) → t.circuit.latches ≡ []
+    → length t.state ≡ length t.circuit.latches
     → u ≡ record t { has_step = true } → shown.columns ≡ t.columns
     → KeepsRun t.circuit (one_step vector) lane shown sheet
-    → Appended a b (shown_text shown 0 (values_text vector) (text_in lane sheet)) → Did t u (Step vector ∷ []) a b
-did_step t u a b vector shown sheet lane none each noted columns keeps put =
+    → Took H a b (shown_text shown 0 (values_text vector) (text_in lane sheet)) → Did H t u (Step vector ∷ []) a b
+did_step {W} {H} t u a b vector shown sheet lane none each noted columns keeps put =
     let shows = shown_row t.circuit vector shown (text_in lane sheet) keeps.0 keeps.1 in
     let row = shows.row in
     let text : List ℕ = row_text t.columns row in
@@ -93,34 +106,36 @@ did_step t u a b vector shown sheet lane none each noted columns keeps put =
         (refl, refl),
         sym (append-nil text),
       );
-      put = subst (Appended a b) is put;
+      put = subst (Took H a b) is put;
     }
 
 -- one more of these was done
-pub did_on : {W : Type 0} (t u v : Tracing) (es : List Entry) (k : ℕ) (x y z : Out W) → k < length es
-    → Did t u (take k es) x y → Did u v (get_or es k Stop ∷ []) y z → Did t v (take (k + 1) es) x z
-did_on t u v es k x y z below first more =
-    subst (λ (fs : List Entry). Did t v fs x z) (sym (take_more es k Stop below))
+pub did_on : {W : Type 0} {H : W → W → List ℕ → Type 0} (t u v : Tracing) (es : List Entry) (k : ℕ) (x y z : W)
+    → k < length es → Did H t u (take k es) x y → Did H u v (get_or es k Stop ∷ []) y z
+    → Did H t v (take (k + 1) es) x z
+did_on {W} {H} t u v es k x y z below first more =
+    subst (λ (fs : List Entry). Did H t v fs x z) (sym (take_more es k Stop below))
     (did_twice t u v (take k es) (get_or es k Stop ∷ []) x y z first more)
 
 -- a line was taken of which it is known what it says
-pub taken : {W : Type 0} (t u : Tracing) (x y : Out W) (inputs : ℕ) (text : List ℕ) (e : Entry) (good : Bool)
+pub taken : {W : Type 0} {H : W → W → List ℕ → Type 0} (t u : Tracing) (x y : W) (inputs : ℕ) (text : List ℕ)
+    (e : Entry) (good : Bool)
     → inputs ≡ length t.circuit.inputs → entry_in inputs text ≡ Some e → IsSameTracer t u
-    → (good ≡ true → TookLine t u x y text) → (good ≡ false → entry_in (length t.circuit.inputs) text ≡ None)
-    → Did t u (e ∷ []) x y
-taken t u x y inputs text e true count says same took bad =
+    → (good ≡ true → TookLine H t u x y text) → (good ≡ false → entry_in (length t.circuit.inputs) text ≡ None)
+    → Did H t u (e ∷ []) x y
+taken {W} {H} t u x y inputs text e true count says same took bad =
     let line = took refl in
     let is : entry_in (length t.circuit.inputs) text ≡ Some e =
     ap (λ (n : ℕ). entry_in n text) (sym count) ∙ says in
     let one : line.entry ≡ e = cc (line.said, is) in
-    subst (λ (f : Entry). Did t u (f ∷ []) x y) one
+    subst (λ (f : Entry). Did H t u (f ∷ []) x y) one
     (record {
       same = same;
       text = line.line;
       goes = goes_one t.circuit t.columns (point_of t) (point_of u) line.entry line.line line.does;
       put = line.put;
     })
-taken t u x y inputs text e false count says same took bad =
+taken {W} {H} t u x y inputs text e false count says same took bad =
     let is : entry_in (length t.circuit.inputs) text ≡ Some e =
     ap (λ (n : ℕ). entry_in n text) (sym count) ∙ says in
     let none = bad refl in
@@ -144,9 +159,10 @@ shows_still a b same keeps shows j low =
     rw (same.circuit, keeps.waiting, keeps.shown, keeps.sheet) (shows j (rw (← keeps.waiting) low))
 
 -- a line was let in after those that wait
-pub accepted_by : {W : Type 0} (t u : LineTracing W) (waiting : List Entry) (text : List ℕ) (e : Entry) → MovedOn t u
-    → entry_in (length t.tracing.circuit.inputs) text ≡ Some e → waiting ≡ u.waiting ++ e ∷ []
-    → AcceptedLine t (record u { waiting = waiting }) text
+pub accepted_by : {W : Type 0} {H : W → W → List ℕ → Type 0} (t u : LineTracing W) (waiting : List Entry)
+    (text : List ℕ) (e : Entry) → MovedOn H t u → entry_in (length t.tracing.circuit.inputs) text ≡ Some e
+    → waiting ≡ u.waiting ++ e ∷ []
+    → AcceptedLine H t (record u { waiting = waiting }) text
 accepted_by t u waiting text e moved says waits = record {
   entry = e;
   said = says;

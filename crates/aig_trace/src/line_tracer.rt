@@ -1,26 +1,26 @@
-//! What takes the lines of a stimulus, and puts the text for them.
+//! What takes the lines of a stimulus, and hands on the lines of the trace for them.
 ghost use Rattle.std.specs.Prelude.{◌≡◌, [], codes, if◌then◌else◌, is_err};
-ghost use Rattle.aig_io.specs.Output.{Appended};
+ghost use Rattle.aig_trace.specs.Taken.{Took};
 ghost use Rattle.aig_trace.specs.Parts.Taking.{tracing_in, waiting_in};
 ghost use Rattle.aig_trace.specs.Parts.Tracing.{Did};
 
+use crate::row_taker::RowTaker;
 use crate::taker::Taker;
-use aig_io::{DeviceFault, Output, Sink};
+use aig_io::DeviceFault;
 use aig_lines::LineTaker;
 use std::marker::Model;
 
-/// What takes lines, and the output for the text.
-#[derive(Drop)]
-pub(crate) struct LineTracer<'a, W: Sink> {
+/// What takes lines, and what takes the text for them.
+pub(crate) struct LineTracer<T: RowTaker> {
     taker: Taker,
-    output: Output<'a, W>,
+    output: T,
 }
 
-impl<'a, W: Sink> Model for LineTracer<'a, W> {
+impl<T: RowTaker> Model for LineTracer<T> {
     ghost use Rattle.aig_trace.specs.Parts.Tracing.{LineTracing};
     ghost use Rattle.aig_trace.specs.Parts.Taking.{tracing_in, waiting_in};
 
-    ghost Value = { LineTracing W };
+    ghost Value = { LineTracing T };
 
     ghost view = { λ t. record {
       tracing = tracing_in t.taker;
@@ -29,13 +29,13 @@ impl<'a, W: Sink> Model for LineTracer<'a, W> {
     } };
 }
 
-impl<'a, W: Sink> LineTracer<'a, W> {
+impl<T: RowTaker> LineTracer<T> {
     /// It goes on from where the taker stands.
-    pub(crate) fn new(taker: Taker, output: Output<'a, W>) -> Self
+    pub(crate) fn new(taker: Taker, output: T) -> Self
         ensures { result ≡ record {
           tracing = tracing_in taker;
           waiting = waiting_in taker;
-          output = output.entry;
+          output = output;
         } }
     {
         LineTracer { taker, output }
@@ -43,7 +43,7 @@ impl<'a, W: Sink> LineTracer<'a, W> {
 
     /// Puts the text for all lines that wait.
     pub(crate) fn settle(&mut self)
-        ensures did { Did self.old.tracing self.new.tracing self.old.waiting
+        ensures did { Did T.took self.old.tracing self.new.tracing self.old.waiting
             self.old.output self.new.output }
         ensures settled { self.new.waiting ≡ [] }
     {
@@ -54,11 +54,11 @@ impl<'a, W: Sink> LineTracer<'a, W> {
 
     /// Puts the line that ends the run that is going on, if it has a step.
     pub(crate) fn end_run(&mut self)
-        ensures { Appended self.old.output self.new.output
+        ensures { Took T.took self.old.output self.new.output
             (if self.old.tracing.has_step then codes ".\n" else []) }
     {
         if self.taker.tracer().has_step() {
-            self.output.put(b".\n");
+            self.output.take_stop();
         }
     }
 
@@ -66,16 +66,16 @@ impl<'a, W: Sink> LineTracer<'a, W> {
     pub(crate) fn flush(&mut self) -> Result<(), DeviceFault>
         ensures same { self.new.tracing ≡ self.old.tracing }
         ensures waits { self.new.waiting ≡ self.old.waiting }
-        ensures put { Appended self.old.output self.new.output [] }
-        ensures empty { self.new.output.held ≡ [] }
-        ensures reported { self.new.output.failed ≡ is_err result }
+        ensures put { Took T.took self.old.output self.new.output [] }
+        ensures sent { T.is_settled self.new.output }
+        ensures reported { T.failed self.new.output ≡ is_err result }
     {
         self.output.flush()
     }
 
     /// Hands the output back.
-    pub(crate) fn into_output(self) -> Output<'a, W>
-        ensures { result ≡ self.entry.output }
+    pub(crate) fn into_output(self) -> T
+        ensures { result ≡ self.output }
     {
         let LineTracer { taker, output } = self;
         drop(taker); // for the proof
@@ -83,15 +83,15 @@ impl<'a, W: Sink> LineTracer<'a, W> {
     }
 }
 
-impl<'a, W: Sink> LineTaker for LineTracer<'a, W> {
+impl<T: RowTaker> LineTaker for LineTracer<T> {
     ghost use Rattle.aig_trace.specs.Parts.Saying.{Saying, say_line};
     ghost use Rattle.aig_trace.specs.Parts.Tracing.{HasTraced, Task};
 
-    ghost State = { Saying (Task W) };
+    ghost State = { Saying (Task T) };
 
     ghost step = { say_line };
 
-    ghost IsAt = { HasTraced };
+    ghost IsAt = { HasTraced T.took };
 
     #[inline(always)]
     fn take(&mut self, text: &[u8]) -> bool {

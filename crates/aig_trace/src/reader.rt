@@ -4,11 +4,11 @@ ghost use Rattle.aig_meaning.specs.Meaning.{MeansTheSame};
 ghost use Rattle.aig_trace.specs.Parts.Tracing.{AppendedText, IsFresh};
 
 use crate::line_tracer::LineTracer;
+use crate::row_taker::RowTaker;
 use crate::taker::Taker;
 use crate::tracer::Tracer;
 use aig_checked::Checked;
 use aig_circuit::OutOfMemory;
-use aig_io::{Output, Sink};
 use aig_lines::LineFeeder;
 use aig_step::{Columns, Machine};
 use std::alloc::Global;
@@ -55,13 +55,10 @@ impl StimulusReader {
     }
 
     /// It puts the text into this output.
-    pub(crate) fn into_line_tracer<'a, W: Sink>(
-        self,
-        output: Output<'a, W>,
-    ) -> (LineFeeder, LineTracer<'a, W>)
+    pub(crate) fn into_line_tracer<T: RowTaker>(self, output: T) -> (LineFeeder, LineTracer<T>)
         ensures feeder { result.0 ≡ self.feeder }
         ensures lines { result.1
-            ≡ record { tracing = self.tracing; waiting = self.waiting; output = output.entry } }
+            ≡ record { tracing = self.tracing; waiting = self.waiting; output = output } }
     {
         let StimulusReader { feeder, taker } = self;
         (feeder, LineTracer::new(taker, output))
@@ -69,15 +66,13 @@ impl StimulusReader {
 
     /// Puts the text for all lines of the bytes up to the first bad one, and ends the run that is
     /// going on then, if it has a step.
-    // Built into its callers, since it takes and returns an output, whose block is moved each time.
-    #[inline(always)]
-    pub fn put_trace_text<'a, W: Sink>(self, output: Output<'a, W>, bytes: &[u8]) -> Output<'a, W>
+    // Not built into its callers, whose stack would then hold the block of the output more often.
+    #[inline(never)]
+    pub fn put_trace_text<T: RowTaker>(self, output: T, bytes: &[u8]) -> T
         requires { IsFresh self }
-        ensures { AppendedText self.tracing bytes.now output.entry result }
+        ensures { AppendedText T.took self.tracing bytes.now output result }
     {
-        // Not by `into_line_tracer`: the block of the output would then be moved twice more.
-        let StimulusReader { mut feeder, taker } = self;
-        let mut lines = LineTracer::new(taker, output);
+        let (mut feeder, mut lines) = self.into_line_tracer(output);
         let _whole = feeder.feed(&mut lines, bytes);
         let _last = feeder.end(&mut lines);
         drop(feeder); // for the proof

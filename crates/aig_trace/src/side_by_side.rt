@@ -8,10 +8,10 @@ ghost use Rattle.aig_trace.specs.Parts.Tracing.{AcceptedLine, Did, MovedOn};
 ghost use Rattle.aig_trace.specs.Parts.Waits.{HasRoomForLine, Serves, entries_of, entry_at};
 
 use crate::entry::is_vector;
+use crate::row_taker::RowTaker;
 use crate::tracer::Tracer;
 use crate::waiting::Waiting;
 use aig_circuit::OutOfMemory;
-use aig_io::{Output, Sink};
 use aig_lanes::{Bench, ShownLine};
 use aig_step::is_stop;
 use std::alloc::Global;
@@ -63,10 +63,10 @@ impl SideBySide {
 
     /// Puts the line of a step that waits, which a lane shows.
     #[inline(always)]
-    fn put_step<W: Sink>(&mut self, output: &mut Output<W>, step: usize)
+    fn put_step<T: RowTaker>(&mut self, output: &mut T, step: usize)
         requires step { step < self.old.waiting.steps }
         requires shows { ShowsSteps self.old }
-        ensures did { Did self.old.tracer self.new.tracer
+        ensures did { Did T.took self.old.tracer self.new.tracer
             (entry_at self.old.waiting.inputs self.old.waiting.texts.items (Some step) ∷ [])
             output.old output.new }
         ensures lanes { KeepsLanes self.old self.new }
@@ -78,16 +78,16 @@ impl SideBySide {
             step: 0,
             lane: step,
         };
-        output.put_line(&mut self.bench.line, &line, &mut ());
+        output.take_row(&mut self.bench.line, &line, &mut ());
         self.tracer.note_step();
     }
 
     /// Puts the text for a line that waits, where lanes show the steps.
     #[inline(always)]
-    fn put_line<W: Sink>(&mut self, output: &mut Output<W>, line: usize)
+    fn put_line<T: RowTaker>(&mut self, output: &mut T, line: usize)
         requires line { line < self.old.waiting.count }
         requires shows { ShowsSteps self.old }
-        ensures did { Did self.old.tracer self.new.tracer
+        ensures did { Did T.took self.old.tracer self.new.tracer
             (slice_index_or (entries_of self.old.waiting) line Stop ∷ []) output.old output.new }
         ensures lanes { KeepsLanes self.old self.new }
     {
@@ -98,9 +98,9 @@ impl SideBySide {
     }
 
     /// Puts the text for all lines that wait, where lanes show the steps.
-    fn put_lines<W: Sink>(&mut self, output: &mut Output<W>)
+    fn put_lines<T: RowTaker>(&mut self, output: &mut T)
         requires { ShowsSteps self.old }
-        ensures did { Did self.old.tracer self.new.tracer (entries_of self.old.waiting)
+        ensures did { Did T.took self.old.tracer self.new.tracer (entries_of self.old.waiting)
             output.old output.new }
         ensures waits { self.new.waiting ≡ self.old.waiting }
     {
@@ -110,8 +110,8 @@ impl SideBySide {
     }
 
     /// Takes all lines that wait, one after the other.
-    fn take_lines<W: Sink>(&mut self, output: &mut Output<W>)
-        ensures did { Did self.old.tracer self.new.tracer (entries_of self.old.waiting)
+    fn take_lines<T: RowTaker>(&mut self, output: &mut T)
+        ensures did { Did T.took self.old.tracer self.new.tracer (entries_of self.old.waiting)
             output.old output.new }
         ensures waits { self.new.waiting ≡ self.old.waiting }
     {
@@ -122,8 +122,8 @@ impl SideBySide {
 
     /// Puts the text for all lines that wait, which are not let go yet.
     #[inline(never)]
-    fn put_waiting<W: Sink>(&mut self, output: &mut Output<W>)
-        ensures did { Did self.old.tracer self.new.tracer (entries_of self.old.waiting)
+    fn put_waiting<T: RowTaker>(&mut self, output: &mut T)
+        ensures did { Did T.took self.old.tracer self.new.tracer (entries_of self.old.waiting)
             output.old output.new }
         ensures waits { self.new.waiting ≡ self.old.waiting }
     {
@@ -137,8 +137,8 @@ impl SideBySide {
     }
 
     /// Puts the text for all lines that wait, and lets them go.
-    pub(crate) fn settle<W: Sink>(&mut self, output: &mut Output<W>)
-        ensures did { Did self.old.tracer self.new.tracer (entries_of self.old.waiting)
+    pub(crate) fn settle<T: RowTaker>(&mut self, output: &mut T)
+        ensures did { Did T.took self.old.tracer self.new.tracer (entries_of self.old.waiting)
             output.old output.new }
         ensures none { entries_of self.new.waiting ≡ [] }
         ensures room { HasRoomForLine self.new.waiting }
@@ -149,8 +149,8 @@ impl SideBySide {
 
     /// Puts the text for all lines that wait where no more may, so that one more may.
     #[inline(always)]
-    fn make_room<W: Sink>(&mut self, output: &mut Output<W>)
-        ensures moved { MovedOn (lines_in self.old output.old) (lines_in self.new output.new) }
+    fn make_room<T: RowTaker>(&mut self, output: &mut T)
+        ensures moved { MovedOn T.took (lines_in self.old output.old) (lines_in self.new output.new) }
         ensures room { HasRoomForLine self.new.waiting }
     {
         if !self.waiting.is_full() {
@@ -161,9 +161,9 @@ impl SideBySide {
 
     /// Lets a line of this text wait, if it says anything, and answers whether it does. Where there
     /// is no room for it, the text for those before it is put first.
-    pub(crate) fn take_line<W: Sink>(&mut self, output: &mut Output<W>, text: &[u8]) -> bool
+    pub(crate) fn take_line<T: RowTaker>(&mut self, output: &mut T, text: &[u8]) -> bool
         ensures good { result ≡ true
-            → AcceptedLine (lines_in self.old output.old) (lines_in self.new output.new) text.now }
+            → AcceptedLine T.took (lines_in self.old output.old) (lines_in self.new output.new) text.now }
         ensures bad { result ≡ false
             → entry_in (length self.old.tracer.circuit.inputs) text.now ≡ None }
         ensures stays { result ≡ false → (output.new ≡ output.old) × (self.new ≡ self.old) }

@@ -5,13 +5,15 @@ ghost use Rattle.aig_io.specs.Runs.{Transferred};
 ghost use Rattle.aig_lines.specs.Feeders.{HasFoldedBytes, IsInitial};
 ghost use Rattle.aig_lines.specs.Feeding.{Feeding, fold_bytes};
 ghost use Rattle.aig_step.specs.Outcome.{TraceSays};
+ghost use Rattle.aig_trace.specs.Taken.{Ran};
 ghost use Rattle.aig_trace.specs.Parts.Progress.{begin_of};
 ghost use Rattle.aig_trace.specs.Parts.Saying.{Saying, before_lines, longest_entry, say_line};
-ghost use Rattle.aig_trace.specs.Parts.Streaming.{StreamEnds, IsTraced, ended_so};
+ghost use Rattle.aig_trace.specs.Parts.Streaming.{IsTraced, ended_so};
 ghost use Rattle.aig_trace.specs.Parts.Tracing.{HasTraced, Task, point_of};
 
 use crate::line_tracer::LineTracer;
 use crate::reader::StimulusReader;
+use crate::row_taker::{Lent, RowTaker};
 use aig_checked::Checked;
 use aig_fault::{Kind, Stopped, refused_at};
 use aig_io::{Output, ROOM, Sink, Source};
@@ -34,20 +36,20 @@ fn outcome_of_lines(failed: bool, good: bool, number: u64) -> Result<(), Stopped
 }
 
 /// Takes the bytes that came next, and sends the text for the lines that ended among them.
-fn trace_chunk<W: Sink>(
+fn trace_chunk<T: RowTaker>(
     feeder: &mut LineFeeder,
-    lines: &mut LineTracer<W>,
+    lines: &mut LineTracer<T>,
     chunk: &[u8],
 ) -> Result<(), Stopped>
     requires { feeder.old.number + length chunk.now < 2 ^ 64 }
-    ensures folded { (at : Feeding (Saying (Task W)))
-        → HasFoldedBytes HasTraced feeder.old lines.old at
-        → HasFoldedBytes HasTraced feeder.new lines.new (fold_bytes say_line at chunk.now) }
+    ensures folded { (at : Feeding (Saying (Task T)))
+        → HasFoldedBytes (HasTraced T.took) feeder.old lines.old at
+        → HasFoldedBytes (HasTraced T.took) feeder.new lines.new (fold_bytes say_line at chunk.now) }
     ensures number { feeder.new.number ≤ feeder.old.number + length chunk.now }
     ensures settled { lines.new.waiting ≡ [] }
-    ensures empty { lines.new.output.held ≡ [] }
+    ensures sent { T.is_settled lines.new.output }
     ensures ended { result
-        ≡ ended_so lines.new.output.failed (not feeder.new.refused) feeder.new.number }
+        ≡ ended_so (T.failed lines.new.output) (not feeder.new.refused) feeder.new.number }
 {
     let good = feeder.feed(lines, chunk);
     lines.settle();
@@ -56,15 +58,15 @@ fn trace_chunk<W: Sink>(
 }
 
 /// Takes the end of the bytes, and sends the text for it.
-fn trace_end<W: Sink>(feeder: &mut LineFeeder, lines: &mut LineTracer<W>) -> Result<(), Stopped>
+fn trace_end<T: RowTaker>(feeder: &mut LineFeeder, lines: &mut LineTracer<T>) -> Result<(), Stopped>
     requires { feeder.old.number < 2 ^ 64 - 1 }
-    ensures traced { (task : Task W) (bytes : List ℕ)
-        → HasFoldedBytes HasTraced feeder.old lines.old
+    ensures traced { (task : Task T) (bytes : List ℕ)
+        → HasFoldedBytes (HasTraced T.took) feeder.old lines.old
         (fold_bytes say_line (before_lines task (length task.circuit.inputs)) bytes)
-        → IsTraced task.circuit task.columns bytes true task.from lines.new.output feeder.new }
-    ensures empty { lines.new.output.held ≡ [] }
+        → IsTraced T.took task.circuit task.columns bytes true task.from lines.new.output feeder.new }
+    ensures sent { T.is_settled lines.new.output }
     ensures ended { result
-        ≡ ended_so lines.new.output.failed (not feeder.new.refused) feeder.new.number }
+        ≡ ended_so (T.failed lines.new.output) (not feeder.new.refused) feeder.new.number }
 {
     let good = feeder.end(lines);
     lines.settle();
@@ -76,9 +78,9 @@ fn trace_end<W: Sink>(feeder: &mut LineFeeder, lines: &mut LineTracer<W>) -> Res
 }
 
 /// Takes all bytes of the source, and sends the text for them.
-fn trace_all<R: Source, W: Sink>(
+fn trace_all<R: Source, T: RowTaker>(
     feeder: &mut LineFeeder,
-    lines: &mut LineTracer<W>,
+    lines: &mut LineTracer<T>,
     block: &mut [u8],
     source: &mut R,
 ) -> Result<(), Stopped>
@@ -87,10 +89,12 @@ fn trace_all<R: Source, W: Sink>(
     requires begun { point_of lines.old.tracing ≡ begin_of lines.old.tracing.circuit }
     requires settled { lines.old.waiting ≡ [] }
     requires room { 0 < length block.old }
-    requires empty { lines.old.output.held ≡ [] }
-    requires fine { lines.old.output.failed ≡ false }
-    ensures { StreamEnds lines.old.tracing.circuit lines.old.tracing.columns result
-        (R.history source.old) (R.history source.new) lines.old.output lines.new.output }
+    requires fine { T.failed lines.old.output ≡ false }
+    requires sent { T.is_settled lines.old.output }
+    ensures ran { Ran T.took (TraceSays lines.old.tracing.circuit lines.old.tracing.columns result)
+        (R.history source.old) (R.history source.new) lines.old.output lines.new.output
+        (T.failed lines.new.output) }
+    ensures sent { T.is_settled lines.new.output }
 {
     loop {
         let Ok(count) = source.fetch(block) else {
@@ -116,11 +120,42 @@ fn block_room(checked: &Checked) -> usize
     (256 * (circuit.inputs.len() + 1)).clamp(ROOM, 1 << 20)
 }
 
-/// Simulates a circuit over a stimulus text, and writes the trace text. The text of a line is sent
-/// before more bytes are fetched, so that a step can be seen when its line was typed. All memory is
-/// taken before the first fetch. Steps of a circuit without latches that came at once are taken
-/// side by side.
+/// Simulates a circuit over a stimulus text, and hands on the lines of the trace. Those for a line
+/// are sent before more bytes are fetched, so that a step can be seen when its line was typed. All
+/// memory is taken before the first fetch. Steps of a circuit without latches that came at once are
+/// taken side by side.
 // Not built into its callers, whose stack would then hold the rooms for lines several times over.
+#[inline(never)]
+pub fn simulate_into<R: Source, T: RowTaker>(
+    alloc: Global,
+    checked: &Checked,
+    columns: Columns,
+    source: &mut R,
+    output: &mut T,
+) -> Result<(), Stopped>
+    requires fine { T.failed output.old ≡ false }
+    requires sent { T.is_settled output.old }
+    ensures ran { Ran T.took (TraceSays checked.now columns result)
+        (R.history source.old) (R.history source.new) output.old output.new
+        (T.failed output.new) }
+    ensures sent { T.is_settled output.new }
+{
+    let Ok(mut block) = vec![in alloc; 0; block_room(checked)] else {
+        return Err(Stopped::OutOfMemory);
+    };
+    let Ok(reader) = StimulusReader::new(alloc, checked, columns) else {
+        drop(block); // for the proof
+        return Err(Stopped::OutOfMemory);
+    };
+    let (mut feeder, mut lines) = reader.into_line_tracer(Lent::new(output));
+    let traced = trace_all(&mut feeder, &mut lines, &mut block, source);
+    drop(block); // for the proof
+    drop(feeder); // for the proof
+    let _output = lines.into_output().into_taker();
+    traced
+}
+
+/// Simulates a circuit over a stimulus text, and writes the trace text, as `simulate_into` says.
 #[inline(never)]
 pub fn simulate<R: Source, W: Sink>(
     alloc: Global,
@@ -132,15 +167,8 @@ pub fn simulate<R: Source, W: Sink>(
     ensures transferred { Transferred (TraceSays checked.now columns result)
         (R.history source.old) (R.history source.new) (W.history sink.old) (W.history sink.new) }
 {
-    let mut block = vec![in alloc; 0; block_room(checked)]?;
-    let Ok(reader) = StimulusReader::new(alloc, checked, columns) else {
-        drop(block); // for the proof
-        return Err(Stopped::OutOfMemory);
-    };
-    let (mut feeder, mut lines) = reader.into_line_tracer(Output::new(sink));
-    let traced = trace_all(&mut feeder, &mut lines, &mut block, source);
-    drop(block); // for the proof
-    drop(feeder); // for the proof
-    let _sink = lines.into_output().into_sink();
+    let mut output = Output::new(sink);
+    let traced = simulate_into(alloc, checked, columns, source, &mut output);
+    let _sink = output.into_sink();
     traced
 }

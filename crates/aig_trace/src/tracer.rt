@@ -1,16 +1,16 @@
 //! Lines of a stimulus, and the lines of the trace for them.
 ghost use Rattle.std.specs.Prelude.{◌≡◌, ◌+◌, IfOk, None, codes, false, length, true};
 ghost use Rattle.aig_circuit.specs.Wellformed.{IsWellFormed};
-ghost use Rattle.aig_io.specs.Output.{Appended};
 ghost use Rattle.aig_meaning.specs.Meaning.{MeansTheSame};
 ghost use Rattle.aig_step.specs.Stimulus.{entry_in};
+ghost use Rattle.aig_trace.specs.Taken.{Took};
 ghost use Rattle.aig_step.specs.Parts.Lines.{line_size, vector_in};
 ghost use Rattle.aig_trace.specs.Parts.Progress.{begin_of};
 ghost use Rattle.aig_trace.specs.Parts.Tracing.{IsSameTracer, TookLine, TookStep, point_of};
 
+use crate::row_taker::RowTaker;
 use aig_checked::Checked;
 use aig_circuit::OutOfMemory;
-use aig_io::{Output, Sink};
 use aig_step::{Columns, Machine, RowLine, Stepper, is_stop};
 use std::alloc::Global;
 use std::marker::Model;
@@ -119,8 +119,8 @@ impl Tracer {
 
     /// Takes a step if the text says its inputs, puts its line, and answers whether it does.
     #[inline(always)]
-    pub(crate) fn take_step<W: Sink>(&mut self, output: &mut Output<W>, text: &[u8]) -> bool
-        ensures good { result ≡ true → TookStep self.old self.new output.old output.new text.now }
+    pub(crate) fn take_step<T: RowTaker>(&mut self, output: &mut T, text: &[u8]) -> bool
+        ensures good { result ≡ true → TookStep T.took self.old self.new output.old output.new text.now }
         ensures bad { result ≡ false → vector_in (length self.old.circuit.inputs) text.now ≡ None }
         ensures none { result ≡ false → output.new ≡ output.old }
         ensures stays { result ≡ false → self.new ≡ self.old }
@@ -133,27 +133,27 @@ impl Tracer {
             columns: self.columns,
             inputs: text,
         };
-        output.put_line(&mut self.line, &line, &mut self.stepper);
+        output.take_row(&mut self.line, &line, &mut self.stepper);
         self.has_step = true;
         true
     }
 
     /// Ends the run.
-    pub(crate) fn stop<W: Sink>(&mut self, output: &mut Output<W>)
+    pub(crate) fn stop<T: RowTaker>(&mut self, output: &mut T)
         ensures point { point_of self.new ≡ begin_of self.old.circuit }
-        ensures put { Appended output.old output.new (codes ".\n") }
+        ensures put { Took T.took output.old output.new (codes ".\n") }
         ensures same { IsSameTracer self.old self.new }
     {
         self.stepper.reset();
         self.has_step = false;
-        output.put(b".\n");
+        output.take_stop();
     }
 
     /// Does what the text of a line says, puts the text for it, and answers whether it says
     /// anything.
     #[inline(always)]
-    pub(crate) fn take_line<W: Sink>(&mut self, output: &mut Output<W>, text: &[u8]) -> bool
-        ensures good { result ≡ true → TookLine self.old self.new output.old output.new text.now }
+    pub(crate) fn take_line<T: RowTaker>(&mut self, output: &mut T, text: &[u8]) -> bool
+        ensures good { result ≡ true → TookLine T.took self.old self.new output.old output.new text.now }
         ensures bad { result ≡ false → entry_in (length self.old.circuit.inputs) text.now ≡ None }
         ensures none { result ≡ false → output.new ≡ output.old }
         ensures stays { result ≡ false → self.new ≡ self.old }

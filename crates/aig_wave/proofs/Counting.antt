@@ -1,9 +1,8 @@
 -- How many lines a trace text has.
-use Rattle.std.proofs.Common.{◌≡◌, ◌∙◌, ◌+◌, ◌≤◌, ◌<◌, ◌^◌, ◌==◌, ◌&&◌, ◌||◌, ◌∷◌, ◌++◌, if◌then◌else◌, ℕ, suc, List}
-use Rattle.std.proofs.Common.{[], Bool, true, false, Option, None, Some, ap, arith, codes, filter, inl, inr, is_none}
-use Rattle.std.proofs.Common.{length, nat_lt, length-append, refl, sym}
+use Rattle.std.proofs.Common.{◌≡◌, ◌∙◌, ◌+◌, ◌≤◌, ◌^◌, ◌==◌, ◌&&◌, ◌||◌, ◌∷◌, ◌++◌, if◌then◌else◌, ℕ, suc, List}
+use Rattle.std.proofs.Common.{[], Bool, Option, None, Some, ap, arith, codes, filter, inl, inr, is_none}
+use Rattle.std.proofs.Common.{length, nat_lt, length-append, refl}
 use Rattle.std.proofs.lemmas.Bool.{cases_Bool}
-use Rattle.std.proofs.lemmas.List.{length-map}
 use Rattle.std.proofs.lemmas.List.Sums.{count_by-le-length, length-filter}
 use Rattle.std.specs.List.{AllZip, flat_map}
 use Rattle.aig_circuit.specs.declared.circuit.Circuit.{Circuit}
@@ -16,11 +15,11 @@ use Rattle.aig_lines.specs.Lines.{Line, begun_by, lines_of}
 use Rattle.aig_step.specs.declared.trace.Columns.TheVariants.{Properties}
 use Rattle.aig_step.specs.Stimulus.{Entry, Step, Stimulus, Stop, before_rest, entry_of, lines_say, runs_of, stimulus}
 use Rattle.aig_step.specs.Stimulus.{with_step}
-use Rattle.aig_step.specs.TraceText.{IsTraceText, character_of, last_stop, row_text, rows_text, run_text, values_text}
-use Rattle.aig_wave.specs.Frames.{is_trace_line, most_frames, trace_lines, whole_lines}
+use Rattle.aig_step.specs.TraceText.{last_stop, row_text, rows_text, run_text, values_text}
+use Rattle.aig_wave.specs.Frames.{is_trace_line, most_frames, whole_lines}
 use Rattle.aig_wave.specs.Laws.{NoLineIsLeftOut}
 use Rattle.aig_wave.specs.Layout.{layout_of}
-use Rattle.aig_wave.specs.Parts.Cuts.{Cut, cut, cut_more}
+use Rattle.aig_wave.specs.Parts.Cuts.{Cut, cut_more}
 use Rattle.aig_wave.proofs.Growing.{whole_lines_are, at_feed, at_other}
 
 -- how many line feeds there are

@@ -1,10 +1,10 @@
 -- A dump grows with its trace text, whose bytes are cut into lines, and its lines told as frames.
-use Rattle.std.proofs.Common.{◌≡◌, ◌≢◌, ◌==◌, ◌∙◌, ◌+◌, ◌≤◌, ◌&&◌, ◌||◌, ◌∷◌, ◌++◌, ◌-◌, ◌<◌, if◌then◌else◌, ℕ, List}
+use Rattle.std.proofs.Common.{◌≡◌, ◌≢◌, ◌==◌, ◌∙◌, ◌+◌, ◌≤◌, ◌&&◌, ◌∷◌, ◌++◌, ◌-◌, ◌<◌, if◌then◌else◌, ℕ, List}
 use Rattle.std.proofs.Common.{[], Bool, true, false, filter, length, map, take, refl, sym, ap, ap₂, append_assoc}
 use Rattle.std.proofs.Common.{append-nil, arith, inl, inr, suc, fold, min, nat_lt}
-use Rattle.std.proofs.lemmas.Bool.{cases_lt, ne_eqb, cases_Bool, ltb-false, ltb-true}
+use Rattle.std.proofs.lemmas.Bool.{ne_eqb, cases_Bool, ltb-false, ltb-true}
 use Rattle.std.proofs.lemmas.Bool.Decides.{eqb_tells}
-use Rattle.std.proofs.lemmas.List.{length-take-le, take_all, length-append, length-take, take-append-le}
+use Rattle.std.proofs.lemmas.List.{take_all, length-append, length-take, take-append-le}
 use Rattle.std.proofs.lemmas.List.Sums.{fold-append}
 use Rattle.std.proofs.Math.Seq.{take-nil}
 use Rattle.std.proofs.lemmas.List.Elements.{filter-append}
@@ -67,7 +67,6 @@ lines_are c (b ∷ bs) none =
 pub whole_lines_are : (text : List ℕ) → whole_lines text ≡ (cut text).lines
 whole_lines_are text = sym (lines_are (record { lines = []; begun = [] }) text tt)
 
--- a line that is too long is as good as what is kept of it
 pub and_false : (a : Bool) → (a && false) ≡ false
 and_false true = refl
 and_false false = refl
@@ -76,30 +75,6 @@ pub too_long_to_stop : (l : List ℕ) → 2 ≤ length l → is_stop l ≡ false
 too_long_to_stop [] long = absurd (omega arith)
 too_long_to_stop (a ∷ []) long = absurd (omega arith)
 too_long_to_stop (a ∷ b ∷ bs) long = and_false (a == 46)
-
-no_line : (w : Layout) (l : List ℕ) → w.width + 2 ≤ length l → is_trace_line w l ≡ false
-no_line w l long =
-    let other : length l ≢ w.width = omega arith in
-    ap₂ (λ (a b : Bool). a || b) (too_long_to_stop l (omega arith)) (ne_eqb (length l) w.width other)
-
-module _ (w : Layout) (p : Point) where
-  pub behind_kept : (l : List ℕ) → behind_line w p (take (w.width + 2) l) ≡ behind_line w p l
-  behind_kept l =
-      elim (cases_lt (w.width + 2) (length l)) [
-        | inl long ↦
-            (let size = length-take-le (w.width + 2) l (omega arith) in
-            rw (no_line w l (omega arith), no_line w (take (w.width + 2) l) (omega (arith, size))) refl)
-        | inr short ↦ ap (behind_line w p) (take_all (w.width + 2) l (omega arith))
-      ]
-
-  pub piece_kept : (l : List ℕ) → line_piece w p (take (w.width + 2) l) ≡ line_piece w p l
-  piece_kept l =
-      elim (cases_lt (w.width + 2) (length l)) [
-        | inl long ↦
-            (let size = length-take-le (w.width + 2) l (omega arith) in
-            rw (no_line w l (omega arith), no_line w (take (w.width + 2) l) (omega (arith, size))) refl)
-        | inr short ↦ ap (line_piece w p) (take_all (w.width + 2) l (omega arith))
-      ]
 
 -- Frames, one line after the other.
 module _ (w : Layout) where

@@ -5,7 +5,6 @@ pub mod Counting
 pub mod Waved
 pub mod Plain
 pub mod Alike
-pub mod Standing
 pub mod Tagged
 pub mod Decoding
 pub mod Columns

@@ -18,7 +18,8 @@ use Rattle.aig_lines.specs.Lines.{HasNoLineFeed}
 use Rattle.aig_meaning.specs.Meaning.{IsRow, Row}
 use Rattle.aig_meaning.specs.Trace.{Follow, IsTrace, reset_state, reset_value}
 use Rattle.aig_meaning.proofs.Traces.{inputs_length, next_length, one_row, same_row, state_length}
-use Rattle.aig_step.specs.declared.trace.Columns.TheVariants.{Properties}
+use Rattle.aig_step.specs.declared.trace.Columns.{Columns}
+use Rattle.aig_step.specs.declared.trace.Columns.TheVariants.{Plain, Properties}
 use Rattle.aig_step.specs.Outcome.{first_bad_line}
 use Rattle.aig_step.specs.Stimulus.{runs_of, stimulus, value_of}
 use Rattle.aig_step.specs.TraceText.{IsTraceText, character_of, last_stop, row_text, rows_text, run_text, values_text}
@@ -198,6 +199,15 @@ no_feed_in row =
     let last : HasNoLineFeed (values_text row.constraints) =
     subst HasNoLineFeed (append-nil (values_text row.constraints)) (no_feed row.constraints [] tt) in
     spaced row.state _ (spaced row.inputs _ (spaced row.outputs _ (spaced row.next _ (spaced row.bad _ last))))
+
+-- the line of a step has no line feed but its last character
+pub row_without_feed : (columns : Columns) (row : Row)
+    → (line : List ℕ) × HasNoLineFeed line × (row_text columns row ≡ ended line)
+row_without_feed Properties row = (row_line row, no_feed_in row, row_is row)
+row_without_feed Plain row =
+    let last : HasNoLineFeed (values_text row.next) =
+    subst HasNoLineFeed (append-nil (values_text row.next)) (no_feed row.next [] tt) in
+    (_, spaced row.state _ (spaced row.inputs _ (spaced row.outputs _ last)), simp append_assoc)
 
 -- lines that come back of their text, and of which each is a frame
 cut_lines : (before ls : List (List ℕ)) → AllByRecursion HasNoLineFeed ls

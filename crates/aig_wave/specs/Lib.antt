@@ -6,6 +6,5 @@ pub mod Layout
 pub mod Frames
 pub mod Wave
 pub mod Dumping
-pub mod Standing
 pub mod Laws
 pub mod Parts

@@ -2,6 +2,5 @@
 -- files.
 pub mod Points
 pub mod Cuts
-pub mod Taking
 pub mod SignalCodes
 pub mod Groups

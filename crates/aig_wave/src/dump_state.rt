@@ -316,13 +316,6 @@ impl DumpState {
         })
     }
 
-    /// How long the line of a step is.
-    pub(crate) fn width(&self) -> usize
-        ensures { result ≡ self.now.layout.width }
-    {
-        self.layout.width()
-    }
-
     /// Puts the frame of a step.
     #[inline(always)]
     fn take_step<W: Sink>(&mut self, output: &mut Output<W>, text: &[u8])

@@ -1,16 +1,14 @@
 //! The waveform of a trace: a Value Change Dump, made of the lines of the trace as they come.
 //!
-//! Others call `WaveMemory`, which takes all memory, and `WaveSink`, a sink for a trace text, which
-//! sends the dump of it on to another sink.
+//! Others call `WaveMemory`, which takes all memory, and `WaveTaker`, which takes the lines of a
+//! trace and sends the dump of it to a sink.
 //!
-//! The definitions that matter most are `frames`, `wave_text`, and `wave_origin`, by which a
-//! history tells what it stands on.
+//! The definitions that matter most are `frames`, `wave_text` and `Dumps`.
 #![tactic(auto)]
 
 mod bits;
 mod digit;
 mod dump_state;
-mod dump_writer;
 mod group;
 mod head;
 pub mod laws;
@@ -24,4 +22,4 @@ mod signal_code;
 mod wave;
 
 pub use crate::room::WaveMemory;
-pub use crate::wave::WaveSink;
+pub use crate::wave::WaveTaker;

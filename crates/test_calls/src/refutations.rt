@@ -25,11 +25,15 @@ d\x10\x15\x00a\x04\x00=refuted;\
 8 0\n9 0\n=no refutation;\
 8 0\nc\n1 0\n=line 3: does not follow;\
 a\x10\x00a\x02\x00=line 2: does not follow;\
-8 0\n11 0\n=line 2: bad line;\
+11 -2 -3 0\n-11 2 0\n-11 3 0\n-11 4 0\n8 0\n9 0\n-4 0\n-5 0\n-6 0\n-7 0\n-3 0\n2 0\n0\n=refuted;\
+a\x16\x05\x07\x00a\x17\x04\x00=no refutation;\
+8 0\n11 12 0\n-11 0\n=line 3: does not follow;\
+-10 11 0\n=line 1: does not follow;\
+8 0\n13 0\n=line 2: bad line;\
 8 0\n9 -0\n=line 2: bad line;\
 8 0\n9 x 0\n=line 2: bad line;\
 a\x10\x00b\x02\x00=line 2: bad line;\
-a\x16\x00=line 1: bad line;\
+a\x18\x00=line 1: bad line;\
 a\x10\x7f=line 1: bad line";
 
 /// What is said of a refutation that comes in pieces of three bytes.

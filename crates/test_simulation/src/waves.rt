@@ -1,9 +1,9 @@
 //! The dump of a trace. What comes is in the contracts; that memory suffices is not. What dumps
 //! show of circuits stands in `tests/rows/waves.sh`.
 use aig_core::{Checked, Keep, MemorySink, MemorySource};
-use aig_sim::{Columns, simulate};
+use aig_sim::{Columns, simulate_into};
 use aig_text::{Limits, read_ascii};
-use aig_wave::{WaveMemory, WaveSink};
+use aig_wave::{WaveMemory, WaveTaker};
 use std::alloc::Global;
 use std::test::Fail;
 
@@ -34,10 +34,10 @@ fn is_dumped(alloc: Global, circuit: &Checked, dump: &[u8]) -> Option<bool> {
     let mut source = MemorySource::new(Vec::from_slice(alloc, b"\n\n").ok()?, 1, 0);
     let mut sink = MemorySink::new(alloc, 4096, 3, 0).ok()?;
     let room = WaveMemory::new(alloc, circuit).ok()?;
-    let mut wave = WaveSink::new(room, &mut sink);
-    let done = simulate(alloc, circuit, Columns::Properties, &mut source, &mut wave).is_ok();
-    let (sent, sink) = wave.finish(done);
-    Some(done && sent.is_ok() && sink.bytes() == dump)
+    let mut wave = WaveTaker::new(room, &mut sink);
+    let ran = simulate_into(alloc, circuit, Columns::Properties, &mut source, &mut wave);
+    let (sent, sink) = wave.finish(ran.is_ok());
+    Some(ran.is_ok() && sent.is_ok() && sink.bytes() == dump)
 }
 
 #[test]

@@ -4,15 +4,15 @@ use Rattle.std.proofs.Common.{subst, false, true, zero, suc, length, get_or, tak
 use Rattle.std.specs.List.{AllZip, flat_map}
 use Rattle.std.proofs.lemmas.List.Concat.{flat_map-append}
 use Rattle.std.proofs.lemmas.List.{take_all, take_more}
-use Rattle.aig_io.specs.Output.{Appended, Out}
-use Rattle.aig_io.proofs.Puts.{put_twice}
 use Rattle.aig_circuit.specs.declared.circuit.Circuit.{Circuit}
 use Rattle.aig_circuit.specs.declared.value.Val.{Val}
 use Rattle.aig_meaning.specs.Meaning.{MeansTheSame, Row}
 use Rattle.aig_meaning.specs.Trace.{Follow}
 use Rattle.aig_step.specs.declared.trace.Columns.{Columns}
 use Rattle.aig_step.specs.Stimulus.{Entry, Step, Stop}
+use Rattle.aig_trace.specs.Taken.{Took}
 use Rattle.aig_step.specs.TraceText.{row_text, rows_text}
+use Rattle.aig_trace.proofs.Taken.{took_twice}
 use Rattle.aig_step.proofs.Running.Machines.{same_reset_state}
 use Rattle.aig_lanes.specs.declared.run.Run.{Run}
 use Rattle.aig_lanes.specs.Parts.LaneTexts.{IsTextOf, KeepsRun, kept_text}
@@ -22,8 +22,7 @@ use Rattle.aig_lanes.proofs.Benches.ShownTexts.{text_of_kept}
 use Rattle.aig_trace.specs.Parts.Progress.{Does, Goes, Point, begin_of}
 use Rattle.aig_trace.proofs.RunTexts.{goes_on, goes_over}
 use Rattle.aig_batch.specs.Parts.RunsRead.{AppendedRuns, entries_of_group, entries_of_groups, entries_of_run}
-use Rattle.aig_batch.specs.Parts.RunsRead.{text_of_group}
-use Rattle.aig_batch.specs.Parts.RunsRead.{kept_texts, no_run}
+use Rattle.aig_batch.specs.Parts.RunsRead.{kept_texts, no_run, text_of_group}
 
 -- a trace is a way
 goes_rows : (c : Circuit) (columns : Columns) (p : Point) (vectors : List (List Val)) (rows : List Row)
@@ -75,13 +74,13 @@ goes_runs c columns (run ∷ runs) (text ∷ texts) each =
     (goes_runs c columns runs texts each.1)
 
 -- the text for one more group
-pub put_more : {W : Type 0} (c : Circuit) (columns : Columns) (groups : List (List Run)) (runs : List Run)
-    (texts : List (List ℕ)) (before between after : Out W) → AppendedRuns c columns groups before between
-    → AllZip (IsTextOf columns c) runs texts → Appended between after (text_of_group texts)
-    → AppendedRuns c columns (groups ++ runs ∷ []) before after
+pub put_more : {W : Type 0} {H : W → W → List ℕ → Type 0} (c : Circuit) (columns : Columns) (groups : List (List Run))
+    (runs : List Run) (texts : List (List ℕ)) (before between after : W)
+    → AppendedRuns H c columns groups before between → AllZip (IsTextOf columns c) runs texts
+    → Took H between after (text_of_group texts) → AppendedRuns H c columns (groups ++ runs ∷ []) before after
 put_more c columns groups runs texts before between after so_far each put = record {
   text = so_far.text ++ text_of_group texts;
-  put = put_twice before between after so_far.text (text_of_group texts) so_far.put put;
+  put = took_twice before between after so_far.text (text_of_group texts) so_far.put put;
   goes =
       let entries : entries_of_groups (groups ++ runs ∷ []) ≡ entries_of_groups groups ++ entries_of_group runs =
       flat_map-append entries_of_group groups (runs ∷ [])

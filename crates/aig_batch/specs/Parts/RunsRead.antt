@@ -1,14 +1,15 @@
 -- Runs that are read at the front of a stimulus. Only private functions cite this.
-use Rattle.std.specs.Prelude.{◌≡◌, ◌++◌, ℕ, zero, suc, List, [], ◌∷◌, None, codes, length, map}
+use Rattle.std.specs.Prelude.{◌≡◌, ◌<◌, ◌++◌, ℕ, zero, suc, List, [], ◌∷◌, None, codes, length, map}
 use Rattle.std.specs.Prelude.{slice_index_or, true}
 use Rattle.std.specs.List.{flat_map}
 use Rattle.aig_circuit.specs.declared.circuit.Circuit.{Circuit}
-use Rattle.aig_io.specs.Output.{Appended, Out}
 use Rattle.aig_lanes.specs.declared.run.Run.{Run}
 use Rattle.aig_lanes.specs.declared.lane_columns.LaneColumns.{LaneColumns}
 use Rattle.aig_step.specs.declared.trace.Columns.{Columns}
 use Rattle.aig_step.specs.Stimulus.{Entry, Step, Stop, judged_lines, lines_say, stimulus}
-use Rattle.aig_lanes.specs.Parts.LaneTexts.{kept_text}
+use Rattle.aig_trace.specs.Taken.{IsRowText, Took}
+use Rattle.aig_step.specs.TraceText.{values_text}
+use Rattle.aig_lanes.specs.Parts.LaneTexts.{kept_text, shown_text}
 use Rattle.aig_lanes.specs.Parts.Sheets.{BytesText, text_in}
 use Rattle.aig_trace.specs.Parts.Progress.{Goes, begin_of}
 
@@ -47,9 +48,14 @@ kept_texts shown runs (suc lane) sheet =
     (text_in lane sheet)
     ∷ []
 
+-- what is kept of each step of a run is the line of a step
+abbrev pub KeepsRows : LaneColumns → Run → List ℕ → Type 0
+KeepsRows shown run text = (step : ℕ) → step < length run.steps
+    → IsRowText (shown_text shown step (values_text (slice_index_or run.steps step [])) text)
+
 -- the text for groups of runs was put
-pub record AppendedRuns {W : Type 0} (c : Circuit) (columns : Columns) (groups : List (List Run)) (before after : Out W)
-    : Type 0 where
+pub record AppendedRuns {W : Type 0} (H : W → W → List ℕ → Type 0) (c : Circuit) (columns : Columns)
+    (groups : List (List Run)) (before after : W) : Type 0 where
   pub text : List ℕ
-  pub put : Appended before after text
+  pub put : Took H before after text
   pub goes : Goes c columns (begin_of c) (entries_of_groups groups) (begin_of c) text

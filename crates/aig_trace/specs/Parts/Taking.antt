@@ -1,6 +1,5 @@
 -- What takes lines, one after the other or side by side.
 use Rattle.std.specs.Prelude.{◌≡◌, ◌<◌, ℕ, List, [], slice_index_or}
-use Rattle.aig_io.specs.Output.{Out}
 use Rattle.aig_lanes.specs.Parts.InputBits.{one_step}
 use Rattle.aig_lanes.specs.Parts.LaneTexts.{KeepsRun}
 use Rattle.aig_step.specs.Stimulus.{Entry}
@@ -21,8 +20,8 @@ pub record KeepsLanes (before after : SideBySide) : Type 0 where
   pub shown : after.bench.shown ≡ before.bench.shown
   pub sheet : after.bench.sheet ≡ before.bench.sheet
 
--- with an output for the text
-abbrev pub lines_in : {W : Type 0} → SideBySide → Out W → LineTracing W
+-- with what takes the text
+abbrev pub lines_in : {W : Type 0} → SideBySide → W → LineTracing W
 lines_in a output = record { tracing = a.tracer; waiting = entries_of a.waiting; output = output }
 
 -- the tracer that it has

@@ -32,7 +32,8 @@ loop-group-preserved g c =
           (c.loop-group.invariant.room k d below);
       put =
           subst
-          (λ (gs : List (List Run)). AppendedRuns machine columns gs c.args.output.now c.run_group.new.output)
+          (λ (gs : List (List Run)). AppendedRuns g.T.RowTaker.took machine columns gs c.args.output.now
+          c.run_group.new.output)
           (sym now)
           (put_more machine columns (take i groups) runs (kept_texts shown runs (length runs) sheet)
           c.args.output.now c.loop-group.output c.run_group.new.output c.loop-group.invariant.put

@@ -7,5 +7,6 @@ abbrev pub invariant-loop-group : goal.invariant-loop-group
 invariant-loop-group g l = record {
   asks : l.bench.shown.columns ≡ l.fn.bench.shown.columns;
   room : All (HasRoomFor l.machine l.bench) l.groups;
-  put : AppendedRuns l.machine l.fn.bench.shown.columns (take l.group-index l.groups) l.fn.output l.output;
+  put : AppendedRuns g.T.RowTaker.took l.machine l.fn.bench.shown.columns (take l.group-index l.groups) l.fn.output
+      l.output;
 }

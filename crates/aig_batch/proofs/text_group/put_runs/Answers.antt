@@ -2,8 +2,8 @@ use Rattle.std.proofs.Common.{◌≡◌, ◌++◌, ◌∷◌, ◌∙◌, ℕ, Li
 use Rattle.std.proofs.Common.{sym}
 use Rattle.std.proofs.lemmas.List.{get_or_default}
 use Rattle.std.proofs.lemmas.List.Concat.{flat_map-append}
-use Rattle.aig_io.specs.Output.{Appended}
-use Rattle.aig_io.proofs.Puts.{put_twice}
+use Rattle.aig_trace.specs.Taken.{Took}
+use Rattle.aig_trace.proofs.Taken.{took_twice}
 use Rattle.aig_lanes.specs.declared.run.Run.{Run}
 use Rattle.aig_lanes.specs.Parts.LaneTexts.{kept_text}
 use Rattle.aig_lanes.specs.Parts.Sheets.{text_in}
@@ -13,6 +13,7 @@ use Rattle.aig_batch.proofs.text_group.put_runs.Goals as goal
 
 pub loop-lane-preserved : goal.loop-lane-preserved
 loop-lane-preserved g c =
+    let H = g.T.RowTaker.took in
     let runs = c.args.runs.now in
     let shown = c.args.shown.now in
     let sheet = c.args.sheet.now in
@@ -27,11 +28,10 @@ loop-lane-preserved g c =
     ∙ ap (λ (t : List ℕ). text_of_group first ++ t) (append-nil (kept (get_or runs lane no_run) ++ codes ".\n")) in
     record {
       put =
-          subst (λ (n : ℕ). Appended c.args.output.now now (text_of_group (kept_texts shown runs n sheet)))
-          (one_behind lane)
-          (subst (λ (t : List ℕ). Appended c.args.output.now now t) (sym whole)
-          (put_twice c.args.output.now c.loop-lane.output now (text_of_group first) _ c.loop-lane.invariant.put
-          (subst (λ (run : Run). Appended c.loop-lane.output now (kept run ++ codes ".\n")) is_run c.put_run.ensures)));
+          subst (λ (n : ℕ). Took H c.args.output.now now (text_of_group (kept_texts shown runs n sheet))) (one_behind lane)
+          (subst (λ (t : List ℕ). Took H c.args.output.now now t) (sym whole)
+          (took_twice c.args.output.now c.loop-lane.output now (text_of_group first) _ c.loop-lane.invariant.put
+          (subst (λ (run : Run). Took H c.loop-lane.output now (kept run ++ codes ".\n")) is_run c.put_run.ensures)));
       line = c.put_run.auto.line ∙ c.loop-lane.invariant.line;
     }
 
@@ -40,6 +40,6 @@ returns g c =
     let end : c.loop-lane.lane ≡ length c.args.runs.now =
     omega (arith, c.loop-lane-test.false, c.loop-lane.auto.lane-end) in
     subst
-    (λ (n : ℕ). Appended c.args.output.now c.loop-lane.output
+    (λ (n : ℕ). Took g.T.RowTaker.took c.args.output.now c.loop-lane.output
     (text_of_group (kept_texts c.args.shown.now c.args.runs.now n c.args.sheet.now)))
     end c.loop-lane.invariant.put

@@ -12,7 +12,7 @@ returns-in-Ok-clause-read g c =
     let first = c.in_ok-first.first in
     let accepted : IsAccepted request first = search rules in
     made_after (λ bytes. IsFileOf bytes request.max_var first) _ _ (λ bytes. IsFirst request bytes first)
-    (λ bytes file. record { read = file; accepted = accepted }) c.in_ok-first.ensures.read
+    (λ bytes file. record { read = file; accepted = accepted }) c.in_ok-first.ensures
 
 pub returns-in-Err-clause-read : goal.returns-in-Err-clause-read
 returns-in-Err-clause-read g c =
@@ -20,4 +20,4 @@ returns-in-Err-clause-read g c =
     let first = c.in_ok-first.first in
     let why : StopsFor (NotAccepted request first) c.in-Err.stopped = search rules in
     stopped_after (λ bytes. IsFileOf bytes request.max_var first) _ _ (NotFirst request) c.in-Err.stopped
-    (λ bytes. not_first request bytes first c.in-Err.stopped why) c.in_ok-first.ensures.read
+    (λ bytes. not_first request bytes first c.in-Err.stopped why) c.in_ok-first.ensures

@@ -14,7 +14,7 @@ returns-in_err-made-clause-read g c =
     let h = err_from_is_err_and c.from_residual-in_err-made.result c.from_residual-in_err-made.ensures.1 in
     rw (h.1, h.2) (stopped_after (λ bytes. IsFileOf bytes request.max_var second) _ _ (NotMiter request c.args.first)
     stopped (λ bytes. not_miter request bytes c.args.first second stopped c.in_err-made.ensures.err)
-    c.in_ok-second.ensures.read)
+    c.in_ok-second.ensures)
 
 pub returns-clause-read : goal.returns-clause-read
 returns-clause-read g c =
@@ -30,4 +30,4 @@ returns-clause-read g c =
       is_made = c.in_ok-made.ensures.ok;
       written_as = c.in_ok-convert_as.ensures.text;
     })
-    c.in_ok-second.ensures.read
+    c.in_ok-second.ensures

@@ -13,7 +13,7 @@ returns-in_err-source_circuit-clause-read g c =
     rw (h.1, h.2) (stopped_after (λ bytes. IsFileOf bytes request.max_var c.in_ok-found.found) _ _
     (IsConversionRefused request) _
     (λ bytes file. not_undone request c.in_ok-found.found bytes file c.in_err-source_circuit.field-0.0
-    c.in_err-source_circuit.ensures.err) c.in_ok-found.ensures.read)
+    c.in_err-source_circuit.ensures.err) c.in_ok-found.ensures)
 
 pub returns-in_err-turned_circuit-clause-read : goal.returns-in_err-turned_circuit-clause-read
 returns-in_err-turned_circuit-clause-read g c =
@@ -24,4 +24,4 @@ returns-in_err-turned_circuit-clause-read g c =
     (IsConversionRefused request) _
     (λ bytes file. not_turned request c.in_ok-found.found bytes file c.in_ok-source_circuit.source_circuit
     c.in_err-turned_circuit.field-0.0 c.in_ok-source_circuit.ensures.ok c.in_err-turned_circuit.ensures.err)
-    c.in_ok-found.ensures.read)
+    c.in_ok-found.ensures)

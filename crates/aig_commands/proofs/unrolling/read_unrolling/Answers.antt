@@ -13,7 +13,7 @@ returns-in_err-circuit-clause-read g c =
     rw (h.1, h.2) (stopped_after (λ bytes. IsFileOf bytes request.max_var c.in_ok-found.found) _ _
     (IsUnrollingRefused request) c.in_err-circuit.field-0.0
     (λ bytes. file_not_unrolled request c.in_ok-found.found c.in_err-circuit.field-0.0 bytes
-    c.in_err-circuit.ensures.err) c.in_ok-found.ensures.read)
+    c.in_err-circuit.ensures.err) c.in_ok-found.ensures)
 
 pub returns-clause-some : goal.returns-clause-some
 returns-clause-some g c = unrolled_begins c.args.request.now.form c.in_ok-circuit.circuit

@@ -1,4 +1,5 @@
-use Rattle.std.proofs.Common.{rules}
+use Rattle.std.proofs.Common.{◌∙◌, [], is_err, refl, rules}
+use Rattle.aig_io.specs.Output.{output_to}
 use Rattle.aig_dump.proofs.Dumps.{dumped, nothing_dumped}
 use Rattle.aig_dump.proofs.tracing.write_dump.Goals as goal
 
@@ -7,8 +8,10 @@ returns-in_default-clause-transferred g c = nothing_dumped _ _ _ _
 
 pub returns-clause-transferred : goal.returns-clause-transferred
 returns-clause-transferred g c =
-    dumped c.args.batch c.args.found.now _ _ (g.W.Sink.history c.args.output.now) _ c.finish-sent.result.0
-    c.write_trace-ran.result c.outcome_of_dump.result c.new-wave.result.history c.write_trace-ran.new.output.history
-    c.in-Ok.room _ (g.W.Sink.history c.finish-sent.result.1.now) c.is_ok.result c.is_err.result c.in-Ok.ensures
-    c.new-wave.ensures c.write_trace-ran.ensures.transferred c.is_ok.ensures.value c.finish-sent.ensures.sent
-    c.finish-sent.ensures.reported c.is_err.ensures.value c.outcome_of_dump.ensures (search rules)
+    let sent = c.finish-sent.result.0 in
+    let end = output_to g.W.Sink.history c.finish-sent.result.1 [] (is_err sent) in
+    dumped c.args.batch c.args.found.now c.new-wave.result c.trace_into-ran.new.output _ end c.trace_into-ran.result
+    c.is_ok.result (c.new-wave.ensures.layout ∙ c.in-Ok.ensures) c.new-wave.ensures.output refl refl c.new-wave.ensures.begun
+    c.is_ok.ensures.value c.finish-sent.ensures.put refl sent c.outcome_of_dump.result c.is_err.result _ _ _ refl
+    c.finish-sent.ensures.reported c.is_err.ensures.value c.outcome_of_dump.ensures c.trace_into-ran.ensures
+    (search rules)

@@ -9,14 +9,14 @@ pub returns-clause-ok : goal.returns-clause-ok
 returns-clause-ok c =
     whole c.args.model.now _ c.gives_its_bytes.ensures
     (λ (found : Circuit) (bytes : List ℕ). IsFileOf bytes c.args.max_var found)
-    (AtItsEnd (IsUnreadable c.args.max_var)) c.read_circuit-read.result
-    (rw c.in_ok-source.ensures at c.read_circuit-read.ensures.read)
+    (AtItsEnd (IsUnreadable c.args.max_var)) c.read_source-read.result
+    (rw c.in_ok-source.ensures at c.read_source-read.ensures)
 
 pub returns-clause-err : goal.returns-clause-err
 returns-clause-err c =
     stopped c.args.model.now _ c.gives_its_bytes.ensures
     (λ (found : Circuit) (bytes : List ℕ). IsFileOf bytes c.args.max_var found)
     (AtItsEnd (IsUnreadable c.args.max_var)) (λ fault. IsUnreadable c.args.max_var fault c.args.model.now)
-    c.read_circuit-read.result
+    c.read_source-read.result
     (at_its_end c.args.model.now _ c.gives_its_bytes.ensures (IsUnreadable c.args.max_var))
-    (rw c.in_ok-source.ensures at c.read_circuit-read.ensures.read)
+    (rw c.in_ok-source.ensures at c.read_source-read.ensures)

@@ -7,7 +7,7 @@ pub loop-count-preserved : goal.loop-count-preserved
 loop-count-preserved g c =
     let next = rw (← c.split_at.ensures.front) at (c.in-Ok.ensures.history
     ∙ gave_next _ c.in-Ok.count _ (omega arith)) in
-    has_followed_more _ _ _ _ c.loop-count.invariant _ c.split_at.result.0.now next _ c.in_ok-follow.ensures.agrees
+    has_followed_more _ _ _ _ c.loop-count.invariant _ c.split_at.result.0.now next _ c.in_ok-follow.ensures.keeps
 
 pub returns-in_err-follow : goal.returns-in_err-follow
 returns-in_err-follow g c =

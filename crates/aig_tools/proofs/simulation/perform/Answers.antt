@@ -1,11 +1,18 @@
 use Rattle.std.proofs.lemmas.Result.{err_from_is_err_and}
+use Rattle.aig_dump.specs.Dumped.{DumpSays, TraceSaysAs}
+use Rattle.aig_tools.proofs.Tasks.{of_steps}
 use Rattle.aig_tools.proofs.simulation.perform.Goals as goal
 
 pub returns-in-Trace-clause-transferred : goal.returns-in-Trace-clause-transferred
-returns-in-Trace-clause-transferred g c = rw c.in-Trace.is c.trace_stimulus.ensures.transferred
+returns-in-Trace-clause-transferred g c =
+    rw (c.in-Trace.is, c.without_verdict.ensures)
+    (of_steps (TraceSaysAs c.in-Trace.batch c.args.found c.in-Trace.columns) c.write_trace-written.result _ _ _ _
+    c.write_trace-written.ensures.transferred)
 
 pub returns-in-Dump-clause-transferred : goal.returns-in-Dump-clause-transferred
-returns-in-Dump-clause-transferred g c = rw c.in-Dump.is c.dump_stimulus.ensures.transferred
+returns-in-Dump-clause-transferred g c =
+    rw (c.in-Dump.is, c.without_verdict-in-Dump.ensures)
+    (of_steps (DumpSays c.in-Dump.batch c.args.found) c.write_dump-written.result _ _ _ _ c.write_dump-written.ensures.transferred)
 
 pub returns-in_err-judge-in-Verdict-clause-transferred : goal.returns-in_err-judge-in-Verdict-clause-transferred
 returns-in_err-judge-in-Verdict-clause-transferred g c =

@@ -11,7 +11,7 @@ returns-in_err-found g c =
       transferred = rw (h.1, h.2) (inl (
         c.in_err-found.field-0.0,
         refl,
-        c.in_err-found.ensures.read,
+        c.in_err-found.ensures,
         refl,
         refl,
       ));
@@ -23,7 +23,7 @@ returns-in_err-perform g c =
     record {
       transferred = rw (h.1, h.2) (inr (
         c.in_ok-found.found,
-        c.in_ok-found.ensures.read,
+        c.in_ok-found.ensures,
         rw c.task_of.ensures at c.in_err-perform.ensures.transferred,
       ));
     }
@@ -32,7 +32,7 @@ pub returns : goal.returns
 returns g c = record {
   transferred = inr (
     c.in_ok-found.found,
-    c.in_ok-found.ensures.read,
+    c.in_ok-found.ensures,
     transferred_weaker _ _ _ _ _ _
         (λ bytes ending text delivery. unjudged c.args.request.now c.in_ok-found.found _ bytes ending text delivery
         c.requires.traced)

@@ -1,24 +1,13 @@
-use Rattle.std.proofs.Common.{rules, subst}
-use Rattle.aig_io.specs.Devices.{History}
-use Rattle.aig_io.specs.Runs.{Transferred}
-use Rattle.aig_io.proofs.Runs.{transferred_weaker}
-use Rattle.aig_step.specs.Outcome.{TraceSays}
-use Rattle.aig_trace.proofs.Ending.{trace_says_too}
+use Rattle.std.proofs.Common.{refl, rules}
+use Rattle.aig_trace.proofs.Ending.{cut_anywhere}
+use Rattle.aig_trace.proofs.Taken.{same_sink, transferred_as_ran}
 use Rattle.aig_trace.proofs.stream.simulate.Goals as goal
 
--- what is said of the circuit that is run holds of the one that was given
 pub returns : goal.returns
 returns g c =
-    let ends = rw (c.into_line_tracer-feeder.ensures.lines, c.new-2.ensures, c.in-Ok.ensures.columns)
-    at c.trace_all-traced.ensures in
-    let result = c.trace_all-traced.result in
+    let ran = c.simulate_into-traced in
+    let same = same_sink _ _ _ _ _ _ ran.ensures.ran in
     record {
-      transferred = subst
-          (λ (sink_now : History). Transferred (TraceSays c.args.checked.now c.args.columns result)
-          (g.R.Source.history c.args.source.now) (g.R.Source.history c.trace_all-traced.new.source)
-          (g.W.Sink.history c.args.sink.now) sink_now)
-          (search rules)
-          (transferred_weaker _ _ _ _ _ _ (trace_says_too c.args.checked.now _ c.in-Ok.ensures.same c.args.columns
-          result)
-          ends.transferred);
+      transferred = transferred_as_ran _ (cut_anywhere c.args.checked.now c.args.columns ran.result) _ _ _ _ _ _
+          c.new-output.ensures refl refl ran.ensures.sent (search rules) ran.ensures.ran;
     }

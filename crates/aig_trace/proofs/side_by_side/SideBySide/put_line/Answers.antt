@@ -7,7 +7,7 @@ use Rattle.aig_trace.proofs.side_by_side.SideBySide.put_line.Goals as goal
 pub returns-in-Some-clause-did : goal.returns-in-Some-clause-did
 returns-in-Some-clause-did g c =
     subst
-    (λ (e : Entry). Did c.args.self.now.tracer c.put_step.new.self.tracer (e ∷ []) c.args.output.now
+    (λ (e : Entry). Did g.T.RowTaker.took c.args.self.now.tracer c.put_step.new.self.tracer (e ∷ []) c.args.output.now
     c.put_step.new.output)
     c.in-Some.ensures.says c.put_step.ensures.did
 
@@ -15,7 +15,7 @@ pub returns-in-None-clause-did : goal.returns-in-None-clause-did
 returns-in-None-clause-did g c =
     let t = c.args.self.now.tracer in
     let u = c.stop.new.self in
-    subst (λ (e : Entry). Did t u (e ∷ []) c.args.output.now c.stop.new.output) c.in-None.ensures.says
+    subst (λ (e : Entry). Did g.T.RowTaker.took t u (e ∷ []) c.args.output.now c.stop.new.output) c.in-None.ensures.says
     (record {
       same = c.stop.ensures.same;
       text = codes ".\n";

@@ -4,8 +4,8 @@ use Rattle.aig_step.specs.Parts.Stepping.{row_of}
 use Rattle.aig_step.proofs.LineValues.{row_is_read, vector_back}
 use Rattle.aig_trace.proofs.tracer.Tracer.take_step.Goals as goal
 
-pub put_line-requires-clause-whole : goal.put_line-requires-clause-whole
-put_line-requires-clause-whole g c =
+pub take_row-requires-clause-whole : goal.take_row-requires-clause-whole
+take_row-requires-clause-whole g c =
     let said = c.evaluate_text.ensures.good c.if-not-evaluate_text.false in
     search (rules, vector_back)
 
@@ -26,5 +26,5 @@ returns-clause-good g c = λ _.
         leads = search rules;
         is = refl;
       };
-      put = c.put_line.ensures.put;
+      put = c.take_row.ensures.took;
     })
