@@ -6,8 +6,8 @@ mostly equal. A refutation of their clauses is made here by trying all inputs: b
 the clause that forbids the inputs that were tried, so that each line follows by unit propagation. It is spelled in some way, in
 text or binary, with deletions, and mostly spoiled: cut, with a line left out, moved or of another kind, a sign or a bit
 turned, a number changed; or it is that of other frames, or of another bad state. Where clauses can be satisfied, what comes of the
-inputs that were tried is given as a forged one. The program must say what the checker says. Where that finds them refuted, trying
-all inputs must find no assignment.
+inputs that were tried is given as a forged one. In half of them other lines bring in variables, as in new_variables.py. The
+program must say what the checker says. Where that finds them refuted, trying all inputs must find no assignment.
 """
 import collections
 import random
@@ -15,6 +15,7 @@ import re
 from pathlib import Path
 
 from lib import answers, images, traces, unrolled, witnesses
+from lib.new_variables import ADDED, DELETED, with_new_variables
 
 CIRCUITS = 600
 # so many lemmas are enough: then fewer frames are taken
@@ -22,7 +23,7 @@ LEMMAS = 200
 BLANKS = re.compile(rb"[ \r\n]*")
 COMMENT = re.compile(rb"c[^\n]*")
 NUMBER = re.compile(rb"(?:-[1-9][0-9]*|[0-9]+)(?=[ \r\n]|\Z)")
-ADDED, DELETED, BAD = "added", "deleted", "bad"
+BAD = "bad"
 BITS = [1 << at for at in range(8)]
 # a number in a binary refutation, and what begins as one
 CODE, BEGUN = re.compile(rb"[\x80-\xff]{0,4}[\0-\x7f]"), re.compile(rb"[\x80-\xff]{0,4}\Z")
@@ -49,9 +50,9 @@ class Checker:
             self.is_refuted = True
 
     def delete(self, clause):
-        """Deletes a clause once, if it is there."""
+        """Deletes a clause once, if it is there, and not of new variables alone."""
         found = self.places[tuple(sorted(clause))]
-        if found:
+        if found and any(abs(it) <= self.largest for it in clause):
             found.pop()[0] = False
 
     def assume(self, literal):
@@ -60,7 +61,7 @@ class Checker:
 
     def is_false(self, clause):
         """Whether all literals are false. If just one is open, it is true from here on."""
-        if any(it in self.true for it in clause):
+        if not self.true.isdisjoint(clause):
             return False
         free = {it for it in clause if -it not in self.true}
         if len(free) == 1:
@@ -85,11 +86,11 @@ class Checker:
 
     def extends(self, clause):
         """Whether the first literal is of a new variable, and can be made true: what the clauses with its negation come to,
-        joined to this one, follows. Of those that were deleted, the ones of new variables alone count too."""
+        joined to this one, follows."""
         if not clause or abs(clause[0]) <= self.largest or -clause[0] in self.true:
             return False
-        others = [it for is_there, it in self.having[-clause[0]] if is_there or min(map(abs, it)) > self.largest]
-        return all(self.follows(clause + [it for it in other if it != -clause[0]]) for other in others)
+        others = [it for is_there, it in self.having[-clause[0]] if is_there]
+        return all(self.follows([*clause, *(it for it in other if it != -clause[0])]) for other in others)
 
     def contradicts(self, literal):
         """Whether this literal is true; if not, it is false from here on."""
@@ -361,6 +362,8 @@ def turned(chance, proof):
 def given(chance, largest, clauses, lemmas):
     """The text of a refutation, or of what is nearly one."""
     found, which = with_deletions(chance, clauses, lemmas), chance.randrange(8)
+    if chance.randrange(2):
+        found = with_new_variables(chance, Checker(clauses, largest), clauses, found)
     if which < 3:
         found = spoiled(chance, largest, found)
     proof = spelled_binary(found) if chance.randrange(2) else spelled_text(chance, found)
