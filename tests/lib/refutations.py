@@ -35,18 +35,18 @@ class Checker:
     def __init__(self, clauses, largest):
         self.largest = largest
         self.having, self.places = collections.defaultdict(list), collections.defaultdict(list)
-        self.true, self.order, self.is_refuted = set(), [], False
+        self.true, self.false, self.order, self.is_refuted = set(), set(), [], False
         for clause in clauses:
             self.keep(clause)
 
     def keep(self, clause):
         """Keeps a clause, and what follows from it."""
-        it = [True, clause]
+        it = [True, frozenset(clause)]
         self.places[tuple(sorted(clause))].append(it)
-        for literal in set(clause):
+        for literal in it[1]:
             self.having[literal].append(it)
         start = len(self.order)
-        if self.is_false(clause) or self.has_conflict(start):
+        if self.is_false(it[1]) or self.has_conflict(start):
             self.is_refuted = True
 
     def delete(self, clause):
@@ -57,23 +57,25 @@ class Checker:
 
     def assume(self, literal):
         self.true.add(literal)
+        self.false.add(-literal)
         self.order.append(literal)
 
     def is_false(self, clause):
         """Whether all literals are false. If just one is open, it is true from here on."""
         if not self.true.isdisjoint(clause):
             return False
-        free = {it for it in clause if -it not in self.true}
+        free = clause - self.false
         if len(free) == 1:
-            self.assume(free.pop())
+            self.assume(*free)
             return False
         return not free
 
     def has_conflict(self, start):
         """Whether what follows from the literals behind this one has a conflict."""
         while start < len(self.order):
-            if any(is_there and self.is_false(clause) for is_there, clause in self.having[-self.order[start]]):
-                return True
+            for is_there, clause in self.having[-self.order[start]]:
+                if is_there and self.is_false(clause):
+                    return True
             start += 1
         return False
 
@@ -90,18 +92,19 @@ class Checker:
         if not clause or abs(clause[0]) <= self.largest or -clause[0] in self.true:
             return False
         others = [it for is_there, it in self.having[-clause[0]] if is_there]
-        return all(self.follows([*clause, *(it for it in other if it != -clause[0])]) for other in others)
+        return all(self.follows([*clause, *(other - {-clause[0]})]) for other in others)
 
     def contradicts(self, literal):
         """Whether this literal is true; if not, it is false from here on."""
         if literal in self.true:
             return True
-        if -literal not in self.true:
+        if literal not in self.false:
             self.assume(-literal)
         return False
 
     def forget(self, start):
         self.true.difference_update(self.order[start:])
+        self.false.difference_update(-it for it in self.order[start:])
         del self.order[start:]
 
 
