@@ -2,11 +2,11 @@
 deletes has a d in front."""
 from lib import refutations
 
-# of three inputs the gates are 5 to 8: 2 and 3, 2 and not 3, not 2 and 3, neither; and 13 is the first new variable. 13 is 2 and 3,
-# 14 is not 2 and 3. By what 15 and 16 stand in, neither is so; then nothing else says it any more. 17 is 1, but not at once.
+# of three inputs the gates are 5 to 8: 2 and 3, 2 and not 3, not 2 and 3, neither; and 13 is the first new variable. 13 is 2
+# and 3, 14 is not 2 and 3. By what 15 and 16 stand in, neither is so; then nothing else says it. 17 is 1, but not at once.
 DEFINED = [[13, -2, -3], [-13, 2], [-13, 3], [14, 2, -3], [-14, -2], [-14, 3], [-3, 13, 14]]
 DEFINED += [[15, -13], [-15, -13], [16, -14], [-16, -14], ["d", -3, 5, -2], ["d", 2, -3, 7], [17, 4], [17, -4]]
-USED, BLOCKED = [[-13], [-14]], [-17]
+USED, BLOCKED = [[-13], [-14]], [[-17]]
 # a lemma that is deleted at once
 SHORT = [[2, 3], ["d", 3, 2]]
 # 13 is 2 and 3 for a while, and 14 or 15 is 1

@@ -5,8 +5,8 @@ The circuits are those of answers.py, and some that compare two sums of the same
 mostly equal. A refutation of their clauses is made here by trying all inputs: behind each conflict stands
 the clause that forbids the inputs that were tried, so that each line follows by unit propagation. It is spelled in some way, in
 text or binary, with deletions, and mostly spoiled: cut, with a line left out, moved or of another kind, a sign or a bit
-turned, a number changed; or it is that of other frames, or of another bad state. Where clauses can be satisfied, what comes of the
-inputs that were tried is given as a forged one. In half of them other lines bring in variables, as in new_variables.py. The
+turned, a number changed; or it is that of other frames, or of another bad state. Where clauses can be satisfied, what comes of
+the inputs that were tried is given as a forged one. In half of them other lines bring in variables, as in new_variables.py. The
 program must say what the checker says. Where that finds them refuted, trying all inputs must find no assignment.
 """
 import collections

@@ -15,6 +15,7 @@ The last line is 'N passed, M failed'.
 """
 import contextlib
 import filecmp
+import functools
 import itertools
 import os
 import resource
@@ -337,12 +338,14 @@ def moved_refutations(room):
     definitions alone follows, and what two lines do not allow is refused."""
     write("model", contradiction(3))
     write("wanted", b"none within 1\n")
-    lines = [*long_refutations.DEFINED, *long_refutations.SHORT * MOVED]
+    told = len(long_refutations.DEFINED) + MOVED * len(long_refutations.SHORT) + 1
     for is_binary in (False, True):
-        write("proof", long_refutations.spelled([*lines, *long_refutations.USED], is_binary))
+        spell = functools.partial(long_refutations.spelled, is_binary=is_binary)
+        before = spell(long_refutations.DEFINED) + spell(long_refutations.SHORT) * MOVED
+        write("proof", before, spell(long_refutations.USED))
         room.gives(REFUTES, "proof", "wanted")
-        write("proof", long_refutations.spelled([*lines, long_refutations.BLOCKED], is_binary))
-        room.seconds(REFUTES, "proof", f"line {len(lines) + 1}: does not follow")
+        write("proof", before, spell(long_refutations.BLOCKED))
+        room.seconds(REFUTES, "proof", f"line {told}: does not follow")
 
 
 def growing_refutations(room):
@@ -362,7 +365,8 @@ def growing_refutations(room):
 def steady_refutations(room):
     """Lines that are deleted soon after, many of them, in little memory."""
     write("model", contradiction(3))
-    write("proof", long_refutations.spelled([*long_refutations.AROUND, *long_refutations.ROUND * STEADY, [4]]))
+    around, rounds = (long_refutations.spelled(it) for it in (long_refutations.AROUND, long_refutations.ROUND))
+    write("proof", around, rounds * STEADY, b"4 0\n")
     came = room.run(REFUTES, "proof", "came", ["/bin/sh", "-c", 'ulimit -v "$0" && exec "$@"', str(LITTLE)])
     told = len(long_refutations.AROUND) + STEADY * len(long_refutations.ROUND) + 1
     room.judge("many deletions", came == (f"aiger: -: line {told}: does not follow\n".encode(), 1), came)
