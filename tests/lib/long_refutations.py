@@ -24,7 +24,7 @@ def spelled(lines, is_binary=False):
 
 
 def lemmas(count):
-    """Lemmas of 2 or 3; what deletes them, and the clause of the gate by which they follow, of count + 4 inputs; and one again."""
+    """Lemmas of 2 or 3; what deletes them, and the clause by which they follow, of count + 4 inputs; and one of them again."""
     places = range(4, count + 4)
     gone = [["d", 3, at + 1, 2, at] for at in places]
     return [*([at, at + 1, 2, 3] for at in places), *gone, ["d", 3, 2, count + 9], gone[count // 2][1:]]
