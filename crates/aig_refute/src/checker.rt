@@ -1,10 +1,12 @@
 //! Clauses, and what follows from them: what was given, and what a refutation adds.
-ghost use Rattle.std.specs.Prelude.{◌≡◌, ℕ, All, Bool, true, IfErr, IfOk, OnOk};
+ghost use Rattle.std.specs.Prelude.{◌≡◌, ℕ, All, Bool, List, true, false, IfErr, IfOk, OnOk};
 ghost use Rattle.aig_cnf.specs.Clauses.{HasTrue};
-ghost use Rattle.aig_refute.specs.Agree.{Excludes, Supposes};
+ghost use Rattle.aig_refute.specs.Agree.{Excludes, Grows, Supposes};
 ghost use Rattle.aig_fault.specs.Stopping.{StopsFor};
 ghost use Rattle.aig_refute.specs.Extended.{made_true};
-ghost use Rattle.aig_refute.specs.Refuted.{Admits, CanExtend, IsLineFault, Keeps};
+ghost use Rattle.aig_refute.specs.Kept.{ComesToRest, HaveSameLiterals, IsStored};
+ghost use Rattle.aig_refute.specs.Refuted.{Admits, CanExtend, Gains, IsLineFault, Keeps, Preserves};
+ghost use Rattle.aig_refute.specs.Refuted.{words_of};
 ghost use Rattle.aig_refute.specs.Store.{IsFalse};
 
 use crate::clause_table::ClauseTable;
@@ -65,10 +67,9 @@ impl Checker {
         self.propagation.kernel.is_refuted()
     }
 
-    /// Adds a clause that holds. Where the store has more than 2^32 words, it is not used.
+    /// Adds a clause that holds. Where the store has more than 2^32 words, no literal watches it.
     pub(crate) fn add_given(&mut self, clause: &[u32]) -> Result<(), AllocError>
-        ensures { OnOk result ((a : ℕ → Bool) → Admits self.old a
-            → HasTrue a clause.now → Admits self.new a) }
+        ensures { OnOk result (Gains clause.now self.old self.new) }
     {
         let at = self.propagation.kernel.end();
         self.propagation.kernel.push_clause(clause)?;
@@ -81,8 +82,7 @@ impl Checker {
 
     /// Lets a clause be watched, or follows what it says at once.
     fn attach(&mut self, clause: u32) -> Result<(), AllocError>
-        ensures { (a : ℕ → Bool) → Admits self.old a
-            → Admits self.new a }
+        ensures { Preserves self.old self.new }
     {
         if let Some((first, second)) = self.propagation.kernel.arrange(clause as usize) {
             self.propagation.watch(first, second, clause)?;
@@ -135,8 +135,7 @@ impl Checker {
 
     /// Whether a clause follows by unit propagation.
     fn follows(&mut self, clause: &[u32]) -> Result<bool, AllocError>
-        ensures agrees { OnOk result ((a : ℕ → Bool) → Admits self.old a
-            → Admits self.new a) }
+        ensures preserves { OnOk result (Preserves self.old self.new) }
         ensures follows { IfOk result (λ yes. yes ≡ true → (a : ℕ → Bool)
             → Admits self.old a → HasTrue a clause.now) }
     {
@@ -148,8 +147,7 @@ impl Checker {
 
     /// Whether all clauses follow by unit propagation.
     fn follow_all(&mut self, clauses: &[Vec<u32>]) -> Result<bool, AllocError>
-        ensures agrees { OnOk result ((a : ℕ → Bool) → Admits self.old a
-            → Admits self.new a) }
+        ensures preserves { OnOk result (Preserves self.old self.new) }
         ensures follow { IfOk result (λ yes. yes ≡ true → (a : ℕ → Bool)
             → Admits self.old a → All (λ c. HasTrue a c.items) clauses.now) }
     {
@@ -163,8 +161,7 @@ impl Checker {
 
     /// Whether the pivot can be made true where a clause does not hold, by unit propagation.
     fn can_make_true(&mut self, clause: &[u32], pivot: u32) -> Result<bool, AllocError>
-        ensures agrees { OnOk result ((a : ℕ → Bool) → Admits self.old a
-            → Admits self.new a) }
+        ensures preserves { OnOk result (Preserves self.old self.new) }
         ensures made { IfOk result (λ yes. yes ≡ true → (a : ℕ → Bool)
             → Admits self.old a → IsFalse a clause.now → Admits self.new (made_true pivot a)) }
     {
@@ -181,12 +178,11 @@ impl Checker {
     /// Whether the first literal of a clause can be made true where that does not hold, by unit
     /// propagation.
     fn extends(&mut self, clause: &[u32]) -> Result<bool, AllocError>
-        ensures agrees { OnOk result ((a : ℕ → Bool) → Admits self.old a
-            → Admits self.new a) }
+        ensures preserves { OnOk result (Preserves self.old self.new) }
         ensures extends { IfOk result (λ yes. yes ≡ true → (a : ℕ → Bool)
-            → Admits self.old a → CanExtend clause.now self.new) }
+            → Admits self.old a → CanExtend clause.now self.new a) }
     {
-        if clause.is_empty() {
+        if clause.is_empty() || !self.propagation.kernel.is_new(clause[0]) {
             return Ok(false);
         }
         let can_extend = self.can_make_true(clause, clause[0])?;
@@ -195,8 +191,7 @@ impl Checker {
 
     /// There is room for the literals of a clause.
     fn make_room(&mut self, clause: &[u32]) -> Result<(), AllocError>
-        ensures { OnOk result ((a : ℕ → Bool) → Admits self.old a
-            → Admits self.new a) }
+        ensures { OnOk result (Preserves self.old self.new) }
     {
         let most = largest(clause) as usize;
         if most >= self.literals() {
@@ -207,26 +202,82 @@ impl Checker {
         Ok(())
     }
 
+    /// What follows where all clauses are looked at, until none says anything more: whether that is
+    /// a contradiction. Each turn but the last finds a literal, so there are enough.
+    fn exhaust(&mut self, clause: &[u32]) -> Result<bool, AllocError>
+        ensures grows { Grows self.old.propagation.kernel self.new.propagation.kernel }
+        ensures clash { IfOk result (λ c. c ≡ true
+            → (a : ℕ → Bool) → ¬ Admits self.old a) }
+        ensures rests { IfOk result (λ c. c ≡ false
+            → ComesToRest (words_of self.new) clause.now) }
+    {
+        for _turn in 0..self.literals().saturating_add(1) {
+            let Some(at) = self.propagation.kernel.find_saying() else {
+                return self.propagation.kernel.is_contradiction(clause);
+            };
+            if self.propagation.follow(at)? {
+                return Ok(true);
+            }
+        }
+        Err(AllocError)
+    }
+
+    /// Whether a clause follows by unit propagation, as `follows`, but that an overlooked clause is
+    /// looked at: so the answer no is proved too.
+    fn follows_after_all(&mut self, clause: &[u32]) -> Result<bool, AllocError>
+        ensures preserves { OnOk result (Preserves self.old self.new) }
+        ensures follows { IfOk result (λ yes. yes ≡ true → (a : ℕ → Bool)
+            → Admits self.old a → HasTrue a clause.now) }
+        ensures rests { IfOk result (λ yes. yes ≡ false
+            → ComesToRest (words_of self.new) clause.now) }
+    {
+        let base = self.propagation.kernel.known_count();
+        let conflict = if self.assume_false(clause)? {
+            true
+        } else {
+            self.exhaust(clause)?
+        };
+        self.propagation.forget(base);
+        Ok(conflict)
+    }
+
+    /// Whether a clause may be added: it follows, or brings in a new variable.
+    fn is_right(&mut self, clause: &[u32]) -> Result<bool, AllocError>
+        ensures preserves { OnOk result (Preserves self.old self.new) }
+        ensures extends { IfOk result (λ yes. yes ≡ true → (a : ℕ → Bool)
+            → Admits self.old a → CanExtend clause.now self.new a) }
+        ensures rests { IfOk result (λ yes. yes ≡ false
+            → ComesToRest (words_of self.new) clause.now) }
+    {
+        if self.follows(clause)? || self.extends(clause)? {
+            return Ok(true);
+        }
+        self.follows_after_all(clause)
+    }
+
     /// Adds a clause if it follows, or brings in a new variable, and answers whether it does.
     fn add(&mut self, clause: &[u32]) -> Result<bool, AllocError>
-        ensures { OnOk result (Keeps self.old self.new) }
+        ensures keeps { OnOk result (Keeps self.old self.new) }
+        ensures stored { OnOk result ((other : List ℕ) → IsStored (words_of self.old) other
+            → IsStored (words_of self.new) other) }
+        ensures added { IfOk result (λ yes. yes ≡ true
+            → IsStored (words_of self.new) clause.now) }
+        ensures rests { IfOk result (λ yes. yes ≡ false
+            → ComesToRest (words_of self.new) clause.now) }
     {
         self.make_room(clause)?;
-        if self.follows(clause)? {
+        let is_right = self.is_right(clause)?;
+        if is_right {
             self.add_given(clause)?;
-            return Ok(true);
         }
-        if self.extends(clause)? {
-            self.add_given(clause)?;
-            return Ok(true);
-        }
-        Ok(false)
+        Ok(is_right)
     }
 
     /// Lets a clause go, if it is found.
     fn let_go(&mut self, clause: &[u32])
-        ensures { (a : ℕ → Bool) → Admits self.old a
-            → Admits self.new a }
+        ensures keeps { Keeps self.old self.new }
+        ensures stored { (other : List ℕ) → IsStored (words_of self.old) other
+            → ¬ HaveSameLiterals clause.now other → IsStored (words_of self.new) other }
     {
         if let Some(place) = self.table.take(&self.propagation.kernel, clause) {
             self.propagation.kernel.retire(place as usize);
@@ -236,11 +287,9 @@ impl Checker {
 
     /// Gives the memory of clauses that were let go back.
     fn compact(&mut self) -> Result<(), AllocError>
-        ensures { (a : ℕ → Bool) → Admits self.old a
-            → Admits self.new a }
+        ensures { Preserves self.old self.new }
     {
-        let starts = self.table.live_places()?;
-        let places = self.propagation.compact(starts.as_slice())?;
+        let places = self.propagation.compact()?;
         self.garbage = 0;
         self.table.clear()?;
         for k in 0..places.len() {
@@ -254,8 +303,9 @@ impl Checker {
 
     /// Lets a clause go, if it is found, and gives memory back where there is much of it.
     fn remove(&mut self, clause: &[u32]) -> Result<(), AllocError>
-        ensures { (a : ℕ → Bool) → Admits self.old a
-            → Admits self.new a }
+        ensures keeps { Keeps self.old self.new }
+        ensures stored { (other : List ℕ) → IsStored (words_of self.old) other
+            → ¬ HaveSameLiterals clause.now other → IsStored (words_of self.new) other }
     {
         self.let_go(clause);
         if self.garbage > LEAST_GARBAGE && self.garbage > self.propagation.kernel.end() / 4 {

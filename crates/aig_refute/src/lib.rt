@@ -13,6 +13,7 @@
 
 mod checker;
 mod clause_table;
+mod comparer;
 mod gates;
 mod kernel;
 mod propagation;

@@ -192,6 +192,19 @@ impl Propagation {
         Ok(false)
     }
 
+    /// Follows what the clause that begins there says to its end, or to a clause that is false: then
+    /// the answer is yes.
+    pub(crate) fn follow(&mut self, at: usize) -> Result<bool, AllocError>
+        ensures grows { Grows self.old.kernel self.new.kernel }
+        ensures conflict { IfOk result (λ c. c ≡ true
+            → (a : ℕ → Bool) → ¬ Agrees a self.old.kernel) }
+    {
+        match self.kernel.derive(at)? {
+            Derived::Conflict => Ok(true),
+            _ => self.propagate(),
+        }
+    }
+
     /// No clause is watched any more.
     fn unwatch(&mut self)
         ensures { self.new.kernel ≡ self.old.kernel }
@@ -201,12 +214,12 @@ impl Propagation {
         }
     }
 
-    /// Keeps only the clauses that begin at these places, watched by none, and gives where each
-    /// begins now.
-    pub(crate) fn compact(&mut self, starts: &[u32]) -> Result<Vec<u32>, AllocError>
+    /// Gives the memory of clauses that were let go back, and tells where each of the others begins:
+    /// no literal watches it.
+    pub(crate) fn compact(&mut self) -> Result<Vec<u32>, AllocError>
         ensures { Grows self.old.kernel self.new.kernel }
     {
-        let places = self.kernel.compact(self.alloc, starts)?;
+        let places = self.kernel.compact(self.alloc)?;
         self.unwatch();
         Ok(places)
     }
