@@ -1,4 +1,5 @@
 pub mod Store
+pub mod Lines
 pub mod Extended
 pub mod Agree
 pub mod Refuted
