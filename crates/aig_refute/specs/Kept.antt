@@ -3,10 +3,10 @@ use Rattle.std.specs.Prelude.{◌≡◌, ◌≢◌, ◌<◌, ◌≤◌, ◌⊎�
 use Rattle.aig_circuit.specs.Literal.{negation_of}
 use Rattle.aig_refute.specs.declared.words.TheConstants.{END}
 
--- a line adds a clause, or deletes it
-pub data Line : Type 0 where
-  Adds : List ℕ → Line
-  Deletes : List ℕ → Line
+-- what a line changes: it adds a clause, or deletes it
+pub data Change : Type 0 where
+  Adds : List ℕ → Change
+  Deletes : List ℕ → Change
 
 abbrev pub HasLiteral : List ℕ → ℕ → Type 0
 HasLiteral clause literal = (i : ℕ) × (i < length clause) × (slice_index clause i ≡ literal)
@@ -20,9 +20,9 @@ abbrev pub IsAmong : List (List ℕ) → List ℕ → Type 0
 IsAmong [] clause = ⊥
 IsAmong (first ∷ others) clause = (clause ≡ first) ⊎ IsAmong others clause
 
--- A clause is kept after these lines, the last of which stands first: it was given, or a line added it, and no line
--- since has deleted a clause of its literals.
-abbrev pub IsKept : List (List ℕ) → List Line → List ℕ → Type 0
+-- A clause is kept after these changes, the last one first: it was given, or added, and no clause of its literals has
+-- been deleted since.
+abbrev pub IsKept : List (List ℕ) → List Change → List ℕ → Type 0
 IsKept given [] clause = IsAmong given clause
 IsKept given (Adds added ∷ before) clause = (clause ≡ added) ⊎ IsKept given before clause
 IsKept given (Deletes gone ∷ before) clause = IsKept given before clause × ¬ HaveSameLiterals gone clause

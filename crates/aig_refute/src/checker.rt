@@ -1,16 +1,17 @@
 //! Clauses, and what follows from them: what was given, and what a refutation adds.
-ghost use Rattle.std.specs.Prelude.{◌≡◌, ℕ, All, Bool, List, true, false, IfErr, IfOk, OnOk};
+ghost use Rattle.std.specs.Prelude.{◌≡◌, ◌≢◌, ℕ, All, Bool, List, true, false, fold, IfErr, IfOk, OnOk};
 ghost use Rattle.aig_cnf.specs.Clauses.{HasTrue};
 ghost use Rattle.aig_refute.specs.Agree.{Excludes, Grows, Supposes};
 ghost use Rattle.aig_fault.specs.Stopping.{StopsFor};
 ghost use Rattle.aig_refute.specs.Extended.{made_true};
-ghost use Rattle.aig_refute.specs.Kept.{ComesToRest, HaveSameLiterals, IsStored};
-ghost use Rattle.aig_refute.specs.Refuted.{Admits, CanExtend, Gains, IsLineFault, Keeps, Preserves};
-ghost use Rattle.aig_refute.specs.Refuted.{words_of};
+ghost use Rattle.aig_refute.specs.Kept.{Change, ComesToRest, HaveSameLiterals, IsStored};
+ghost use Rattle.aig_refute.specs.Lines.{next, reading_of};
+ghost use Rattle.aig_refute.specs.Refuted.{Admits, AreInLines, AreStored, CanExtend, Followed, Gains};
+ghost use Rattle.aig_refute.specs.Refuted.{HaveCome, IsLineFault, IsStepFault, Keeps, Preserves};
+ghost use Rattle.aig_refute.specs.Refuted.{base_of, changed, followed, is_refuted, words_of};
 ghost use Rattle.aig_refute.specs.Store.{IsFalse};
 
 use crate::clause_table::ClauseTable;
-use crate::kernel::Derived;
 use crate::propagation::Propagation;
 use crate::reader::{LineEnd, RefutationReader};
 use crate::words::negation;
@@ -42,11 +43,11 @@ fn largest(clause: &[u32]) -> u32 {
 }
 
 impl Checker {
-    /// No clauses, over variables up to this one.
-    pub fn new(alloc: Global, max_var: u32) -> Result<Checker, AllocError>
-        ensures { IfOk result (λ checker. (a : ℕ → Bool) → Admits checker a) }
+    /// No clauses, over literals below this one.
+    pub fn new(alloc: Global, literals: usize) -> Result<Checker, AllocError>
+        ensures admits { IfOk result (λ checker. (a : ℕ → Bool) → Admits checker a) }
+        ensures base { IfOk result (λ checker. base_of checker ≡ literals) }
     {
-        let literals = max_var.saturating_mul(2).saturating_add(2) as usize;
         Ok(Checker {
             alloc,
             propagation: Propagation::new(alloc, literals)?,
@@ -62,7 +63,8 @@ impl Checker {
 
     /// Whether no assignment satisfies the clauses.
     pub fn is_refuted(&self) -> bool
-        ensures { result ≡ true → (a : ℕ → Bool) → ¬ Admits self.now a }
+        ensures is { result ≡ is_refuted self.now }
+        ensures none { result ≡ true → (a : ℕ → Bool) → ¬ Admits self.now a }
     {
         self.propagation.kernel.is_refuted()
     }
@@ -89,14 +91,8 @@ impl Checker {
             self.propagation.watch(second, first, clause)?;
             return Ok(());
         }
-        match self.propagation.kernel.derive(clause as usize)? {
-            Derived::Conflict => self.propagation.kernel.refute(),
-            Derived::Assigned => {
-                if self.propagation.propagate()? {
-                    self.propagation.kernel.refute();
-                }
-            }
-            Derived::Nothing => {}
+        if self.propagation.follow(clause as usize)? {
+            self.propagation.kernel.refute();
         }
         Ok(())
     }
@@ -318,7 +314,12 @@ impl Checker {
     #[tactic(auto, using(crate::proofs::Kept::keeps_all, crate::proofs::Kept::keeps_same))]
     fn follow_line(&mut self, reader: &RefutationReader, end: LineEnd) -> Result<(), Stopped>
         ensures keeps { OnOk result (Keeps self.old self.new) }
-        ensures err { IfErr result (StopsFor IsLineFault) }
+        ensures changed { OnOk result ((given : List (List ℕ)) → (changes : List Change)
+            → AreStored given changes self.old → (end ≢ LineEnd.Bad)
+            × AreStored given (changed end (reading_of reader.now).clause changes) self.new) }
+        ensures err { IfErr result (StopsFor (λ fault. (given : List (List ℕ))
+            → (changes : List Change) → AreStored given changes self.old
+            → IsStepFault given changes (record { reading = reading_of reader.now; end = end }) fault)) }
     {
         match end {
             LineEnd::Within => Ok(()),
@@ -337,24 +338,44 @@ impl Checker {
         }
     }
 
+    /// Does what a byte ends.
+    #[inline(always)]
+    fn follow_byte(&mut self, reader: &mut RefutationReader, byte: u8) -> Result<(), Stopped>
+        ensures keeps { OnOk result (Keeps self.old self.new) }
+        ensures followed { OnOk result ((given : List (List ℕ)) → (f : Followed)
+            → HaveCome given f reader.old self.old → ((next f.reading byte).end ≢ LineEnd.Bad)
+            × HaveCome given (followed f byte) reader.new self.new) }
+        ensures err { IfErr result (StopsFor (λ fault. (given : List (List ℕ)) → (f : Followed)
+            → HaveCome given f reader.old self.old
+            → IsStepFault given f.changes (next f.reading byte) fault)) }
+    {
+        let end = reader.take(byte)?;
+        if end != LineEnd::Within {
+            self.follow_line(reader, end)?;
+            reader.clear();
+        }
+        Ok(())
+    }
+
     /// Follows a piece of a refutation, until the clauses are refuted or a line is wrong. What
     /// comes once they are is not looked at.
     #[tactic(auto, using(crate::proofs::Kept::keeps_both, crate::proofs::Kept::keeps_same))]
     pub fn follow(&mut self, reader: &mut RefutationReader, piece: &[u8]) -> Result<(), Stopped>
         ensures keeps { OnOk result (Keeps self.old self.new) }
-        ensures err { IfErr result (StopsFor IsLineFault) }
+        ensures followed { OnOk result (is_refuted self.new ≡ false → (given : List (List ℕ))
+            → (f : Followed) → HaveCome given f reader.old self.old → AreInLines f piece.now
+            × HaveCome given (fold followed f piece.now) reader.new self.new) }
+        ensures err { IfErr result (StopsFor (λ fault. (is_refuted self.old ≡ false)
+            × ((given : List (List ℕ)) → (f : Followed) → HaveCome given f reader.old self.old
+            → IsLineFault given f piece.now fault))) }
     {
         if self.is_refuted() {
             return Ok(());
         }
         for k in 0..piece.len() {
-            let end = reader.take(piece[k])?;
-            if end != LineEnd::Within {
-                self.follow_line(reader, end)?;
-                reader.clear();
-                if self.is_refuted() {
-                    return Ok(());
-                }
+            self.follow_byte(reader, piece[k])?;
+            if self.is_refuted() {
+                return Ok(());
             }
         }
         Ok(())

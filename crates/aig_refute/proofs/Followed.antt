@@ -1,0 +1,88 @@
+-- Lines that were followed, piece by piece.
+use Rattle.std.proofs.Common.{◌≡◌, ◌≢◌, ◌<◌, ◌≤◌, ◌+◌, ◌-◌, ◌++◌, ◌∙◌, ⊎_elim, ℕ, List, [], ◌∷◌, length, take, fold}
+use Rattle.std.proofs.Common.{arith, ap, refl, sym, subst, ap₂}
+use Rattle.std.specs.Prelude.{slice_index}
+use Rattle.std.proofs.lemmas.Bool.{cases_lt}
+use Rattle.std.proofs.lemmas.Grind.{common_steps}
+use Rattle.std.proofs.lemmas.List.Sums.{fold-append}
+use Rattle.aig_fault.specs.declared.fault.Fault.{Fault}
+use Rattle.aig_refute.specs.Kept.{Change, ComesToRest, DoesNotFollow, IsKept, IsStored}
+use Rattle.aig_refute.specs.Lines.{Step, next}
+use Rattle.aig_refute.specs.Refuted.{AreInLines, Followed, IsLineFault, IsStepFault, ShowsNothing, followed}
+use Rattle.aig_refute.specs.Refuted.{followed_to, step_at}
+use Rattle.aig_refute.specs.declared.reader.LineEnd.TheVariants as ends
+use Rattle.aig_refute.proofs.Resting.{rests_stored}
+
+-- what propagation leaves of the clauses of a store, it leaves of those that are kept
+pub does_not_follow : (kept : List ℕ → Type 0) (words clause : List ℕ) → ComesToRest words clause
+    → ((other : List ℕ) → kept other → IsStored words other) → DoesNotFollow kept clause
+does_not_follow kept words clause rest stored = record {
+  known = rest.known;
+  refuted = rest.refuted;
+  consistent = rest.consistent;
+  at_rest = λ other is. rests_stored words clause rest other (stored other is);
+}
+
+-- first come the one bytes, then the others
+module _ (from : Followed) (first second : List ℕ) where
+  pub to_both : fold followed from (first ++ second) ≡ fold followed (fold followed from first) second
+  to_both = fold-append followed first second from
+
+  to_more : (place : ℕ)
+      → followed_to from (first ++ second) (length first + place) ≡ followed_to (fold followed from first) second place
+  to_more place =
+      let all : take (length first + place) (first ++ second) ≡ first ++ take place second =
+      grind (arith, common_steps) in
+      ap (fold followed from) all ∙ fold-append followed first (take place second) from
+
+  byte_more : (place : ℕ) → slice_index (first ++ second) (length first + place) ≡ slice_index second place
+  byte_more place = grind (arith, common_steps)
+
+  step_more : (place : ℕ)
+      → step_at from (first ++ second) (length first + place) ≡ step_at (fold followed from first) second place
+  step_more place =
+      ap₂ (λ (f : Followed) (byte : ℕ). next f.reading byte) (to_more place) (byte_more place)
+
+  step_less : (place : ℕ) → place < length first
+      → step_at from (first ++ second) place ≡ step_at from first place
+  step_less place lt =
+      let all : take place (first ++ second) ≡ take place first = grind (arith, common_steps) in
+      let byte : slice_index (first ++ second) place ≡ slice_index first place = grind (arith, common_steps) in
+      ap₂ (λ (bytes : List ℕ) (b : ℕ). next (fold followed from bytes).reading b) all byte
+
+  pub in_lines_both : AreInLines from first → AreInLines (fold followed from first) second
+      → AreInLines from (first ++ second)
+  in_lines_both one two = λ place lt.
+      let len : length (first ++ second) ≡ length first + length second = grind (arith, common_steps) in
+      ⊎_elim
+      (λ (l : place < length first).
+      λ (h : (step_at from (first ++ second) place).end ≡ ends.Bad).
+      one place l (ap (λ (s : Step). s.end) (sym (step_less place l)) ∙ h))
+      (λ (g : length first ≤ place).
+      let n : ℕ = place - length first in
+      let at : length first + n ≡ place = omega arith in
+      λ (h : (step_at from (first ++ second) place).end ≡ ends.Bad).
+      two n (omega arith)
+      (ap (λ (s : Step). s.end) (sym (step_more n) ∙ ap (step_at from (first ++ second)) at) ∙ h))
+      (cases_lt place (length first))
+
+  pub fault_more : (given : List (List ℕ)) (fault : Fault) → IsLineFault given (fold followed from first) second fault
+      → IsLineFault given from (first ++ second) fault
+  fault_more given fault is =
+      let len : length (first ++ second) ≡ length first + length second = grind (arith, common_steps) in
+      let inside : is.0 < length second = is.1 in (
+        length first + is.0,
+        omega arith,
+        subst (λ (f : Followed). IsStepFault given f.changes (step_at from (first ++ second) (length first + is.0)) fault)
+            (sym (to_more is.0))
+            (subst (λ (s : Step).
+            IsStepFault given (followed_to (fold followed from first) second is.0).changes s fault)
+            (sym (step_more is.0)) is.2),
+      )
+
+  pub shows_nothing_more : (given : List (List ℕ)) → AreInLines from first
+      → ShowsNothing given (fold followed from first) second → ShowsNothing given from (first ++ second)
+  shows_nothing_more given lines shows = record {
+    in_lines = in_lines_both lines shows.in_lines;
+    unfollowed = subst (λ (f : Followed). DoesNotFollow (IsKept given f.changes) []) (sym to_both) shows.unfollowed;
+  }
