@@ -1,15 +1,16 @@
 -- Lines that were followed, piece by piece.
 use Rattle.std.proofs.Common.{◌≡◌, ◌≢◌, ◌<◌, ◌≤◌, ◌+◌, ◌-◌, ◌++◌, ◌∙◌, ⊎_elim, ℕ, List, [], ◌∷◌, length, take, fold}
-use Rattle.std.proofs.Common.{arith, ap, refl, sym, subst, ap₂}
+use Rattle.std.proofs.Common.{arith, ap, append_assoc, inl, inr, refl, sym, subst, ap₂}
 use Rattle.std.specs.Prelude.{slice_index}
 use Rattle.std.proofs.lemmas.Bool.{cases_lt}
 use Rattle.std.proofs.lemmas.Grind.{common_steps}
 use Rattle.std.proofs.lemmas.List.Sums.{fold-append}
 use Rattle.aig_fault.specs.declared.fault.Fault.{Fault}
 use Rattle.aig_refute.specs.Kept.{Change, ComesToRest, DoesNotFollow, IsKept, IsStored}
-use Rattle.aig_refute.specs.Lines.{Step, next}
+use Rattle.aig_io.specs.Runs.{AtEnd, Broken, Open}
+use Rattle.aig_refute.specs.Lines.{Step, missing_end, next}
 use Rattle.aig_refute.specs.Refuted.{AreInLines, Followed, IsLineFault, IsStepFault, ShowsNothing, followed}
-use Rattle.aig_refute.specs.Refuted.{followed_to, step_at}
+use Rattle.aig_refute.specs.Refuted.{IsRefusedWhere, followed_to, step_at, unread}
 use Rattle.aig_refute.specs.declared.reader.LineEnd.TheVariants as ends
 use Rattle.aig_refute.proofs.Resting.{rests_stored}
 
@@ -22,6 +23,12 @@ does_not_follow kept words clause rest stored = record {
   consistent = rest.consistent;
   at_rest = λ other is. rests_stored words clause rest other (stored other is);
 }
+
+never_open : Open ≡ AtEnd → ⊥
+never_open is = cc
+
+pub never_broken : Broken ≡ AtEnd → ⊥
+never_broken is = cc
 
 -- first come the one bytes, then the others
 module _ (from : Followed) (first second : List ℕ) where
@@ -66,6 +73,21 @@ module _ (from : Followed) (first second : List ℕ) where
       (ap (λ (s : Step). s.end) (sym (step_more n) ∙ ap (step_at from (first ++ second)) at) ∙ h))
       (cases_lt place (length first))
 
+  -- what is wrong with the one is wrong with both
+  pub fault_longer : (given : List (List ℕ)) (fault : Fault) → IsLineFault given from first fault
+      → IsLineFault given from (first ++ second) fault
+  fault_longer given fault is =
+      let len : length (first ++ second) ≡ length first + length second = grind (arith, common_steps) in
+      let lt : is.0 < length first = is.1 in
+      let all : take is.0 (first ++ second) ≡ take is.0 first = grind (arith, common_steps) in (
+        is.0,
+        omega arith,
+        subst (λ (bytes : List ℕ).
+            IsStepFault given (fold followed from bytes).changes (step_at from (first ++ second) is.0) fault)
+            (sym all) (subst (λ (s : Step). IsStepFault given (followed_to from first is.0).changes s fault)
+            (sym (step_less is.0 lt)) is.2),
+      )
+
   pub fault_more : (given : List (List ℕ)) (fault : Fault) → IsLineFault given (fold followed from first) second fault
       → IsLineFault given from (first ++ second) fault
   fault_more given fault is =
@@ -86,3 +108,16 @@ module _ (from : Followed) (first second : List ℕ) where
     in_lines = in_lines_both lines shows.in_lines;
     unfollowed = subst (λ (f : Followed). DoesNotFollow (IsKept given f.changes) []) (sym to_both) shows.unfollowed;
   }
+
+-- what is refused at the end of some bytes is refused where others come behind them
+pub refused_behind : (given : List (List ℕ)) (limit : ℕ) (fault : Fault) (bytes behind : List ℕ)
+    → IsRefusedWhere given limit fault bytes Open → IsRefusedWhere given limit fault (bytes ++ behind) AtEnd
+refused_behind given limit fault bytes behind (inl why) =
+    let from : Followed = unread limit in
+    let last : List ℕ = missing_end (fold followed from (bytes ++ behind)).reading in
+    inl (
+      tt,
+      subst (λ (text : List ℕ). IsLineFault given from text fault) (sym (append_assoc bytes behind last))
+          (fault_longer from bytes (behind ++ last) given fault why.1),
+    )
+refused_behind given limit fault bytes behind (inr why) = absurd (never_open why.1)

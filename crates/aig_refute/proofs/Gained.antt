@@ -6,7 +6,10 @@ use Rattle.aig_circuit.specs.declared.circuit.Gate.{Gate}
 use Rattle.aig_cnf.specs.Clauses.{HasTrue, Satisfies, gate_clauses}
 use Rattle.aig_refute.specs.Kept.{IsAmong, IsStored}
 use Rattle.aig_refute.specs.Refuted.{Admits, Gains, GainsAll, Preserves, base_of, words_of}
+use Rattle.aig_refute.specs.Agree.{Agrees, Grows}
 use Rattle.aig_refute.specs.declared.checker.Checker.{Checker}
+use Rattle.aig_refute.specs.declared.kernel.Kernel.{Kernel}
+use Rattle.aig_refute.specs.declared.store.Store.{Store}
 
 pub preserves_same : (checker : Checker) → Preserves checker checker
 preserves_same checker = record { admits = λ a h. h; base = refl; stored = λ clause h. h }
@@ -17,6 +20,20 @@ preserves_both first second third one two = record {
   admits = λ a h. two.admits a (one.admits a h);
   base = two.base ∙ one.base;
   stored = λ clause h. two.stored clause (one.stored clause h);
+}
+
+-- the propagation of clauses alone changed
+pub preserves_kernel : (old new : Checker) → Grows old.propagation.kernel new.propagation.kernel → Preserves old new
+preserves_kernel old new grows = record { admits = grows.agrees; base = grows.base; stored = grows.stored }
+
+-- that no assignment is admitted any more was found out
+pub preserves_refuted : (old new : Checker) (between_ : Kernel) → Grows old.propagation.kernel between_
+    → new.propagation.kernel.store ≡ between_.store → ((a : ℕ → Bool) → ¬ Admits old a) → Preserves old new
+preserves_refuted old new between_ grows store none = record {
+  admits = λ a h. absurd (none a h);
+  base = ap (λ (s : Store). s.base) store ∙ grows.base;
+  stored = λ clause h.
+      subst (λ (s : Store). IsStored s.words.items clause) (sym store) (grows.stored clause h);
 }
 
 pub gains_preserved : (clause : List ℕ) (first second third : Checker) → Gains clause first second
@@ -67,3 +84,11 @@ gains_both front back first second third one two = record {
   gained = λ clause among. ⊎_elim (λ (f : IsAmong front clause). two.stored clause (one.gained clause f))
       (λ (b : IsAmong back clause). two.gained clause b) (among_part front back clause among);
 }
+
+-- a clause was appended
+pub gains_pushed : (clause : List ℕ) (old new : Checker)
+    → ((a : ℕ → Bool) → Admits old a → HasTrue a clause → Admits new a) → base_of new ≡ base_of old
+    → ((other : List ℕ) → IsStored (words_of old) other → IsStored (words_of new) other)
+    → IsStored (words_of new) clause → Gains clause old new
+gains_pushed clause old new admits base stored pushed =
+    record { admits = admits; base = base; stored = stored; gained = pushed }

@@ -46,7 +46,7 @@ pub rests_two : (words : List ℕ) (marks : List Bool) (at e k free : ℕ) → I
     → IsRead words marks at k free → IsFree words marks at k free → slice_index words k ≢ END
     → slice_index words k ≢ free → slice_index_or marks (negation_of (slice_index words k)) false ≡ false
     → RestsAt (λ literal. slice_index_or marks literal false) words e
-rests_two words marks at e k free is read found live apart open = λ literal all.
+rests_two words marks at e k free is read found live apart unmarked = λ literal all.
     let later : k ≤ e = ends_later words marks at e k free is read in
     let k_not : k ≢ e = λ same. live (ap (slice_index words) same ∙ is.ends) in
     let k_low : at ≤ k = omega (arith, found.1, found.2) in
@@ -57,7 +57,7 @@ rests_two words marks at e k free is read found live apart open = λ literal all
     (subst (λ (l : ℕ). (l ≡ literal) ⊎ (known (negation_of l) ≡ true)) found.3
     (all found.0 (in_clause words at e found.0 is found.1 m_lt))) in
     let second : slice_index words k ≡ literal =
-    is_other known (slice_index words k) literal open (all k (in_clause words at e k is k_low (omega arith))) in
+    is_other known (slice_index words k) literal unmarked (all k (in_clause words at e k is k_low (omega arith))) in
     absurd (apart (second ∙ sym first))
 
 -- the one that is left is known

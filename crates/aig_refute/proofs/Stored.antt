@@ -288,12 +288,15 @@ pub stored_alike : (words one other : List ℕ) → HaveSameLiterals one other �
     → IsStored words other
 stored_alike words one other same stored =
     ⊎_elim
-    (λ (standing : (e : ℕ) × Stands words one e). inl (standing.0, record {
-      inside = standing.1.inside;
-      ends = standing.1.ends;
-      only = λ k is_in. same.0 _ (standing.1.only k is_in);
-      each = λ literal has. standing.1.each literal (same.1 literal has);
-    }))
+    (λ (standing : (e : ℕ) × Stands words one e). inl (
+      standing.0,
+      record {
+        inside = standing.1.inside;
+        ends = standing.1.ends;
+        only = λ k is_in. same.0 _ (standing.1.only k is_in);
+        each = λ literal has. standing.1.each literal (same.1 literal has);
+      },
+    ))
     (λ (always : IsTautology one).
     inr (always.0, same.0 _ always.1, same.0 _ always.2))
     stored

@@ -1,5 +1,5 @@
 -- A refutation that is read in pieces.
-use Rattle.std.proofs.Common.{◌≡◌, ◌<◌, ◌+◌, ◌++◌, ◌×◌, ◌∙◌, ℕ, List, [], Bool, false, Ok, Err, ap, arith, inl, inr, refl, subst, sym}
+use Rattle.std.proofs.Common.{◌≡◌, ◌<◌, ◌+◌, ◌++◌, ◌∙◌, ℕ, List, [], Bool, false, Ok, Err, ap, arith, inl, inr, refl, subst, sym}
 use Rattle.std.proofs.Common.{fold}
 use Rattle.aig_fault.specs.Stopping.{StopsFor, refusal}
 use Rattle.aig_fault.specs.declared.fault.Fault.{Fault}
@@ -38,7 +38,7 @@ has_followed_none limit source reader checker begins = record {
   bytes = [];
   history = took_none source;
   keeps = keeps_same checker;
-  came = λ open given stored. ((λ place lt. absurd (omega (arith, lt))), (begins, stored));
+  came = λ is_open given stored. ((λ place lt. absurd (omega (arith, lt))), (begins, stored));
 }
 
 -- what is wrong with these bytes, after others
@@ -83,14 +83,18 @@ module _ (limit : ℕ) (a b : History) (reader : RefutationReader) (old now : Ch
         → ((given : List (List ℕ)) → (f : Followed) → HaveCome given f reader now
         → ShowsNothing given f (missing_end f.reading))
         → Read (ReadingSays limit old (Err (refusal NoRefutation Whole 0))) a c
-    not_refuted open shows = record {
+    not_refuted is_open shows = record {
       bytes = so.bytes;
       ending = AtEnd;
       says = λ given stored.
-          let come = so.came open given stored in
+          let come = so.came is_open given stored in
           let f : Followed = fold followed (unread limit) so.bytes in
-          inr (refl, refl, shows_nothing_more (unread limit) so.bytes (missing_end f.reading) given come.0
-          (shows given f come.1));
+          inr (
+            refl,
+            refl,
+            shows_nothing_more (unread limit) so.bytes (missing_end f.reading) given come.0
+                (shows given f come.1),
+          );
       came = is ∙ ap at_end so.history;
     }
 
@@ -117,13 +121,13 @@ module _ (limit : ℕ) (a b : History) (reader : RefutationReader) (old now : Ch
         → (is_refuted next ≡ false → (given : List (List ℕ)) → (f : Followed) → HaveCome given f reader now
         → AreInLines f chunk × HaveCome given (fold followed f chunk) reader_next next)
         → HasFollowed limit a c reader_next old next
-    has_followed_more reader_next next keeps open followed_on = record {
+    has_followed_more reader_next next keeps still followed_on = record {
       bytes = so.bytes ++ chunk;
       history = took_twice a b c so.bytes chunk so.history came;
       keeps = keeps_both old now next so.keeps keeps;
       came = λ is_open given stored.
           let f : Followed = fold followed (unread limit) so.bytes in
-          let come = so.came (open is_open) given stored in
+          let come = so.came (still is_open) given stored in
           let more = followed_on is_open given f come.1 in (
             in_lines_both (unread limit) so.bytes chunk come.0 more.0,
             subst (λ (g : Followed). HaveCome given g reader_next next)

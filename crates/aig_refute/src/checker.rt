@@ -83,6 +83,7 @@ impl Checker {
     }
 
     /// Lets a clause be watched, or follows what it says at once.
+    #[tactic(auto, using(crate::proofs::Gained::preserves_refuted, crate::proofs::Gained::preserves_kernel))]
     fn attach(&mut self, clause: u32) -> Result<(), AllocError>
         ensures { Preserves self.old self.new }
     {
@@ -178,14 +179,19 @@ impl Checker {
         ensures extends { IfOk result (λ yes. yes ≡ true → (a : ℕ → Bool)
             → Admits self.old a → CanExtend clause.now self.new a) }
     {
-        if clause.is_empty() || !self.propagation.kernel.is_new(clause[0]) {
+        if clause.is_empty() {
             return Ok(false);
         }
-        let can_extend = self.can_make_true(clause, clause[0])?;
+        let pivot = clause[0];
+        if !self.propagation.kernel.is_new(pivot) {
+            return Ok(false);
+        }
+        let can_extend = self.can_make_true(clause, pivot)?;
         Ok(can_extend)
     }
 
     /// There is room for the literals of a clause.
+    #[tactic(auto, using(crate::proofs::Gained::preserves_kernel, crate::proofs::Gained::preserves_same))]
     fn make_room(&mut self, clause: &[u32]) -> Result<(), AllocError>
         ensures { OnOk result (Preserves self.old self.new) }
     {
@@ -200,6 +206,7 @@ impl Checker {
 
     /// What follows where all clauses are looked at, until none says anything more: whether that is
     /// a contradiction. Each turn but the last finds a literal, so there are enough.
+    #[tactic(auto, using(crate::proofs::Later::grows_both, crate::proofs::Later::grows_same))]
     fn exhaust(&mut self, clause: &[u32]) -> Result<bool, AllocError>
         ensures grows { Grows self.old.propagation.kernel self.new.propagation.kernel }
         ensures clash { IfOk result (λ c. c ≡ true
@@ -218,9 +225,25 @@ impl Checker {
         Err(AllocError)
     }
 
-    /// Whether a clause follows by unit propagation, as `follows`, but that an overlooked clause is
-    /// looked at: so the answer no is proved too.
-    fn follows_after_all(&mut self, clause: &[u32]) -> Result<bool, AllocError>
+    /// Whether not all literals of a clause can be false, where all clauses are looked at.
+    #[tactic(auto, using(crate::proofs::Later::supposes_grown))]
+    fn contradicts_after_all(&mut self, clause: &[u32]) -> Result<bool, AllocError>
+        ensures supposes { Supposes clause.now self.old.propagation.kernel
+            self.new.propagation.kernel }
+        ensures clash { IfOk result (λ c. c ≡ true
+            → Excludes clause.now self.old.propagation.kernel) }
+        ensures rests { IfOk result (λ c. c ≡ false
+            → ComesToRest (words_of self.new) clause.now) }
+    {
+        if self.assume_false(clause)? {
+            return Ok(true);
+        }
+        self.exhaust(clause)
+    }
+
+    /// Whether a clause follows by unit propagation, as `follows`, but that clauses are looked at
+    /// which it overlooks: so the answer no is proved too.
+    pub(crate) fn follows_after_all(&mut self, clause: &[u32]) -> Result<bool, AllocError>
         ensures preserves { OnOk result (Preserves self.old self.new) }
         ensures follows { IfOk result (λ yes. yes ≡ true → (a : ℕ → Bool)
             → Admits self.old a → HasTrue a clause.now) }
@@ -228,11 +251,7 @@ impl Checker {
             → ComesToRest (words_of self.new) clause.now) }
     {
         let base = self.propagation.kernel.known_count();
-        let conflict = if self.assume_false(clause)? {
-            true
-        } else {
-            self.exhaust(clause)?
-        };
+        let conflict = self.contradicts_after_all(clause)?;
         self.propagation.forget(base);
         Ok(conflict)
     }
@@ -282,6 +301,7 @@ impl Checker {
     }
 
     /// Gives the memory of clauses that were let go back.
+    #[tactic(auto, using(crate::proofs::Gained::preserves_both, crate::proofs::Gained::preserves_kernel))]
     fn compact(&mut self) -> Result<(), AllocError>
         ensures { Preserves self.old self.new }
     {

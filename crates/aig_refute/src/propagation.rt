@@ -48,7 +48,8 @@ fn take_out(list: &mut Vec<Watch>, from: usize, to: usize) {
 impl Propagation {
     /// No clauses, over literals below this one.
     pub(crate) fn new(alloc: Global, literals: usize) -> Result<Propagation, AllocError>
-        ensures { IfOk result (λ propagation. (a : ℕ → Bool) → Agrees a propagation.kernel) }
+        ensures agrees { IfOk result (λ propagation. (a : ℕ → Bool) → Agrees a propagation.kernel) }
+        ensures base { IfOk result (λ propagation. propagation.kernel.store.base ≡ literals) }
     {
         let mut watches = Vec::with_capacity(alloc, literals)?;
         for _ in 0..literals {

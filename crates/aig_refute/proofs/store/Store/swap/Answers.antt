@@ -1,5 +1,6 @@
 use Rattle.std.proofs.Common.{◌≡◌, List, arith, length, subst, sym, ℕ}
 use Rattle.aig_refute.specs.Extended.{AreSpanned}
+use Rattle.aig_refute.specs.Kept.{Stands}
 use Rattle.aig_refute.proofs.Spans.{all_written}
 use Rattle.aig_refute.proofs.store.Store.swap.Goals as goal
 
@@ -15,3 +16,21 @@ invariant_of-self c =
           (subst (λ (w : List ℕ). AreSpanned self.base w self.firsts.items self.lasts.items)
           (sym c.deref_mut.ensures.value) self.spanned));
     }
+
+pub returns-clause-stands : goal.returns-clause-stands
+returns-clause-stands c = λ clause e stands.
+    let self = c.args.self.now in
+    let new : List ℕ = c.swap_literals.new.words in
+    let len : self.words.len ≡ length new = omega (arith, c.swap_literals.ensures.len, c.deref_mut.ensures.len) in
+    subst (λ (w : List ℕ). Stands w clause e) (sym (all_written new self.words.items self.words.len len))
+    (c.swap_literals.ensures.stands clause e
+    (subst (λ (w : List ℕ). Stands w clause e) (sym c.deref_mut.ensures.value) stands))
+
+pub returns-clause-stood : goal.returns-clause-stood
+returns-clause-stood c = λ clause e stands.
+    let self = c.args.self.now in
+    let new : List ℕ = c.swap_literals.new.words in
+    let len : self.words.len ≡ length new = omega (arith, c.swap_literals.ensures.len, c.deref_mut.ensures.len) in
+    subst (λ (w : List ℕ). Stands w clause e) c.deref_mut.ensures.value
+    (c.swap_literals.ensures.stood clause e
+    (subst (λ (w : List ℕ). Stands w clause e) (all_written new self.words.items self.words.len len) stands))
