@@ -1,6 +1,7 @@
 -- What is so of each line of a refutation that is read.
 use Rattle.std.proofs.Common.{◌≡◌, ◌≢◌, ◌+◌, ◌-◌, ◌<◌, ◌==◌, ◌++◌, ◌∙◌, ℕ, List, [], ◌∷◌, Bool, true, false, Option}
-use Rattle.std.proofs.Common.{None, Some, add-one, arith, drop, drop-cons, fold, get_or, if◌then◌else◌, length, refl, rules, subst, sym}
+use Rattle.std.proofs.Common.{None, Some, add-one, arith, drop, drop-cons, fold, get_or, if◌then◌else◌, length}
+use Rattle.std.proofs.Common.{refl, rules, subst, sym}
 use Rattle.std.specs.Prelude.{All}
 use Rattle.std.proofs.lemmas.Bool.Decides.{nat_tests}
 use Rattle.std.proofs.lemmas.List.Elements.{All-nil, All-push}

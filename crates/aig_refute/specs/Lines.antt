@@ -11,11 +11,13 @@
 --               all but the last of which are 128 or more
 --
 -- A line adds its clause, or deletes it if it begins with `d`. The codes of the numbers v and -v are 2v and 2v + 1. A
--- code less 2 is the literal: number 1, the constant, has 0 and 1. In line N literals are below a limit and 2N, and below
--- the word that ends a clause. Each byte that cannot go on so is in no line, and neither is what follows it.
+-- code less 2 is the literal: number 1, the constant, has 0 and 1. In line N literals are below a limit plus 2N, and
+-- below the word that ends a clause. A byte that cannot go on so is in no line, and neither is what follows it. A
+-- number at the end of a text ends as before a line feed.
 --
--- The first bytes tell text and binary apart. Binary begins with `a`, or with `d`; but for a `d` and a space, behind which
--- a space follows a number of at most eleven bytes: no clause has the code 32 twice. Those bytes are held until then.
+-- The first bytes tell text and binary apart. Binary begins with `a` or with `d`. But `d`, a space, at most eleven
+-- digits and minuses and a space begin a text, since no clause has the code 32 twice. So those bytes are held until
+-- then.
 --
 -- In text a line feed ends a line, wherever clauses end, and in binary a clause does. Lines are counted from 1.
 use Rattle.std.specs.Prelude.{◌+◌, ◌-◌, ◌*◌, ◌%◌, ◌^◌, ◌==◌, ◌&&◌, ◌||◌, ◌++◌, ℕ, List, [], ◌∷◌, Bool, true, false, not}
