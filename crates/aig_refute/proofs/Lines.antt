@@ -1,6 +1,7 @@
 -- What is so of each line of a refutation that is read.
-use Rattle.std.proofs.Common.{◌≡◌, ◌≢◌, ◌+◌, ◌-◌, ◌<◌, ◌==◌, ◌++◌, ◌∙◌, ℕ, List, [], ◌∷◌, Bool, true, false, Option, None, Some, add-one}
-use Rattle.std.proofs.Common.{arith, drop, drop-cons, fold, get_or, if◌then◌else◌, length, refl, rules, subst, sym}
+use Rattle.std.proofs.Common.{◌≡◌, ◌≢◌, ◌+◌, ◌-◌, ◌<◌, ◌==◌, ◌++◌, ◌∙◌, ℕ, List, [], ◌∷◌, Bool, true, false, Option}
+use Rattle.std.proofs.Common.{None, Some, add-one, arith, drop, drop-cons, fold, get_or, if◌then◌else◌, length}
+use Rattle.std.proofs.Common.{refl, rules, subst, sym}
 use Rattle.std.specs.Prelude.{All}
 use Rattle.std.proofs.lemmas.Bool.Decides.{nat_tests}
 use Rattle.std.proofs.lemmas.List.Elements.{All-nil, All-push}
@@ -12,8 +13,8 @@ use Rattle.aig_refute.specs.declared.reader.Spot.{Spot}
 use Rattle.aig_refute.specs.declared.reader.Spot.TheVariants as spots
 use Rattle.aig_refute.specs.declared.words.TheConstants.{END}
 use Rattle.aig_refute.specs.Lines.{Reading, Step, after, begun, cleared, held_codes, held_text, in_first_number}
-use Rattle.aig_refute.specs.Lines.{is_code, is_wrong, is_wrong_at, may_be_held, move_at, next, next_at, plain, standing, with_code}
-use Rattle.aig_refute.specs.Lines.{with_literal}
+use Rattle.aig_refute.specs.Lines.{is_code, is_wrong, is_wrong_at, may_be_held, move_at, next, next_at, plain, standing}
+use Rattle.aig_refute.specs.Lines.{with_code, with_literal}
 
 -- one of the bytes that were held, and those behind it
 pub held_on : (start now : Reading) (step : Step) (bytes : List ℕ) (k b : ℕ) → k < length bytes → b ≡ get_or bytes k b

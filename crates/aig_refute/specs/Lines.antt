@@ -1,24 +1,25 @@
 -- Lines of a refutation, read byte by byte: this project's profile of DRAT.
 --
 --     text    = (blank | comment | line)*
---     comment = "c" anything LF
 --     line    = ("d" blank*)? (number blank+)* "0"+ blank
---     number  = "-"? [0-9]+        neither -0 nor a 0 first after the minus; what comes to 0 ends the line
+--     comment = "c" anything LF
+--     number  = [0-9]+ | "-" [1-9] [0-9]*      other than 0
 --     blank   = " " | CR | LF
 --
 --     binary  = (("a" | "d") code* 0)*
---     code    = the number's bits in groups of seven, the lowest first: each in a byte, which is 128 or more where another
---               follows, and at most five
+--     code    = a number other than 0 in groups of seven bits, the lowest first, each in a byte: at most five of them,
+--               all but the last of which are 128 or more
 --
--- A line adds its clause, or deletes it, if it begins with `d`. The number v has the code 2v, and -v the code 2v + 1; what
--- a code is above 2 is the literal, of which number 1, the constant, has 0 and 1. In line N literals are below a limit and
--- 2N, and below the word that ends a clause.
+-- A line adds its clause, or deletes it if it begins with `d`. The codes of the numbers v and -v are 2v and 2v + 1. A
+-- code less 2 is the literal: number 1, the constant, has 0 and 1. In line N literals are below a limit plus 2N, and
+-- below the word that ends a clause. A byte that cannot go on so is in no line, and neither is what follows it. A
+-- number at the end of a text ends as before a line feed.
 --
--- The first byte tells text and binary apart. Binary begins with `a`, or with `d`: unless what follows that is a space, and
--- at most eleven bytes of a number up to another one, since no clause has a code twice. So these bytes are held, and read
--- once it is known as what.
+-- The first bytes tell text and binary apart. Binary begins with `a` or with `d`. But `d`, a space, at most eleven
+-- digits and minuses and a space begin a text, since no clause has the code 32 twice. So those bytes are held until
+-- then.
 --
--- In text a line is what a line feed ends, wherever clauses end, and in binary a clause. Lines are counted from 1.
+-- In text a line feed ends a line, wherever clauses end, and in binary a clause does. Lines are counted from 1.
 use Rattle.std.specs.Prelude.{◌+◌, ◌-◌, ◌*◌, ◌%◌, ◌^◌, ◌==◌, ◌&&◌, ◌||◌, ◌++◌, ℕ, List, [], ◌∷◌, Bool, true, false, not}
 use Rattle.std.specs.Prelude.{Option, None, Some, codes, fold, if◌then◌else◌, length, min, nat_le, nat_lt}
 use Rattle.aig_refute.specs.declared.reader.LineEnd.{LineEnd}
