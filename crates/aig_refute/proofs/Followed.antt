@@ -4,7 +4,9 @@ use Rattle.std.proofs.Common.{arith, ap, append_assoc, inl, inr, refl, sym, subs
 use Rattle.std.specs.Prelude.{slice_index}
 use Rattle.std.proofs.lemmas.Bool.{cases_lt}
 use Rattle.std.proofs.lemmas.Grind.{common_steps}
+use Rattle.std.proofs.lemmas.List.{take-append-le}
 use Rattle.std.proofs.lemmas.List.Sums.{fold-append}
+use Rattle.std.proofs.Math.Seq.{take-append-add}
 use Rattle.aig_fault.specs.declared.fault.Fault.{Fault}
 use Rattle.aig_refute.specs.Kept.{Change, ComesToRest, DoesNotFollow, IsKept, IsStored}
 use Rattle.aig_io.specs.Runs.{AtEnd, Broken, Open}
@@ -33,14 +35,13 @@ never_broken is = cc
 -- first come the one bytes, then the others
 module _ (from : Followed) (first second : List ℕ) where
   pub to_both : fold followed from (first ++ second) ≡ fold followed (fold followed from first) second
-  to_both = fold-append followed first second from
+  to_both = fold-append followed from first second
 
   to_more : (place : ℕ)
       → followed_to from (first ++ second) (length first + place) ≡ followed_to (fold followed from first) second place
   to_more place =
-      let all : take (length first + place) (first ++ second) ≡ first ++ take place second =
-      grind (arith, common_steps) in
-      ap (fold followed from) all ∙ fold-append followed first (take place second) from
+      ap (fold followed from) (take-append-add first second place)
+      ∙ fold-append followed from first (take place second)
 
   byte_more : (place : ℕ) → slice_index (first ++ second) (length first + place) ≡ slice_index second place
   byte_more place = grind (arith, common_steps)
@@ -53,7 +54,7 @@ module _ (from : Followed) (first second : List ℕ) where
   step_less : (place : ℕ) → place < length first
       → step_at from (first ++ second) place ≡ step_at from first place
   step_less place lt =
-      let all : take place (first ++ second) ≡ take place first = grind (arith, common_steps) in
+      let all : take place (first ++ second) ≡ take place first = take-append-le place first second (omega arith) in
       let byte : slice_index (first ++ second) place ≡ slice_index first place = grind (arith, common_steps) in
       ap₂ (λ (bytes : List ℕ) (b : ℕ). next (fold followed from bytes).reading b) all byte
 
@@ -79,7 +80,7 @@ module _ (from : Followed) (first second : List ℕ) where
   fault_longer given fault is =
       let len : length (first ++ second) ≡ length first + length second = grind (arith, common_steps) in
       let lt : is.0 < length first = is.1 in
-      let all : take is.0 (first ++ second) ≡ take is.0 first = grind (arith, common_steps) in (
+      let all : take is.0 (first ++ second) ≡ take is.0 first = take-append-le is.0 first second (omega arith) in (
         is.0,
         omega arith,
         subst (λ (bytes : List ℕ).

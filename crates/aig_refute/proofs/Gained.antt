@@ -36,6 +36,16 @@ preserves_refuted old new between_ grows store none = record {
       subst (λ (s : Store). IsStored s.words.items clause) (sym store) (grows.stored clause h);
 }
 
+-- what else a checker has makes no difference
+pub preserves_on : (old between_ new : Checker) → new.propagation.kernel ≡ between_.propagation.kernel
+    → Preserves old between_ → Preserves old new
+preserves_on old between_ new same one = record {
+  admits = λ a h. subst (λ (k : Kernel). Agrees a k) (sym same) (one.admits a h);
+  base = ap (λ (k : Kernel). k.store.base) same ∙ one.base;
+  stored = λ clause h.
+      subst (λ (k : Kernel). IsStored k.store.words.items clause) (sym same) (one.stored clause h);
+}
+
 pub gains_preserved : (clause : List ℕ) (first second third : Checker) → Gains clause first second
     → Preserves second third → Gains clause first third
 gains_preserved clause first second third one two = record {

@@ -33,7 +33,7 @@ left_one words marks at e k free is read found =
     let later : k ≤ e = ends_later words marks at e k free is read in
     (found.0, in_clause words at e found.0 is found.1 (omega (arith, found.2)), found.3, found.4)
 
-not_both : (b : Bool) → b ≡ false → b ≡ true → ⊥
+pub not_both : (b : Bool) → b ≡ false → b ≡ true → ⊥
 not_both b f t = let wrong : false ≡ true = sym f ∙ t in cc
 
 is_other : (known : ℕ → Bool) (l literal : ℕ) → known (negation_of l) ≡ false
@@ -74,7 +74,7 @@ twice_negated : (l : ℕ) → negation_of (negation_of l) ≡ l
 twice_negated l = grind arith
 
 negation_apart : (l : ℕ) → negation_of l ≢ l
-negation_apart l = λ e. absurd (omega arith)
+negation_apart l = λ e. absurd (grind (arith, e))
 
 -- a clause that is always true is at rest
 rests_always : (known : ℕ → Bool) (clause : List ℕ) → IsConsistent known → IsTautology clause → IsAtRest known clause

@@ -317,3 +317,22 @@ gone_always words at e is two negated clause stands = (
   stands.only at (omega arith, λ m low high. is.literals m low high),
   subst (HasLiteral clause) negated (stands.only (at + 1) (omega arith, λ m low high. is.literals m (omega arith) high)),
 )
+
+-- what the clause at a place is not, it is not where its literals changed places
+pub apart_swapped : (words new : List ℕ) (at : ℕ)
+    → ((m : ℕ) → slice_index words m ≢ END → slice_index new m ≢ END)
+    → ((m : ℕ) → slice_index words m ≡ END → slice_index new m ≡ END) → length new ≡ length words
+    → ((clause : List ℕ) (e : ℕ) → Stands new clause e → Stands words clause e) → (clause : List ℕ)
+    → ((e : ℕ) → IsClause words at e → Stands words clause e → ⊥) → (e : ℕ) → IsClause new at e
+    → Stands new clause e → ⊥
+apart_swapped words new at live ends len stood clause apart = λ e is stands.
+    let back : (m : ℕ) → slice_index new m ≡ END → slice_index words m ≡ END = λ m h.
+    ⊎_elim (λ (same : slice_index words m ≡ END). same)
+    (λ (other : slice_index words m ≢ END). absurd (live m other h)) (cases_eq (slice_index words m) END) in
+    apart e (record {
+      order = is.order;
+      inside = omega (arith, is.inside);
+      ends = back e is.ends;
+      begins = λ m h. back m (is.begins m h);
+      literals = λ m low high h. is.literals m low high (ends m h);
+    }) (stood clause e stands)

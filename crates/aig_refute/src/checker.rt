@@ -92,7 +92,8 @@ impl Checker {
             self.propagation.watch(second, first, clause)?;
             return Ok(());
         }
-        if self.propagation.follow(clause as usize)? {
+        let is_refuted = self.propagation.follow(clause as usize)?;
+        if is_refuted {
             self.propagation.kernel.refute();
         }
         Ok(())
@@ -149,7 +150,8 @@ impl Checker {
             → Admits self.old a → All (λ c. HasTrue a c.items) clauses.now) }
     {
         for k in 0..clauses.len() {
-            if !self.follows(&clauses[k])? {
+            let follows = self.follows(&clauses[k])?;
+            if !follows {
                 return Ok(false);
             }
         }
@@ -264,10 +266,16 @@ impl Checker {
         ensures rests { IfOk result (λ yes. yes ≡ false
             → ComesToRest (words_of self.new) clause.now) }
     {
-        if self.follows(clause)? || self.extends(clause)? {
+        let follows = self.follows(clause)?;
+        if follows {
             return Ok(true);
         }
-        self.follows_after_all(clause)
+        let extends = self.extends(clause)?;
+        if extends {
+            return Ok(true);
+        }
+        let follows = self.follows_after_all(clause)?;
+        Ok(follows)
     }
 
     /// Adds a clause if it follows, or brings in a new variable, and answers whether it does.
@@ -382,6 +390,7 @@ impl Checker {
     #[tactic(auto, using(crate::proofs::Kept::keeps_both, crate::proofs::Kept::keeps_same))]
     pub fn follow(&mut self, reader: &mut RefutationReader, piece: &[u8]) -> Result<(), Stopped>
         ensures keeps { OnOk result (Keeps self.old self.new) }
+        ensures still { OnOk result (is_refuted self.new ≡ false → is_refuted self.old ≡ false) }
         ensures followed { OnOk result (is_refuted self.new ≡ false → (given : List (List ℕ))
             → (f : Followed) → HaveCome given f reader.old self.old → AreInLines f piece.now
             × HaveCome given (fold followed f piece.now) reader.new self.new) }

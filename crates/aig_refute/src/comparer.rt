@@ -73,9 +73,10 @@ impl Comparer {
         ensures { result ≡ true → (literal : ℕ) → HasLiteral clause.now literal
             → HasLiteral other.now literal }
     {
-        clear_all(&mut self.marks, clause);
-        mark_all(&mut self.marks, other);
-        are_marked(&self.marks, clause)
+        let marks = self.marks.as_mut_slice();
+        clear_all(marks, clause);
+        mark_all(marks, other);
+        are_marked(marks, clause)
     }
 
     /// Whether two clauses have the same literals.

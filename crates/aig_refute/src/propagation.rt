@@ -195,6 +195,7 @@ impl Propagation {
 
     /// Follows what the clause that begins there says to its end, or to a clause that is false: then
     /// the answer is yes.
+    #[tactic(auto, using(crate::proofs::Later::grows_both, crate::proofs::Later::grows_same))]
     pub(crate) fn follow(&mut self, at: usize) -> Result<bool, AllocError>
         ensures grows { Grows self.old.kernel self.new.kernel }
         ensures conflict { IfOk result (λ c. c ≡ true
@@ -202,7 +203,10 @@ impl Propagation {
     {
         match self.kernel.derive(at)? {
             Derived::Conflict => Ok(true),
-            _ => self.propagate(),
+            _ => {
+                let conflict = self.propagate()?;
+                Ok(conflict)
+            }
         }
     }
 

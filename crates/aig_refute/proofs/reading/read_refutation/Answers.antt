@@ -7,11 +7,12 @@ pub loop-count-preserved : goal.loop-count-preserved
 loop-count-preserved g c =
     let next = rw (← c.split_at.ensures.front) at (c.in-Ok.ensures.history
     ∙ gave_next _ c.in-Ok.count _ (omega arith)) in
-    has_followed_more _ _ _ _ c.loop-count.invariant _ c.split_at.result.0.now next _ c.in_ok-follow.ensures.keeps
+    has_followed_more _ _ _ _ _ _ c.loop-count.invariant _ c.split_at.result.0.now next _ _
+    c.in_ok-follow.ensures.keeps c.in_ok-follow.ensures.still c.in_ok-follow.ensures.followed
 
 pub returns-in_err-follow : goal.returns-in_err-follow
 returns-in_err-follow g c =
     let next = rw (← c.split_at.ensures.front) at (c.in-Ok.ensures.history
     ∙ gave_next _ c.in-Ok.count _ (omega arith)) in
-    let wrong = wrong_within _ _ _ _ c.loop-count.invariant _ c.split_at.result.0.now next in
+    let wrong = wrong_within _ _ _ _ _ _ c.loop-count.invariant _ c.split_at.result.0.now next in
     search (rules, wrong)

@@ -1,4 +1,4 @@
-use Rattle.std.proofs.Common.{◌≡◌, ◌<◌, ◌≤◌, ◌+◌, ⊎_elim, ℕ, List, arith, absurd, ap, sym, ◌∙◌, refl}
+use Rattle.std.proofs.Common.{rules, ◌≡◌, ◌≢◌, ◌<◌, ◌≤◌, ◌+◌, ⊎_elim, ℕ, List, arith, ap, sym, ◌∙◌, refl}
 use Rattle.std.specs.Prelude.{slice_index}
 use Rattle.std.proofs.lemmas.Bool.{cases_lt, cases_eq}
 use Rattle.aig_refute.specs.declared.words.TheConstants.{END}
@@ -32,6 +32,6 @@ returns-clause-stored c = λ clause stored.
     ⊎_elim
     (λ (l : e < c.loop-end.at). c.loop-end.invariant.4 clause e l stands)
     (λ (g : c.loop-end.at ≤ e).
-    absurd (c.clause_end.ensures.none refl c.loop-end.invariant.0 c.loop-end.invariant.1 e g stands.inside stands.ends))
+    absurd (c.clause_end.ensures.none (search rules) c.loop-end.invariant.0 c.loop-end.invariant.1 e g stands.inside stands.ends))
     (cases_lt e c.loop-end.at))
     stored

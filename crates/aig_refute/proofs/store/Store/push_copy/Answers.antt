@@ -9,9 +9,9 @@ returns-then-is_gone-clause-copied c = λ clause stands.
 
 pub returns-clause-holds : goal.returns-clause-holds
 returns-clause-holds c = λ a holds before.
-    c.push.ensures.holds a before (clause_true a c.args.words.now c.args.at c.args.end holds c.requires)
+    c.in_ok-push.ensures.holds a before (clause_true a c.args.words.now c.args.at c.args.end holds c.requires)
 
 pub returns-clause-copied : goal.returns-clause-copied
 returns-clause-copied c = λ clause stands.
     stored_alike _ _ clause (same_literals c.args.words.now c.args.at c.args.end c.requires clause stands)
-    c.push.ensures.pushed
+    c.in_ok-push.ensures.pushed

@@ -1,7 +1,8 @@
-use Rattle.std.proofs.Common.{◌≡◌, List, arith, length, subst, sym, ℕ}
+use Rattle.std.proofs.Common.{◌≡◌, List, arith, inl, length, subst, sym, ℕ}
 use Rattle.aig_refute.specs.Extended.{AreSpanned}
-use Rattle.aig_refute.specs.Kept.{Stands}
+use Rattle.aig_refute.specs.Kept.{IsStored, Stands}
 use Rattle.aig_refute.proofs.Spans.{all_written}
+use Rattle.aig_refute.proofs.Stored.{stored_from}
 use Rattle.aig_refute.proofs.store.Store.swap.Goals as goal
 
 pub invariant_of-self : goal.invariant_of-self
@@ -17,14 +18,14 @@ invariant_of-self c =
           (sym c.deref_mut.ensures.value) self.spanned));
     }
 
-pub returns-clause-stands : goal.returns-clause-stands
-returns-clause-stands c = λ clause e stands.
+pub returns-clause-stored : goal.returns-clause-stored
+returns-clause-stored c = λ clause stored.
     let self = c.args.self.now in
     let new : List ℕ = c.swap_literals.new.words in
     let len : self.words.len ≡ length new = omega (arith, c.swap_literals.ensures.len, c.deref_mut.ensures.len) in
-    subst (λ (w : List ℕ). Stands w clause e) (sym (all_written new self.words.items self.words.len len))
-    (c.swap_literals.ensures.stands clause e
-    (subst (λ (w : List ℕ). Stands w clause e) (sym c.deref_mut.ensures.value) stands))
+    subst (λ (w : List ℕ). IsStored w clause) (sym (all_written new self.words.items self.words.len len))
+    (stored_from c.deref_mut.result.now new clause (λ e stands. inl (e, c.swap_literals.ensures.stands clause e stands))
+    (subst (λ (w : List ℕ). IsStored w clause) (sym c.deref_mut.ensures.value) stored))
 
 pub returns-clause-stood : goal.returns-clause-stood
 returns-clause-stood c = λ clause e stands.

@@ -1,0 +1,6 @@
+use Rattle.aig_refute.proofs.Later.{grows_both}
+use Rattle.aig_refute.proofs.kernel.Kernel.visit.Goals as goal
+
+pub returns-then-k-at-gt-MANY : goal.returns-then-k-at-gt-MANY
+returns-then-k-at-gt-MANY c =
+    grows_both c.args.self.now c.swap.new.self _ c.swap.ensures.grows c.put_behind.ensures
