@@ -1,5 +1,5 @@
 -- What is so of each line of a refutation that is read.
-use Rattle.std.proofs.Common.{◌≡◌, ◌≢◌, ◌+◌, ◌-◌, ◌<◌, ◌==◌, ◌++◌, ◌∙◌, ℕ, List, [], ◌∷◌, Bool, true, false, Option}
+use Rattle.std.proofs.Common.{◌≡◌, ◌≢◌, ◌+◌, ◌-◌, ◌<◌, ◌==◌, ◌++◌, ℕ, List, [], ◌∷◌, Bool, true, false, Option}
 use Rattle.std.proofs.Common.{None, Some, add-one, arith, drop, drop-cons, fold, get_or, if◌then◌else◌, length}
 use Rattle.std.proofs.Common.{refl, rules, subst, sym}
 use Rattle.std.specs.Prelude.{All}
@@ -98,7 +98,8 @@ below_first r byte all =
     let as_text = record r { reader = standing_at r.reader spots.Blank } in
     let as_codes = record r { reader = in_binary r.reader } in
     let text = below_plain (held_text r) byte (below_after as_text r.held all) in
-    let codes = below_plain (held_codes r) byte (below_after (after as_codes 32) r.held (below_plain as_codes 32 all)) in
+    let codes =
+    below_plain (held_codes r) byte (below_after (after as_codes 32) r.held (below_plain as_codes 32 all)) in
     below_either (may_be_held r byte) (record { reading = record r { held = r.held ++ (byte ∷ []) }; end = Within })
     (if byte == 32 then plain (held_text r) byte else plain (held_codes r) byte) all
     (below_either (byte == 32) (plain (held_text r) byte) (plain (held_codes r) byte) text codes)
