@@ -1,5 +1,5 @@
 -- What is so of each line of a refutation that is read.
-use Rattle.std.proofs.Common.{◌≡◌, ◌≢◌, ◌+◌, ◌-◌, ◌<◌, ◌==◌, ◌++◌, ◌∙◌, ℕ, List, [], ◌∷◌, Bool, true, false, Option}
+use Rattle.std.proofs.Common.{◌≡◌, ◌≢◌, ◌+◌, ◌-◌, ◌<◌, ◌==◌, ◌++◌, ℕ, List, [], ◌∷◌, Bool, true, false, Option}
 use Rattle.std.proofs.Common.{None, Some, add-one, arith, drop, drop-cons, fold, get_or, if◌then◌else◌, length}
 use Rattle.std.proofs.Common.{refl, rules, subst, sym}
 use Rattle.std.specs.Prelude.{All}
@@ -7,14 +7,13 @@ use Rattle.std.proofs.lemmas.Bool.Decides.{nat_tests}
 use Rattle.std.proofs.lemmas.List.Elements.{All-nil, All-push}
 use Rattle.aig_refute.specs.declared.reader.LineEnd.{LineEnd}
 use Rattle.aig_refute.specs.declared.reader.LineEnd.TheVariants.{Bad, Within}
-use Rattle.aig_refute.specs.declared.reader.Move.{Move}
 use Rattle.aig_refute.specs.declared.reader.Reader.{Reader}
 use Rattle.aig_refute.specs.declared.reader.Spot.{Spot}
 use Rattle.aig_refute.specs.declared.reader.Spot.TheVariants as spots
 use Rattle.aig_refute.specs.declared.words.TheConstants.{END}
-use Rattle.aig_refute.specs.Lines.{Reading, Step, after, begun, cleared, held_codes, held_text, in_first_number}
-use Rattle.aig_refute.specs.Lines.{is_code, is_wrong, is_wrong_at, may_be_held, move_at, next, next_at, plain, standing}
-use Rattle.aig_refute.specs.Lines.{with_code, with_literal}
+use Rattle.aig_refute.specs.Lines.{Reading, Step, after, begun, cleared, held_codes, held_text, in_binary}
+use Rattle.aig_refute.specs.Lines.{is_code, is_wrong, is_wrong_at, may_be_held, move_at, next, next_at, plain}
+use Rattle.aig_refute.specs.Lines.{Move, in_first_number, standing_at, with_code, with_literal}
 
 -- one of the bytes that were held, and those behind it
 pub held_on : (start now : Reading) (step : Step) (bytes : List ℕ) (k b : ℕ) → k < length bytes → b ≡ get_or bytes k b
@@ -23,6 +22,9 @@ pub held_on : (start now : Reading) (step : Step) (bytes : List ℕ) (k b : ℕ)
 held_on start now step bytes k b inside here so is =
     let there = rw (drop-cons bytes k b, sym here) at so in
     rw (← is, add-one) there
+
+abbrev standing : Reading → Spot → Reading
+standing r spot = record r { reader = standing_at r.reader spot }
 
 -- after a byte that is in no line nothing changes
 pub wrong_stays : (r : Reading) (byte : ℕ) → is_wrong r ≡ true → next r byte ≡ record { reading = r; end = Bad }
@@ -54,10 +56,10 @@ small_either false m n first second = second
 code_is_small : (r : Reader) (code : ℕ) → is_code r code ≡ true → code - 2 ≢ END
 code_is_small r code is = λ e. grind (arith, nat_tests)
 
-small_code : (r : Reader) (code : ℕ) (spot : Spot) → IsSmall (with_code r code spot)
-small_code r code spot =
+small_code : (r : Reader) (code : ℕ) → IsSmall (with_code r code)
+small_code r code =
     elim (is_code r code) as
-    (λ test. is_code r code ≡ test → IsSmall (with_code r code spot)) [
+    (λ test. is_code r code ≡ test → IsSmall (with_code r code)) [
       | true ↦ λ is.
           let small = code_is_small r code is in
           rw is (record { small = λ literal here e. small (cc) })
@@ -93,9 +95,11 @@ below_either false first second one two = two
 
 below_first : (r : Reading) (byte : ℕ) → AreBelow r → AreBelow (in_first_number r byte).reading
 below_first r byte all =
-    let text = below_plain (held_text r) byte (below_after (standing r spots.Blank) r.held all) in
-    let codes = below_plain (held_codes r) byte
-    (below_after (after (standing r (spots.Code 0 0)) 32) r.held (below_plain (standing r (spots.Code 0 0)) 32 all)) in
+    let as_text = record r { reader = standing_at r.reader spots.Blank } in
+    let as_codes = record r { reader = in_binary r.reader } in
+    let text = below_plain (held_text r) byte (below_after as_text r.held all) in
+    let codes =
+    below_plain (held_codes r) byte (below_after (after as_codes 32) r.held (below_plain as_codes 32 all)) in
     below_either (may_be_held r byte) (record { reading = record r { held = r.held ++ (byte ∷ []) }; end = Within })
     (if byte == 32 then plain (held_text r) byte else plain (held_codes r) byte) all
     (below_either (byte == 32) (plain (held_text r) byte) (plain (held_codes r) byte) text codes)

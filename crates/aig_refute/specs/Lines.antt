@@ -20,11 +20,10 @@
 -- then.
 --
 -- In text a line feed ends a line, wherever clauses end, and in binary a clause does. Lines are counted from 1.
-use Rattle.std.specs.Prelude.{◌+◌, ◌-◌, ◌*◌, ◌%◌, ◌^◌, ◌==◌, ◌&&◌, ◌||◌, ◌++◌, ℕ, List, [], ◌∷◌, Bool, true, false, not}
-use Rattle.std.specs.Prelude.{Option, None, Some, codes, fold, if◌then◌else◌, length, min, nat_le, nat_lt}
+use Rattle.std.specs.Prelude.{◌≡◌, ◌+◌, ◌-◌, ◌*◌, ◌%◌, ◌^◌, ◌==◌, ◌&&◌, ◌||◌, ◌++◌, ℕ, List, [], ◌∷◌, Bool, true}
+use Rattle.std.specs.Prelude.{false, not, Option, None, Some, codes, fold, if◌then◌else◌, length, min, nat_le, nat_lt}
 use Rattle.aig_refute.specs.declared.reader.LineEnd.{LineEnd}
 use Rattle.aig_refute.specs.declared.reader.LineEnd.TheVariants.{Added, Bad, Deleted, Within}
-use Rattle.aig_refute.specs.declared.reader.Move.{Move}
 use Rattle.aig_refute.specs.declared.reader.Reader.{Reader}
 use Rattle.aig_refute.specs.declared.reader.RefutationReader.{RefutationReader}
 use Rattle.aig_refute.specs.declared.reader.Spot.{Spot}
@@ -34,10 +33,27 @@ use Rattle.aig_refute.specs.declared.words.TheConstants.{END}
 
 -- before the first byte, where literals are below this one
 abbrev pub first_reader : ℕ → Reader
-first_reader limit = record { spot = spots.First; is_deletion = false; has_literals = false; limit = limit; line = 0 }
+first_reader limit = record {
+  spot = spots.First;
+  number = 0;
+  is_negative = false;
+  shift = 0;
+  is_deletion = false;
+  has_literals = false;
+  limit = limit;
+  line = 0;
+}
 
 abbrev pub standing_at : Reader → Spot → Reader
 standing_at r spot = record r { spot = spot }
+
+-- in a number of a text, which comes to this so far
+abbrev pub in_text : Reader → Bool → ℕ → Reader
+in_text r is_negative number = record r { spot = spots.Number; is_negative = is_negative; number = number }
+
+-- where a code begins
+abbrev pub in_binary : Reader → Reader
+in_binary r = record r { spot = spots.Code; number = 0; shift = 0 }
 
 -- lines are counted as far as 64 bits reach
 abbrev pub line_after : ℕ → ℕ
@@ -51,28 +67,33 @@ in_line r = record r { line = line_after r.line }
 abbrev pub deleting : Reader → Reader
 deleting r = record r { is_deletion = true }
 
--- a byte that ends nothing
-abbrev pub moved : Reader → Spot → Move
-moved r spot = record { reader = standing_at r spot; literal = None; end = Within }
+-- where a byte leads, the literal that ends with it, and what else does
+pub record Move : Type 0 where
+  pub reader : Reader
+  pub literal : Option ℕ
+  pub end : LineEnd
 
--- a byte that is in no line
+-- nothing ends
+abbrev pub moved : Reader → Move
+moved r = record { reader = r; literal = None; end = Within }
+
+-- the byte is in no line
 abbrev pub refused : Reader → Move
 refused r = record { reader = standing_at r spots.Wrong; literal = None; end = Bad }
 
--- the end of a clause
-abbrev pub ended : Reader → Spot → Move
-ended r spot =
-    record { reader = standing_at r spot; literal = None; end = if r.is_deletion then Deleted else Added }
+-- the clause ends
+abbrev pub ended : Reader → Move
+ended r = record { reader = r; literal = None; end = if r.is_deletion then Deleted else Added }
 
 -- a literal that may stand in this line has this code
 abbrev pub is_code : Reader → ℕ → Bool
 is_code r code = nat_le 2 code && nat_lt (code - 2) (r.limit + 2 * r.line) && nat_lt (code - 2) END
 
--- the end of a code, other than 0
-abbrev pub with_code : Reader → ℕ → Spot → Move
-with_code r code spot =
+-- a code ends, other than 0
+abbrev pub with_code : Reader → ℕ → Move
+with_code r code =
     if is_code r code
-    then record { reader = record r { spot = spot; has_literals = true }; literal = Some (code - 2); end = Within }
+    then record { reader = record r { has_literals = true }; literal = Some (code - 2); end = Within }
     else refused r
 
 abbrev pub is_blank : ℕ → Bool
@@ -89,51 +110,51 @@ is_digit byte = nat_le 48 byte && nat_le byte 57
 abbrev pub in_letter : Reader → ℕ → Move
 in_letter r byte =
     if r.is_deletion || r.has_literals then refused r
-    else if byte == 100 then moved (deleting r) spots.Blank
-    else if byte == 99 then moved r spots.Comment
+    else if byte == 100 then moved (standing_at (deleting r) spots.Blank)
+    else if byte == 99 then moved (standing_at r spots.Comment)
     else refused r
 
 -- in a text, between numbers
 abbrev pub in_blank : Reader → ℕ → Move
 in_blank r byte =
-    if is_digit byte then moved r (spots.Number false (byte - 48))
-    else if byte == 45 then moved r spots.Minus
-    else if is_blank byte then moved r (behind_blank byte)
+    if is_digit byte then moved (in_text r false (byte - 48))
+    else if byte == 45 then moved (standing_at r spots.Minus)
+    else if is_blank byte then moved (standing_at r (behind_blank byte))
     else in_letter r byte
 
 -- up to a line feed
 abbrev pub in_comment : Reader → ℕ → Move
-in_comment r byte = moved r (if byte == 10 then spots.LineStart else spots.Comment)
+in_comment r byte = if byte == 10 then moved (standing_at r spots.LineStart) else moved r
 
 -- after `-`, where no 0 stands
 abbrev pub in_minus : Reader → ℕ → Move
-in_minus r byte =
-    if is_digit byte && not (byte == 48) then moved r (spots.Number true (byte - 48)) else refused r
+in_minus r byte = if is_digit byte && not (byte == 48) then moved (in_text r true (byte - 48)) else refused r
 
--- a digit more, as far as 32 bits reach: no literal has a larger number
+-- a digit more; no literal has a number that 32 bits do not hold, so there digits count no more
 abbrev pub with_digit : ℕ → ℕ → ℕ
-with_digit number byte = min (10 * number + (byte - 48)) (2 ^ 32 - 1)
+with_digit number byte = if nat_lt number (2 ^ 32) then 10 * number + (byte - 48) else number
 
 abbrev pub code_of : Bool → ℕ → ℕ
 code_of is_negative number = if is_negative then 2 * number + 1 else 2 * number
 
--- the end of a number: 0 is that of the clause
-abbrev pub with_number : Reader → Bool → ℕ → Spot → Move
-with_number r is_negative number spot =
-    if number == 0 then ended r spot else with_code r (code_of is_negative number) spot
+-- a number ends: 0 ends the clause
+abbrev pub with_number : Reader → Move
+with_number r =
+    if r.number == 0 then ended r
+    else if nat_lt r.number (2 ^ 32) then with_code r (code_of r.is_negative r.number)
+    else refused r
 
--- in a number, which comes to this so far
-abbrev pub in_number : Reader → Bool → ℕ → ℕ → Move
-in_number r is_negative number byte =
-    if is_digit byte then moved r (spots.Number is_negative (with_digit number byte))
-    else if is_blank byte then with_number r is_negative number (behind_blank byte)
+abbrev pub in_number : Reader → ℕ → Move
+in_number r byte =
+    if is_digit byte then moved (record r { number = with_digit r.number byte })
+    else if is_blank byte then with_number (standing_at r (behind_blank byte))
     else refused r
 
 -- the first byte of a line, in binary: `a` or `d`
 abbrev pub in_mark : Reader → ℕ → Move
 in_mark r byte =
-    if byte == 97 then moved r (spots.Code 0 0)
-    else if byte == 100 then moved (deleting r) (spots.Code 0 0)
+    if byte == 97 then moved (in_binary r)
+    else if byte == 100 then moved (in_binary (deleting r))
     else refused r
 
 -- seven bits more, above so many, as far as 64 bits reach
@@ -142,38 +163,38 @@ with_group number shift byte = min (number + byte % 128 * 2 ^ shift) (2 ^ 64 - 1
 
 -- the last byte of a code: 0 ends the clause
 abbrev pub with_whole : Reader → ℕ → Move
-with_whole r code = if code == 0 then ended r spots.Mark else with_code r code (spots.Code 0 0)
+with_whole r code = if code == 0 then ended (standing_at r spots.Mark) else with_code (in_binary r) code
 
--- in a code, of which so many bits came to this
-abbrev pub in_code : Reader → ℕ → ℕ → ℕ → Move
-in_code r number shift byte =
-    if nat_lt 28 shift then refused r
-    else if nat_le 128 byte then moved r (spots.Code (with_group number shift byte) (shift + 7))
-    else with_whole r (with_group number shift byte)
+abbrev pub in_code : Reader → ℕ → Move
+in_code r byte =
+    if nat_lt 28 r.shift then refused r
+    else if nat_le 128 byte then moved (record r { number = with_group r.number r.shift byte; shift = r.shift + 7 })
+    else with_whole r (with_group r.number r.shift byte)
 
 -- the first byte of all
 abbrev pub in_first : Reader → ℕ → Move
 in_first r byte =
-    if byte == 97 then moved r (spots.Code 0 0)
-    else if byte == 100 then moved (deleting r) spots.FirstDeletion
+    if byte == 97 then moved (in_binary r)
+    else if byte == 100 then moved (standing_at (deleting r) spots.FirstDeletion)
     else in_blank r byte
 
 -- after a `d` that was the first byte
 abbrev pub in_first_deletion : Reader → ℕ → Move
-in_first_deletion r byte = if byte == 32 then moved r spots.FirstNumber else in_code r 0 0 byte
+in_first_deletion r byte =
+    if byte == 32 then moved (standing_at r spots.FirstNumber) else in_code (in_binary r) byte
 
 -- where a byte leads; those of a first number are held
 abbrev pub move_at : Reader → ℕ → Spot → Move
 move_at r byte spots.First = in_first (in_line r) byte
 move_at r byte spots.FirstDeletion = in_first_deletion r byte
-move_at r byte spots.FirstNumber = moved r spots.FirstNumber
+move_at r byte spots.FirstNumber = moved r
 move_at r byte spots.LineStart = in_blank (in_line r) byte
 move_at r byte spots.Blank = in_blank r byte
 move_at r byte spots.Comment = in_comment r byte
 move_at r byte spots.Minus = in_minus r byte
-move_at r byte (spots.Number is_negative number) = in_number r is_negative number byte
+move_at r byte spots.Number = in_number r byte
 move_at r byte spots.Mark = in_mark (in_line r) byte
-move_at r byte (spots.Code number shift) = in_code r number shift byte
+move_at r byte spots.Code = in_code r byte
 move_at r byte spots.Wrong = refused r
 
 abbrev pub move : Reader → ℕ → Move
@@ -208,6 +229,10 @@ abbrev pub stepped : Reading → Move → Step
 stepped r m =
     record { reading = record r { reader = m.reader; clause = with_literal r.clause m.literal }; end = m.end }
 
+-- a reader goes there by a move, which ends this
+abbrev pub Goes : RefutationReader → Move → RefutationReader → LineEnd → Type 0
+Goes old m new end = stepped (reading_of old) m ≡ record { reading = reading_of new; end = end }
+
 -- one more byte, where none is to be held
 abbrev pub plain : Reading → ℕ → Step
 plain r byte = stepped r (move r.reader byte)
@@ -215,16 +240,13 @@ plain r byte = stepped r (move r.reader byte)
 abbrev pub after : Reading → ℕ → Reading
 after r byte = (plain r byte).reading
 
-abbrev pub standing : Reading → Spot → Reading
-standing r spot = record r { reader = standing_at r.reader spot }
-
 -- what was held is of a text
 abbrev pub held_text : Reading → Reading
-held_text r = fold after (standing r spots.Blank) r.held
+held_text r = fold after (record r { reader = standing_at r.reader spots.Blank }) r.held
 
 -- what was held is codes, and so is the space before it
 abbrev pub held_codes : Reading → Reading
-held_codes r = fold after (after (standing r (spots.Code 0 0)) 32) r.held
+held_codes r = fold after (after (record r { reader = in_binary r.reader }) 32) r.held
 
 abbrev pub may_be_held : Reading → ℕ → Bool
 may_be_held r byte = ((byte == 45) || is_digit byte) && nat_lt (length r.held) MOST_HELD
@@ -246,7 +268,7 @@ next r byte = next_at r byte r.reader.spot
 
 -- what ends the last number of a text, where nothing stands after it
 abbrev pub missing_end_at : Spot → List ℕ
-missing_end_at (spots.Number is_negative number) = codes "\n"
+missing_end_at spots.Number = codes "\n"
 missing_end_at spot = []
 
 abbrev pub missing_end : Reading → List ℕ

@@ -1,14 +1,14 @@
 //! The lines of a refutation, read byte by byte: as text or binary, which the first bytes tell
 //! apart.
-ghost use Rattle.std.specs.Prelude.{◌≡◌, ◌≤◌, IfOk, OnOk, fold, true};
-ghost use Rattle.aig_refute.specs.Lines.{after, begun, behind_blank, cleared, code_of, deleting};
-ghost use Rattle.aig_refute.specs.Lines.{ended, first_reader, held_codes, held_text, in_blank};
+ghost use Rattle.std.specs.Prelude.{◌≡◌, ◌<◌, ◌≤◌, ◌^◌, IfOk, None, OnOk, fold, true};
+ghost use Rattle.aig_refute.specs.Lines.{Goes, after, begun, behind_blank, cleared, code_of};
+ghost use Rattle.aig_refute.specs.Lines.{ended, first_reader, held_codes, held_text, in_binary, in_blank};
 ghost use Rattle.aig_refute.specs.Lines.{in_code, in_comment, in_first, in_first_deletion};
 ghost use Rattle.aig_refute.specs.Lines.{in_first_number, in_letter, in_line, in_mark, in_minus};
 ghost use Rattle.aig_refute.specs.Lines.{in_number, is_blank, is_code, is_digit, line_of};
-ghost use Rattle.aig_refute.specs.Lines.{may_be_held, missing_end, move, moved, next, plain};
-ghost use Rattle.aig_refute.specs.Lines.{reading_of, refused, standing_at, with_code, with_digit};
-ghost use Rattle.aig_refute.specs.Lines.{with_group, with_number, with_whole};
+ghost use Rattle.aig_refute.specs.Lines.{may_be_held, missing_end, move, next, reading_of};
+ghost use Rattle.aig_refute.specs.Lines.{refused, with_code, with_digit, with_group, with_number};
+ghost use Rattle.aig_refute.specs.Lines.{with_whole};
 
 use crate::words::END;
 use std::alloc::{AllocError, Global};
@@ -46,12 +46,12 @@ pub enum Spot {
     Comment,
     /// After a minus.
     Minus,
-    /// In a number, negative or not, that comes to this so far.
-    Number(bool, u32),
+    /// In a number.
+    Number,
     /// In a binary refutation, at the beginning of a line.
     Mark,
-    /// In a code, of which so many bits, the second number, come to the first.
-    Code(u64, u32),
+    /// In a code.
+    Code,
     /// After a byte that is in no line.
     Wrong,
 }
@@ -60,6 +60,12 @@ pub enum Spot {
 #[derive(Clone, Copy, Debug, PartialEq, Eq)]
 pub struct Reader {
     pub spot: Spot,
+    /// What the number comes to so far, or the code.
+    pub number: u64,
+    /// Whether the number is negative.
+    pub is_negative: bool,
+    /// How many bits of the code came.
+    pub shift: u32,
     /// Whether the line deletes its clause.
     pub is_deletion: bool,
     /// Whether the clause has literals.
@@ -68,14 +74,6 @@ pub struct Reader {
     pub limit: u64,
     /// How many lines began.
     pub line: u64,
-}
-
-/// Where a byte leads, the literal that ends with it, and what else does.
-#[derive(Clone, Copy)]
-pub struct Move {
-    pub reader: Reader,
-    pub literal: Option<u32>,
-    pub end: LineEnd,
 }
 
 #[inline(always)]
@@ -104,28 +102,16 @@ fn behind_blank(byte: u8) -> Spot
     }
 }
 
-/// A number with a digit more, as far as 32 bits reach.
+/// A number with a digit more. No literal has a number that 32 bits do not hold.
 #[inline(always)]
-fn with_digit(number: u32, byte: u8) -> u32
+fn with_digit(number: u64, byte: u8) -> u64
     requires { is_digit byte ≡ true }
     ensures { result ≡ with_digit number byte }
 {
-    let more = 10 * u64::from(number) + u64::from(byte - b'0');
-    if more < u64::from(u32::MAX) {
-        more as u32
+    if number <= u64::from(u32::MAX) {
+        10 * number + u64::from(byte - b'0')
     } else {
-        u32::MAX
-    }
-}
-
-#[inline(always)]
-fn code_of(is_negative: bool, number: u32) -> u64
-    ensures { result ≡ code_of is_negative number }
-{
-    if is_negative {
-        2 * u64::from(number) + 1
-    } else {
-        2 * u64::from(number)
+        number
     }
 }
 
@@ -145,6 +131,9 @@ impl Reader {
     {
         Reader {
             spot: Spot::First,
+            number: 0,
+            is_negative: false,
+            shift: 0,
             is_deletion: false,
             has_literals: false,
             limit,
@@ -152,255 +141,179 @@ impl Reader {
         }
     }
 
+    /// A line begins.
     #[inline(always)]
-    fn standing_at(self, spot: Spot) -> Reader
-        ensures { result ≡ standing_at self spot }
+    fn begin_line(&mut self)
+        ensures { self.new ≡ in_line self.old }
     {
-        Reader { spot, ..self }
-    }
-
-    /// Where a line begins.
-    #[inline(always)]
-    fn in_line(self) -> Reader
-        ensures { result ≡ in_line self }
-    {
-        let line = if self.line < u64::MAX {
-            self.line + 1
-        } else {
-            self.line
-        };
-        Reader { line, ..self }
-    }
-
-    /// In a line that deletes its clause.
-    #[inline(always)]
-    fn deleting(self) -> Reader
-        ensures { result ≡ deleting self }
-    {
-        Reader {
-            is_deletion: true,
-            ..self
+        if self.line < u64::MAX {
+            self.line += 1;
         }
     }
 
-    /// After a byte that ends nothing.
+    /// The byte is in no line.
     #[inline(always)]
-    fn moved(self, spot: Spot) -> Move
-        ensures { result ≡ moved self spot }
+    fn refuse(&mut self) -> LineEnd
+        ensures { refused self.old ≡ record { reader = self.new; literal = None; end = result } }
     {
-        Move {
-            reader: self.standing_at(spot),
-            literal: None,
-            end: LineEnd::Within,
-        }
+        self.spot = Spot::Wrong;
+        LineEnd::Bad
     }
 
-    /// After a byte that is in no line.
+    /// What the end of a clause is.
     #[inline(always)]
-    fn refused(self) -> Move
-        ensures { result ≡ refused self }
+    fn end(&self) -> LineEnd
+        ensures { ended self.now ≡ record { reader = self.now; literal = None; end = result } }
     {
-        Move {
-            reader: self.standing_at(Spot::Wrong),
-            literal: None,
-            end: LineEnd::Bad,
-        }
-    }
-
-    /// After a clause.
-    #[inline(always)]
-    fn ended(self, spot: Spot) -> Move
-        ensures { result ≡ ended self spot }
-    {
-        let end = if self.is_deletion {
+        if self.is_deletion {
             LineEnd::Deleted
         } else {
             LineEnd::Added
-        };
-        Move {
-            reader: self.standing_at(spot),
-            literal: None,
-            end,
         }
     }
 
     /// Whether a literal that may stand in this line has this code: twice the number of the
     /// variable, and one more if it is negated.
     #[inline(always)]
-    fn is_code(self, code: u64) -> bool
-        ensures { result ≡ is_code self code }
+    fn is_code(&self, code: u64) -> bool
+        ensures { result ≡ is_code self.now code }
     {
         let above = self.limit.saturating_add(self.line.saturating_mul(2));
         code >= 2 && code - 2 < above && code - 2 < u64::from(END)
     }
 
-    /// After a code other than 0.
+    /// The code of the number, which 32 bits hold.
     #[inline(always)]
-    fn with_code(self, code: u64, spot: Spot) -> Move
-        ensures { result ≡ with_code self code spot }
+    fn code(&self) -> u64
+        requires { self.now.number < 2 ^ 32 }
+        ensures { result ≡ code_of self.now.is_negative self.now.number }
     {
-        if self.is_code(code) {
-            let reader = Reader {
-                spot,
-                has_literals: true,
-                ..self
-            };
-            return Move {
-                reader,
-                literal: Some((code - 2) as u32),
-                end: LineEnd::Within,
-            };
+        if self.is_negative {
+            2 * self.number + 1
+        } else {
+            2 * self.number
         }
-        self.refused()
     }
 
     /// A letter in a text.
-    fn in_letter(self, byte: u8) -> Move
-        ensures { result ≡ in_letter self byte }
+    fn in_letter(&mut self, byte: u8) -> LineEnd
+        ensures { in_letter self.old byte ≡ record { reader = self.new; literal = None; end = result } }
     {
         if self.is_deletion || self.has_literals {
-            return self.refused();
+            return self.refuse();
         }
         match byte {
-            b'd' => self.deleting().moved(Spot::Blank),
-            b'c' => self.moved(Spot::Comment),
-            _ => self.refused(),
+            b'd' => {
+                self.is_deletion = true;
+                self.spot = Spot::Blank;
+                LineEnd::Within
+            }
+            b'c' => {
+                self.spot = Spot::Comment;
+                LineEnd::Within
+            }
+            _ => self.refuse(),
         }
     }
 
     #[inline(always)]
-    fn in_blank(self, byte: u8) -> Move
-        ensures { result ≡ in_blank self byte }
+    fn in_blank(&mut self, byte: u8) -> LineEnd
+        ensures { in_blank self.old byte ≡ record { reader = self.new; literal = None; end = result } }
     {
         if is_digit(byte) {
-            return self.moved(Spot::Number(false, u32::from(byte - b'0')));
+            self.spot = Spot::Number;
+            self.is_negative = false;
+            self.number = u64::from(byte - b'0');
+            return LineEnd::Within;
         }
         if byte == b'-' {
-            return self.moved(Spot::Minus);
+            self.spot = Spot::Minus;
+            return LineEnd::Within;
         }
         if is_blank(byte) {
-            return self.moved(behind_blank(byte));
+            self.spot = behind_blank(byte);
+            return LineEnd::Within;
         }
         self.in_letter(byte)
     }
 
     #[inline(always)]
-    fn in_comment(self, byte: u8) -> Move
-        ensures { result ≡ in_comment self byte }
+    fn in_line_start(&mut self, byte: u8) -> LineEnd
+        ensures { in_blank (in_line self.old) byte
+            ≡ record { reader = self.new; literal = None; end = result } }
+    {
+        self.begin_line();
+        self.in_blank(byte)
+    }
+
+    #[inline(always)]
+    fn in_comment(&mut self, byte: u8) -> LineEnd
+        ensures { in_comment self.old byte ≡ record { reader = self.new; literal = None; end = result } }
     {
         if byte == b'\n' {
-            self.moved(Spot::LineStart)
-        } else {
-            self.moved(Spot::Comment)
+            self.spot = Spot::LineStart;
         }
+        LineEnd::Within
     }
 
     #[inline(always)]
-    fn in_minus(self, byte: u8) -> Move
-        ensures { result ≡ in_minus self byte }
+    fn in_minus(&mut self, byte: u8) -> LineEnd
+        ensures { in_minus self.old byte ≡ record { reader = self.new; literal = None; end = result } }
     {
         if is_digit(byte) && byte != b'0' {
-            return self.moved(Spot::Number(true, u32::from(byte - b'0')));
+            self.spot = Spot::Number;
+            self.is_negative = true;
+            self.number = u64::from(byte - b'0');
+            return LineEnd::Within;
         }
-        self.refused()
-    }
-
-    /// After a number, of which 0 ends the clause.
-    #[inline(always)]
-    fn with_number(self, is_negative: bool, number: u32, spot: Spot) -> Move
-        ensures { result ≡ with_number self is_negative number spot }
-    {
-        if number == 0 {
-            return self.ended(spot);
-        }
-        self.with_code(code_of(is_negative, number), spot)
+        self.refuse()
     }
 
     #[inline(always)]
-    fn in_number(self, is_negative: bool, number: u32, byte: u8) -> Move
-        ensures { result ≡ in_number self is_negative number byte }
+    fn begin_codes(&mut self)
+        ensures { self.new ≡ in_binary self.old }
     {
-        if is_digit(byte) {
-            return self.moved(Spot::Number(is_negative, with_digit(number, byte)));
-        }
-        if is_blank(byte) {
-            return self.with_number(is_negative, number, behind_blank(byte));
-        }
-        self.refused()
+        self.spot = Spot::Code;
+        self.number = 0;
+        self.shift = 0;
     }
 
     #[inline(always)]
-    fn in_mark(self, byte: u8) -> Move
-        ensures { result ≡ in_mark self byte }
+    fn in_mark(&mut self, byte: u8) -> LineEnd
+        ensures { in_mark (in_line self.old) byte
+            ≡ record { reader = self.new; literal = None; end = result } }
     {
+        self.begin_line();
         match byte {
-            b'a' => self.moved(Spot::Code(0, 0)),
-            b'd' => self.deleting().moved(Spot::Code(0, 0)),
-            _ => self.refused(),
+            b'a' => {
+                self.begin_codes();
+                LineEnd::Within
+            }
+            b'd' => {
+                self.is_deletion = true;
+                self.begin_codes();
+                LineEnd::Within
+            }
+            _ => self.refuse(),
         }
     }
 
-    /// After the last byte of a code, of which 0 ends the clause.
-    #[inline(always)]
-    fn with_whole(self, code: u64) -> Move
-        ensures { result ≡ with_whole self code }
+    fn in_first(&mut self, byte: u8) -> LineEnd
+        ensures { in_first (in_line self.old) byte
+            ≡ record { reader = self.new; literal = None; end = result } }
     {
-        if code == 0 {
-            return self.ended(Spot::Mark);
-        }
-        self.with_code(code, Spot::Code(0, 0))
-    }
-
-    #[inline(always)]
-    fn in_code(self, number: u64, shift: u32, byte: u8) -> Move
-        ensures { result ≡ in_code self number shift byte }
-    {
-        if shift > 28 {
-            return self.refused();
-        }
-        let number = with_group(number, shift, byte);
-        if byte >= 128 {
-            return self.moved(Spot::Code(number, shift + 7));
-        }
-        self.with_whole(number)
-    }
-
-    fn in_first(self, byte: u8) -> Move
-        ensures { result ≡ in_first self byte }
-    {
+        self.begin_line();
         match byte {
-            b'a' => self.moved(Spot::Code(0, 0)),
-            b'd' => self.deleting().moved(Spot::FirstDeletion),
+            b'a' => {
+                self.begin_codes();
+                LineEnd::Within
+            }
+            b'd' => {
+                self.is_deletion = true;
+                self.spot = Spot::FirstDeletion;
+                LineEnd::Within
+            }
             _ => self.in_blank(byte),
-        }
-    }
-
-    fn in_first_deletion(self, byte: u8) -> Move
-        ensures { result ≡ in_first_deletion self byte }
-    {
-        if byte == b' ' {
-            return self.moved(Spot::FirstNumber);
-        }
-        self.in_code(0, 0, byte)
-    }
-
-    /// After one more byte; those of a first number are held.
-    #[inline(always)]
-    fn next(self, byte: u8) -> Move
-        ensures { result ≡ move self byte }
-    {
-        match self.spot {
-            Spot::Code(number, shift) => self.in_code(number, shift, byte),
-            Spot::Mark => self.in_line().in_mark(byte),
-            Spot::Number(is_negative, number) => self.in_number(is_negative, number, byte),
-            Spot::Blank => self.in_blank(byte),
-            Spot::Minus => self.in_minus(byte),
-            Spot::LineStart => self.in_line().in_blank(byte),
-            Spot::Comment => self.in_comment(byte),
-            Spot::First => self.in_line().in_first(byte),
-            Spot::FirstDeletion => self.in_first_deletion(byte),
-            Spot::FirstNumber => self.moved(Spot::FirstNumber),
-            Spot::Wrong => self.refused(),
         }
     }
 }
@@ -455,23 +368,117 @@ impl RefutationReader {
         ensures { result.now ≡ missing_end (reading_of self.now) }
     {
         match self.reader.spot {
-            Spot::Number(_, _) => b"\n",
+            Spot::Number => b"\n",
             _ => b"",
         }
+    }
+
+    /// A code ends, other than 0.
+    #[inline(always)]
+    fn push_code(&mut self, code: u64) -> Result<LineEnd, AllocError>
+        ensures { IfOk result (λ end. Goes self.old (with_code self.old.reader code) self.new end) }
+    {
+        let is_code = self.reader.is_code(code);
+        if !is_code {
+            return Ok(self.reader.refuse());
+        }
+        self.clause.push((code - 2) as u32)?;
+        self.reader.has_literals = true;
+        Ok(LineEnd::Within)
+    }
+
+    /// A number ends: 0 ends the clause.
+    #[inline(always)]
+    fn end_number(&mut self) -> Result<LineEnd, AllocError>
+        ensures { IfOk result (λ end. Goes self.old (with_number self.old.reader) self.new end) }
+    {
+        if self.reader.number == 0 {
+            let end = self.reader.end();
+            return Ok(end);
+        }
+        if self.reader.number > u64::from(u32::MAX) {
+            return Ok(self.reader.refuse());
+        }
+        let code = self.reader.code();
+        self.push_code(code)
+    }
+
+    #[inline(always)]
+    fn in_number(&mut self, byte: u8) -> Result<LineEnd, AllocError>
+        ensures { IfOk result (λ end. Goes self.old (in_number self.old.reader byte) self.new end) }
+    {
+        if is_digit(byte) {
+            self.reader.number = with_digit(self.reader.number, byte);
+            return Ok(LineEnd::Within);
+        }
+        if is_blank(byte) {
+            self.reader.spot = behind_blank(byte);
+            return self.end_number();
+        }
+        Ok(self.reader.refuse())
+    }
+
+    /// A code ends: 0 ends the clause.
+    #[inline(always)]
+    fn end_code(&mut self, code: u64) -> Result<LineEnd, AllocError>
+        ensures { IfOk result (λ end. Goes self.old (with_whole self.old.reader code) self.new end) }
+    {
+        if code == 0 {
+            self.reader.spot = Spot::Mark;
+            let end = self.reader.end();
+            return Ok(end);
+        }
+        self.reader.begin_codes();
+        self.push_code(code)
+    }
+
+    /// Seven bits of a code, the lowest first; the last byte is below 128.
+    #[inline(always)]
+    fn in_code(&mut self, byte: u8) -> Result<LineEnd, AllocError>
+        ensures { IfOk result (λ end. Goes self.old (in_code self.old.reader byte) self.new end) }
+    {
+        if self.reader.shift > 28 {
+            return Ok(self.reader.refuse());
+        }
+        let number = with_group(self.reader.number, self.reader.shift, byte);
+        if byte >= 128 {
+            self.reader.number = number;
+            self.reader.shift += 7;
+            return Ok(LineEnd::Within);
+        }
+        self.end_code(number)
+    }
+
+    fn in_first_deletion(&mut self, byte: u8) -> Result<LineEnd, AllocError>
+        ensures { IfOk result (λ end.
+            Goes self.old (in_first_deletion self.old.reader byte) self.new end) }
+    {
+        if byte == b' ' {
+            self.reader.spot = Spot::FirstNumber;
+            return Ok(LineEnd::Within);
+        }
+        self.reader.begin_codes();
+        self.in_code(byte)
     }
 
     /// Takes a byte that is not to be held.
     #[inline(always)]
     fn take_plain(&mut self, byte: u8) -> Result<LineEnd, AllocError>
-        ensures { IfOk result (λ end. plain (reading_of self.old) byte
-            ≡ record { reading = reading_of self.new; end = end }) }
+        ensures { IfOk result (λ end. Goes self.old (move self.old.reader byte) self.new end) }
     {
-        let moved = self.reader.next(byte);
-        self.reader = moved.reader;
-        if let Some(literal) = moved.literal {
-            self.clause.push(literal)?;
+        match self.reader.spot {
+            Spot::Code => self.in_code(byte),
+            Spot::Mark => Ok(self.reader.in_mark(byte)),
+            Spot::Number => self.in_number(byte),
+            Spot::Blank => Ok(self.reader.in_blank(byte)),
+            Spot::Minus => Ok(self.reader.in_minus(byte)),
+            Spot::LineStart => Ok(self.reader.in_line_start(byte)),
+            Spot::Comment => Ok(self.reader.in_comment(byte)),
+            Spot::First => Ok(self.reader.in_first(byte)),
+            Spot::FirstDeletion => self.in_first_deletion(byte),
+            Spot::FirstNumber => Ok(LineEnd::Within),
+            Spot::Wrong => Ok(self.reader.refuse()),
         }
-        Ok(moved.end)
     }
 
     /// Takes the bytes that were held.
@@ -498,7 +505,7 @@ impl RefutationReader {
     fn take_held_codes(&mut self) -> Result<(), AllocError>
         ensures { OnOk result (reading_of self.new ≡ held_codes (reading_of self.old)) }
     {
-        self.reader.spot = Spot::Code(0, 0);
+        self.reader.begin_codes();
         self.take_plain(b' ')?;
         self.take_held()
     }
