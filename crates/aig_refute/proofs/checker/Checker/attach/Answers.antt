@@ -13,12 +13,12 @@ returns-in_err-watch c =
 pub returns-in_err-watch-2 : goal.returns-in_err-watch-2
 returns-in_err-watch-2 c =
     preserves_kernel c.args.self.now _ (subst (λ (k : Kernel). Grows c.args.self.now.propagation.kernel k)
-    (sym (c.watch-2.ensures ∙ c.watch.ensures)) c.arrange.ensures)
+    (sym (c.watch-in-Some.ensures ∙ c.watch.ensures)) c.arrange.ensures)
 
 pub returns-in-Some : goal.returns-in-Some
 returns-in-Some c =
     preserves_kernel c.args.self.now _ (subst (λ (k : Kernel). Grows c.args.self.now.propagation.kernel k)
-    (sym (c.watch-2.ensures ∙ c.watch.ensures)) c.arrange.ensures)
+    (sym (c.watch-in-Some.ensures ∙ c.watch.ensures)) c.arrange.ensures)
 
 pub returns-in_err-is_refuted : goal.returns-in_err-is_refuted
 returns-in_err-is_refuted c =

@@ -3,4 +3,4 @@ use Rattle.aig_refute.proofs.kernel.Kernel.visit.Goals as goal
 
 pub returns-then-k-at-gt-MANY : goal.returns-then-k-at-gt-MANY
 returns-then-k-at-gt-MANY c =
-    grows_both c.args.self.now c.swap.new.self _ c.swap.ensures.grows c.put_behind.ensures
+    grows_both _ _ _ c.swap.ensures.grows c.put_behind.ensures

@@ -1,13 +1,16 @@
-use Rattle.std.proofs.Common.{rules, ◌≡◌, ◌≢◌, ◌<◌, ◌≤◌, ◌∙◌, ⊎_elim, ap, arith, sym}
+use Rattle.std.proofs.Common.{◌≡◌, ◌≢◌, ◌<◌, ◌≤◌, ◌∙◌, ⊎_elim, List, ℕ, ap, arith, length, sym}
 use Rattle.std.specs.Prelude.{slice_index}
 use Rattle.std.proofs.lemmas.Bool.{cases_lt}
+use Rattle.std.proofs.lemmas.Grind.{get_or_default_zero}
 use Rattle.aig_refute.specs.declared.words.TheConstants.{END}
 use Rattle.aig_refute.proofs.store.Store.put_behind.Goals as goal
 
 pub loop-i-preserved : goal.loop-i-preserved
 loop-i-preserved c =
-    let words = c.loop-i.self.words.items in
-    let here : slice_index words c.loop-i.j ≢ END = search rules in (
+    let words : List ℕ = c.loop-i.self.words.items in
+    let inside : c.loop-i.j < length words = omega arith in
+    let here : slice_index words c.loop-i.j ≢ END = λ h.
+    c.if-index.true (c.index.ensures ∙ (get_or_default_zero words c.loop-i.j c.index.result.now inside ∙ h)) in (
       omega arith,
       omega arith,
       λ m low high.
