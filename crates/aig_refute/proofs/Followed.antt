@@ -110,6 +110,18 @@ module _ (from : Followed) (first second : List ℕ) where
     unfollowed = subst (λ (f : Followed). DoesNotFollow (IsKept given f.changes) []) (sym to_both) shows.unfollowed;
   }
 
+-- one byte more is in a line
+pub in_lines_more : (from : Followed) (bytes : List ℕ) (k byte : ℕ) → AreInLines from (take k bytes)
+    → (next (fold followed from (take k bytes)).reading byte).end ≢ ends.Bad
+    → take (k + 1) bytes ≡ take k bytes ++ byte ∷ [] → AreInLines from (take (k + 1) bytes)
+in_lines_more from bytes k byte lines good more =
+    let now : Followed = fold followed from (take k bytes) in
+    let last : AreInLines now (byte ∷ []) = λ place lt.
+    let is : place ≡ 0 = omega (arith, lt) in
+    λ (h : (step_at now (byte ∷ []) place).end ≡ ends.Bad).
+    good (sym (ap (λ (p : ℕ). (step_at now (byte ∷ []) p).end) is) ∙ h) in
+    subst (AreInLines from) (sym more) (in_lines_both from (take k bytes) (byte ∷ []) lines last)
+
 -- what is refused at the end of some bytes is refused where others come behind them
 pub refused_behind : (given : List (List ℕ)) (limit : ℕ) (fault : Fault) (bytes behind : List ℕ)
     → IsRefusedWhere given limit fault bytes Open → IsRefusedWhere given limit fault (bytes ++ behind) AtEnd

@@ -1,7 +1,9 @@
 -- A refutation that is read in pieces.
 use Rattle.std.proofs.Common.{◌≡◌, ◌<◌, ◌+◌, ◌++◌, ◌∙◌, ℕ, List, [], Bool, false, Ok, Err, ap, arith, inl, inr, refl, subst, sym}
-use Rattle.std.proofs.Common.{fold}
+use Rattle.std.proofs.Common.{fold, length, take}
+use Rattle.std.specs.Prelude.{slice_index}
 use Rattle.aig_fault.specs.Stopping.{StopsFor, refusal}
+use Rattle.aig_fault.proofs.Stoppings.{stops_weaker}
 use Rattle.aig_fault.specs.declared.fault.Fault.{Fault}
 use Rattle.aig_fault.specs.declared.fault.Place.TheVariants.{Whole}
 use Rattle.aig_fault.specs.declared.kind.Kind.TheVariants.{NoRefutation}
@@ -11,10 +13,12 @@ use Rattle.aig_io.specs.Devices.{History, failed_once, took}
 use Rattle.aig_io.specs.Runs.{AtEnd, Broken, Ending, IsUnbroken, Open, Read}
 use Rattle.aig_io.proofs.Took.{took_none, took_twice}
 use Rattle.aig_refute.specs.Agree.{Agrees}
-use Rattle.aig_refute.specs.Lines.{begun, missing_end, reading_of}
+use Rattle.aig_refute.specs.Lines.{Reading, Step, begun, missing_end, next, reading_of}
 use Rattle.aig_refute.specs.Refuted.{AreInLines, AreStored, EndsFor, Followed, HaveCome, IsLineFault, Keeps, ReadingSays}
-use Rattle.aig_refute.specs.Refuted.{ShowsNothing, followed, is_refuted, text_of, unread}
+use Rattle.aig_refute.specs.Refuted.{IsStepFault, IsWrongByte, IsWrongEnd}
+use Rattle.aig_refute.specs.Refuted.{IsWrongLast, IsWrongWithin, ShowsNothing, followed, is_refuted, text_of, unread}
 use Rattle.aig_refute.specs.declared.checker.Checker.{Checker}
+use Rattle.aig_refute.specs.declared.reader.LineEnd.{LineEnd}
 use Rattle.aig_refute.specs.declared.reader.RefutationReader.{RefutationReader}
 use Rattle.aig_refute.proofs.Followed.{fault_more, in_lines_both, shows_nothing_more, to_both}
 use Rattle.aig_refute.proofs.Kept.{keeps_both, keeps_same}
@@ -41,10 +45,39 @@ has_followed_none limit source reader checker begins = record {
   came = λ is_open given stored. ((λ place lt. absurd (omega (arith, lt))), (begins, stored));
 }
 
--- what is wrong with these bytes, after others
-abbrev pub IsWrong : List ℕ → RefutationReader → Checker → Fault → Type 0
-IsWrong bytes reader checker fault = (is_refuted checker ≡ false)
-    × ((given : List (List ℕ)) → (f : Followed) → HaveCome given f reader checker → IsLineFault given f bytes fault)
+-- what is wrong with what a byte ended is wrong with the byte
+pub wrong_byte : (byte : ℕ) (reader taken : RefutationReader) (end : LineEnd) (checker : Checker) (stopped : Stopped)
+    → next (reading_of reader) byte ≡ record { reading = reading_of taken; end = end }
+    → StopsFor (IsWrongEnd end (reading_of taken) checker) stopped → StopsFor (IsWrongByte byte reader checker) stopped
+wrong_byte byte reader taken end checker stopped is =
+    stops_weaker (IsWrongEnd end (reading_of taken) checker) (IsWrongByte byte reader checker) stopped
+    (λ fault why given f come.
+    let step : next f.reading byte ≡ record { reading = reading_of taken; end = end } =
+    ap (λ (r : Reading). next r byte) (sym come.0) ∙ is in
+    subst (λ (s : Step). IsStepFault given f.changes s fault) (sym step) (why given f.changes come.1))
+
+-- what is wrong with a byte is wrong with the piece that has it
+pub wrong_piece : (piece : List ℕ) (k : ℕ) (reader now : RefutationReader) (checker checker_now : Checker)
+    (stopped : Stopped) → k < length piece → is_refuted checker ≡ false
+    → ((given : List (List ℕ)) (f : Followed) → HaveCome given f reader checker
+    → HaveCome given (fold followed f (take k piece)) now checker_now)
+    → StopsFor (IsWrongByte (slice_index piece k) now checker_now) stopped
+    → StopsFor (IsWrongWithin piece reader checker) stopped
+wrong_piece piece k reader now checker checker_now stopped inside still come =
+    stops_weaker (IsWrongByte (slice_index piece k) now checker_now) (IsWrongWithin piece reader checker) stopped
+    (λ fault why. (still, λ given f first. (k, inside, why given (fold followed f (take k piece)) (come given f first))))
+
+-- what ends the last number is a piece as well
+pub wrong_last_piece : (piece : List ℕ) (reader : RefutationReader) (checker : Checker) (stopped : Stopped)
+    → piece ≡ missing_end (reading_of reader) → StopsFor (IsWrongWithin piece reader checker) stopped
+    → StopsFor (IsWrongLast reader checker) stopped
+wrong_last_piece piece reader checker stopped is =
+    stops_weaker (IsWrongWithin piece reader checker) (IsWrongLast reader checker) stopped
+    (λ fault why. (
+      why.0,
+      λ given f come. subst (λ (bytes : List ℕ). IsLineFault given f bytes fault)
+          (is ∙ ap missing_end come.0) (why.1 given f come),
+    ))
 
 ends_for : (given : List (List ℕ)) (limit : ℕ) (P : Fault → Type 0) (stopped : Stopped) (bytes : List ℕ) (ending : Ending)
     → StopsFor P stopped → IsUnbroken ending
@@ -99,16 +132,14 @@ module _ (limit : ℕ) (a b : History) (reader : RefutationReader) (old now : Ch
     }
 
     pub wrong_last : (stopped : Stopped)
-        → StopsFor (λ fault. (is_refuted now ≡ false)
-        × ((given : List (List ℕ)) → (f : Followed) → HaveCome given f reader now
-        → IsLineFault given f (missing_end f.reading) fault)) stopped
+        → StopsFor (IsWrongLast reader now) stopped
         → Read (ReadingSays limit old (Err stopped)) a c
     wrong_last stopped wrong = record {
       bytes = so.bytes;
       ending = AtEnd;
       says = λ given stored.
           let f : Followed = fold followed (unread limit) so.bytes in
-          ends_for given limit _ stopped so.bytes AtEnd wrong tt
+          ends_for given limit (IsWrongLast reader now) stopped so.bytes AtEnd wrong tt
           (λ fault is_wrong. fault_more (unread limit) so.bytes (missing_end f.reading) given fault
           (is_wrong.1 given f (so.came is_wrong.0 given stored).1));
       came = is ∙ ap at_end so.history;
@@ -135,14 +166,14 @@ module _ (limit : ℕ) (a b : History) (reader : RefutationReader) (old now : Ch
           );
     }
 
-    pub wrong_within : (stopped : Stopped) → StopsFor (IsWrong chunk reader now) stopped
+    pub wrong_within : (stopped : Stopped) → StopsFor (IsWrongWithin chunk reader now) stopped
         → Read (ReadingSays limit old (Err stopped)) a c
     wrong_within stopped wrong = record {
       bytes = so.bytes ++ chunk;
       ending = Open;
       says = λ given stored.
           let f : Followed = fold followed (unread limit) so.bytes in
-          ends_for given limit (IsWrong chunk reader now) stopped (so.bytes ++ chunk) Open wrong tt
+          ends_for given limit (IsWrongWithin chunk reader now) stopped (so.bytes ++ chunk) Open wrong tt
           (λ fault is_wrong. fault_more (unread limit) so.bytes chunk given fault
           (is_wrong.1 given f (so.came is_wrong.0 given stored).1));
       came = took_twice a b c so.bytes chunk so.history came;

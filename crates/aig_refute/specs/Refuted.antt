@@ -1,6 +1,6 @@
 -- What comes of a refutation that is read (this project's profile).
 use Rattle.std.specs.Prelude.{◌≡◌, ◌≢◌, ◌<◌, ◌+◌, ◌*◌, ◌++◌, ◌⊎◌, ℕ, List, [], ◌∷◌, Bool, Result, Ok, Err, ⊤}
-use Rattle.std.specs.Prelude.{fold, length, slice_index, take}
+use Rattle.std.specs.Prelude.{false, fold, length, slice_index, take}
 use Rattle.aig_circuit.specs.declared.circuit.Circuit.{Circuit}
 use Rattle.aig_cnf.specs.Clauses.{HasTrue, Satisfies, bad_clauses, is_true}
 use Rattle.aig_fault.specs.Stopping.{fault_at}
@@ -125,6 +125,25 @@ AreStored given changes checker = (clause : List ℕ) → IsKept given changes c
 -- a reader and a checker have come so far
 abbrev pub HaveCome : List (List ℕ) → Followed → RefutationReader → Checker → Type 0
 HaveCome given f reader checker = (reading_of reader ≡ f.reading) × AreStored given f.changes checker
+
+-- What is wrong with what a byte ended, whichever clauses were given and whatever was changed: with this reading; with
+-- the next byte; with one of these; with what ends the last number.
+abbrev pub IsWrongEnd : LineEnd → Reading → Checker → Fault → Type 0
+IsWrongEnd end reading checker fault = (given : List (List ℕ)) (changes : List Change) → AreStored given changes checker
+    → IsStepFault given changes (record { reading = reading; end = end }) fault
+
+abbrev pub IsWrongByte : ℕ → RefutationReader → Checker → Fault → Type 0
+IsWrongByte byte reader checker fault = (given : List (List ℕ)) (f : Followed) → HaveCome given f reader checker
+    → IsStepFault given f.changes (next f.reading byte) fault
+
+abbrev pub IsWrongWithin : List ℕ → RefutationReader → Checker → Fault → Type 0
+IsWrongWithin bytes reader checker fault = (is_refuted checker ≡ false)
+    × ((given : List (List ℕ)) (f : Followed) → HaveCome given f reader checker → IsLineFault given f bytes fault)
+
+abbrev pub IsWrongLast : RefutationReader → Checker → Fault → Type 0
+IsWrongLast reader checker fault = (is_refuted checker ≡ false)
+    × ((given : List (List ℕ)) (f : Followed) → HaveCome given f reader checker
+    → IsLineFault given f (missing_end f.reading) fault)
 
 -- the bytes, where all came with what ends the last number
 abbrev pub text_of : Followed → List ℕ → Ending → List ℕ

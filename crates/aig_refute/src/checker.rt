@@ -7,7 +7,8 @@ ghost use Rattle.aig_refute.specs.Extended.{made_true};
 ghost use Rattle.aig_refute.specs.Kept.{Change, ComesToRest, HaveSameLiterals, IsStored};
 ghost use Rattle.aig_refute.specs.Lines.{next, reading_of};
 ghost use Rattle.aig_refute.specs.Refuted.{Admits, AreInLines, AreStored, CanExtend, Followed, Gains};
-ghost use Rattle.aig_refute.specs.Refuted.{HaveCome, IsLineFault, IsStepFault, Keeps, Preserves};
+ghost use Rattle.aig_refute.specs.Refuted.{HaveCome, IsWrongByte, IsWrongEnd, IsWrongWithin, Keeps};
+ghost use Rattle.aig_refute.specs.Refuted.{Preserves};
 ghost use Rattle.aig_refute.specs.Refuted.{base_of, changed, followed, is_refuted, words_of};
 ghost use Rattle.aig_refute.specs.Store.{IsFalse};
 
@@ -345,9 +346,7 @@ impl Checker {
         ensures changed { OnOk result ((given : List (List ℕ)) → (changes : List Change)
             → AreStored given changes self.old → (end ≢ LineEnd.Bad)
             × AreStored given (changed end (reading_of reader.now).clause changes) self.new) }
-        ensures err { IfErr result (StopsFor (λ fault. (given : List (List ℕ))
-            → (changes : List Change) → AreStored given changes self.old
-            → IsStepFault given changes (record { reading = reading_of reader.now; end = end }) fault)) }
+        ensures err { IfErr result (StopsFor (IsWrongEnd end (reading_of reader.now) self.old)) }
     {
         match end {
             LineEnd::Within => Ok(()),
@@ -357,7 +356,8 @@ impl Checker {
                 Ok(())
             }
             LineEnd::Added => {
-                if self.add(reader.clause())? {
+                let is_right = self.add(reader.clause())?;
+                if is_right {
                     Ok(())
                 } else {
                     Err(refused_at(Kind::DoesNotFollow, reader.line()))
@@ -373,9 +373,7 @@ impl Checker {
         ensures followed { OnOk result ((given : List (List ℕ)) → (f : Followed)
             → HaveCome given f reader.old self.old → ((next f.reading byte).end ≢ LineEnd.Bad)
             × HaveCome given (followed f byte) reader.new self.new) }
-        ensures err { IfErr result (StopsFor (λ fault. (given : List (List ℕ)) → (f : Followed)
-            → HaveCome given f reader.old self.old
-            → IsStepFault given f.changes (next f.reading byte) fault)) }
+        ensures err { IfErr result (StopsFor (IsWrongByte byte reader.old self.old)) }
     {
         let end = reader.take(byte)?;
         if end != LineEnd::Within {
@@ -394,9 +392,7 @@ impl Checker {
         ensures followed { OnOk result (is_refuted self.new ≡ false → (given : List (List ℕ))
             → (f : Followed) → HaveCome given f reader.old self.old → AreInLines f piece.now
             × HaveCome given (fold followed f piece.now) reader.new self.new) }
-        ensures err { IfErr result (StopsFor (λ fault. (is_refuted self.old ≡ false)
-            × ((given : List (List ℕ)) → (f : Followed) → HaveCome given f reader.old self.old
-            → IsLineFault given f piece.now fault))) }
+        ensures err { IfErr result (StopsFor (IsWrongWithin piece.now reader.old self.old)) }
     {
         if self.is_refuted() {
             return Ok(());

@@ -1,19 +1,14 @@
-use Rattle.std.proofs.Common.{◌≡◌, ◌∙◌, ap, false, fold, List, ℕ, subst, sym}
-use Rattle.aig_fault.proofs.Stoppings.{stops_weaker}
+use Rattle.std.proofs.Common.{◌≡◌, ◌∙◌, [], ap, false, fold, List, ℕ, subst, sym}
 use Rattle.aig_refute.specs.Kept.{IsKept}
 use Rattle.aig_refute.specs.Lines.{missing_end}
-use Rattle.aig_refute.specs.Refuted.{AreInLines, HaveCome, IsLineFault, ShowsNothing, followed, is_refuted, words_of}
+use Rattle.aig_refute.specs.Refuted.{ShowsNothing, followed, is_refuted, words_of}
 use Rattle.aig_refute.proofs.Followed.{does_not_follow}
+use Rattle.aig_refute.proofs.Taken.{wrong_last_piece}
 use Rattle.aig_refute.proofs.reading.end_refutation.Goals as goal
 
 pub returns-in_err-follow-clause-err : goal.returns-in_err-follow-clause-err
 returns-in_err-follow-clause-err c =
-    stops_weaker _ _ _
-    (λ fault why. (
-      why.0,
-      λ given f come. subst (λ (bytes : List ℕ). IsLineFault given f bytes fault)
-          (c.missing_end.ensures ∙ ap missing_end come.0) (why.1 given f come),
-    ))
+    wrong_last_piece c.missing_end.result.now c.args.reader.now c.args.checker.now _ c.missing_end.ensures
     c.in_err-follow.ensures.err
 
 pub returns-clause-no : goal.returns-clause-no

@@ -15,4 +15,4 @@ returns-in_err-follow g c =
     let next = rw (← c.split_at.ensures.front) at (c.in-Ok.ensures.history
     ∙ gave_next _ c.in-Ok.count _ (omega arith)) in
     let wrong = wrong_within _ _ _ _ _ _ c.loop-count.invariant _ c.split_at.result.0.now next in
-    search (rules, wrong)
+    search (rules, wrong _ c.in_err-follow.ensures.err)

@@ -1,5 +1,5 @@
 use Rattle.aig_refute.proofs.Gained.{gains_first, gains_none}
-use Rattle.aig_refute.proofs.checker.Checker.add_gate.Goals as goal
+use Rattle.aig_refute.proofs.checker.Checker.add_and.Goals as goal
 
 pub returns : goal.returns
 returns c =

@@ -1,0 +1,7 @@
+use Rattle.aig_refute.proofs.Taken.{wrong_byte}
+use Rattle.aig_refute.proofs.checker.Checker.follow_byte.Goals as goal
+
+pub returns-in_err-follow_line-clause-err : goal.returns-in_err-follow_line-clause-err
+returns-in_err-follow_line-clause-err c =
+    wrong_byte c.args.byte c.args.reader.now c.take.new.self c.in_ok-end.end c.args.self.now _ c.in_ok-end.ensures
+    c.in_err-follow_line.ensures.err
