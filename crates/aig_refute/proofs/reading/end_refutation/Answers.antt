@@ -1,4 +1,4 @@
-use Rattle.std.proofs.Common.{◌≡◌, ◌∙◌, [], ap, false, fold, List, ℕ, subst, sym}
+use Rattle.std.proofs.Common.{rules, ◌≡◌, ◌∙◌, [], ap, false, fold, List, ℕ, subst, sym}
 use Rattle.aig_refute.specs.Kept.{IsKept}
 use Rattle.aig_refute.specs.Lines.{missing_end}
 use Rattle.aig_refute.specs.Refuted.{ShowsNothing, followed, is_refuted, words_of}
@@ -8,8 +8,9 @@ use Rattle.aig_refute.proofs.reading.end_refutation.Goals as goal
 
 pub returns-in_err-follow-clause-err : goal.returns-in_err-follow-clause-err
 returns-in_err-follow-clause-err c =
-    wrong_last_piece c.missing_end.result.now c.args.reader.now c.args.checker.now _ c.missing_end.ensures
-    c.in_err-follow.ensures.err
+    let wrong = wrong_last_piece c.missing_end.result.now c.args.reader.now c.args.checker.now
+    c.in_err-follow.field-0.0 c.missing_end.ensures c.in_err-follow.ensures.err in
+    search (rules, wrong)
 
 pub returns-clause-no : goal.returns-clause-no
 returns-clause-no c = λ is.

@@ -1,4 +1,4 @@
-use Rattle.std.proofs.Common.{◌≡◌, ◌<◌, ◌+◌, ◌++◌, [], ◌∷◌, ◌∙◌, arith, false, fold, length, List, ℕ, subst, sym, take}
+use Rattle.std.proofs.Common.{rules, ◌≡◌, ◌<◌, ◌+◌, ◌++◌, [], ◌∷◌, ◌∙◌, arith, false, fold, length, List, ℕ, subst, sym, take}
 use Rattle.std.specs.Prelude.{slice_index}
 use Rattle.std.proofs.lemmas.Grind.{common_steps}
 use Rattle.std.proofs.lemmas.List.Sums.{fold_more}
@@ -11,13 +11,15 @@ use Rattle.aig_refute.proofs.checker.Checker.follow.Goals as goal
 pub returns-in_err-follow_byte-clause-err : goal.returns-in_err-follow_byte-clause-err
 returns-in_err-follow_byte-clause-err c =
     let still : is_refuted c.args.self.now ≡ false = sym c.is_refuted.ensures.is ∙ c.if-is_refuted.false in
-    wrong_piece c.args.piece.now c.loop-k.k c.args.reader.now c.loop-k.reader c.args.self.now c.loop-k.self _
-    (omega arith) still (λ given f come. (c.loop-k.invariant.2 given f come).1) c.in_err-follow_byte.ensures.err
+    let wrong = wrong_piece c.args.piece.now c.loop-k.k c.args.reader.now c.loop-k.reader c.args.self.now c.loop-k.self
+    c.in_err-follow_byte.field-0.0 (omega arith) still (λ given f come. (c.loop-k.invariant.2 given f come).1)
+    c.in_err-follow_byte.ensures.err in
+    search (rules, wrong)
 
 pub loop-k-preserved : goal.loop-k-preserved
 loop-k-preserved c = (
   keeps_both _ _ _ c.loop-k.invariant.0 c.in_ok-follow_byte.ensures.keeps,
-  sym c.is_refuted-in-loop-k.ensures.is ∙ c.if-is_refuted-in-loop-k.false,
+  sym c.is_refuted-in-loop-k.ensures.is ∙ c.if-is_refuted-2.false,
   λ given f come.
       let piece : List ℕ = c.args.piece.now in
       let k : ℕ = c.loop-k.k in
