@@ -43,7 +43,8 @@ pub record IsNoneText (request : Reach) (selected : Circuit) (text : List ℕ) :
       → IsNoneWithin c request.bad request.frames
   pub written_as : text ≡ none_text request.frames
 
--- A refutation of the circuit's clauses, unrolled over so many frames, is refused for this reason, where its bytes ended
+-- A refutation of the circuit's clauses, unrolled over so many frames, is refused for this reason, where its bytes
+-- ended
 -- so.
 abbrev pub IsRefutationRefused : Circuit → ℕ → Fault → List ℕ → Ending → Type 0
 IsRefutationRefused c frames fault bytes ending = (d : Circuit) × IsWellFormed d × IsUnrolled c frames d

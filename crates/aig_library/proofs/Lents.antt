@@ -74,12 +74,17 @@ module _ (input : List ℕ) (now : History) (given : HasGiven now) where
       → now ≡ came bytes ending (unused (lent input)) → IsRefutationRefused c frames fault bytes ending
       → IsRefutationRefused c frames fault input AtEnd
   refutation c frames fault bytes AtEnd is says =
-      subst (λ (bs : List ℕ). IsRefutationRefused c frames fault bs AtEnd) (lents.all_read input now given bytes is) says
+      subst (λ (bs : List ℕ). IsRefutationRefused c frames fault bs AtEnd)
+      (lents.all_read input now given bytes is) says
   refutation c frames fault bytes Open is (d, formed, unrolled, why) =
-      let front = lents.part_read input now given bytes is in
-      (d, formed, unrolled, subst (λ (bs : List ℕ). IsRefusedWhere (bad_clauses d) (literals_of d) fault bs AtEnd)
-      (ap (λ (bs : List ℕ). bs ++ drop (length bytes) input) front ∙ take-append-drop (length bytes) input)
-      (refused_behind (bad_clauses d) (literals_of d) fault bytes (drop (length bytes) input) why))
+      let front = lents.part_read input now given bytes is in (
+        d,
+        formed,
+        unrolled,
+        subst (λ (bs : List ℕ). IsRefusedWhere (bad_clauses d) (literals_of d) fault bs AtEnd)
+            (ap (λ (bs : List ℕ). bs ++ drop (length bytes) input) front ∙ take-append-drop (length bytes) input)
+            (refused_behind (bad_clauses d) (literals_of d) fault bytes (drop (length bytes) input) why),
+      )
   refutation c frames fault bytes Broken is (d, formed, unrolled, inl why) = absurd why.0
   refutation c frames fault bytes Broken is (d, formed, unrolled, inr why) = absurd (never_broken why.1)
 

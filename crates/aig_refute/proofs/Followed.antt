@@ -96,7 +96,8 @@ module _ (from : Followed) (first second : List ℕ) where
       let inside : is.0 < length second = is.1 in (
         length first + is.0,
         omega arith,
-        subst (λ (f : Followed). IsStepFault given f.changes (step_at from (first ++ second) (length first + is.0)) fault)
+        subst (λ (f : Followed). IsStepFault given f.changes (step_at from (first ++ second)
+            (length first + is.0)) fault)
             (sym (to_more is.0))
             (subst (λ (s : Step).
             IsStepFault given (followed_to (fold followed from first) second is.0).changes s fault)

@@ -1,5 +1,6 @@
 -- What a checker has once clauses were added.
-use Rattle.std.proofs.Common.{◌≡◌, ◌<◌, ◌+◌, ◌++◌, ◌⊎◌, [], ◌∷◌, ⊎_elim, inl, inr, ℕ, List, Bool, length, take, refl, subst, sym}
+use Rattle.std.proofs.Common.{◌≡◌, ◌<◌, ◌+◌, ◌++◌, ◌⊎◌, [], ◌∷◌, ⊎_elim, inl, inr, ℕ, List, Bool, length, take, refl}
+use Rattle.std.proofs.Common.{subst, sym}
 use Rattle.std.proofs.Common.{◌∙◌, ap}
 use Rattle.std.specs.List.{flat_map}
 use Rattle.aig_circuit.specs.declared.circuit.Gate.{Gate}
@@ -56,7 +57,8 @@ gains_preserved clause first second third one two = record {
 }
 
 pub gains_none : (checker : Checker) → GainsAll [] checker checker
-gains_none checker = record { admits = λ a h sat. h; base = refl; stored = λ clause h. h; gained = λ clause h. absurd h }
+gains_none checker =
+    record { admits = λ a h sat. h; base = refl; stored = λ clause h. h; gained = λ clause h. absurd h }
 
 pub gains_first : (clause : List ℕ) (others : List (List ℕ)) (first second third : Checker) → Gains clause first second
     → GainsAll others second third → GainsAll (clause ∷ others) first third

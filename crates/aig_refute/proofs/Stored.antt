@@ -34,9 +34,11 @@ module _ (words new : List ℕ) (i j : ℕ) (order : i < j) (inside : j < length
     (others : (m : ℕ) → m ≢ i → m ≢ j → slice_index new m ≡ slice_index words m) where
   end_back : (m : ℕ) → slice_index new m ≡ END → slice_index words m ≡ END
   end_back m h =
-      ⊎_elim (λ (e : m ≡ i). absurd (within j (omega arith) (omega arith) (sym at_i ∙ (sym (ap (slice_index new) e) ∙ h))))
+      ⊎_elim (λ (e : m ≡ i). absurd (within j (omega arith) (omega arith) (sym at_i ∙ (sym (ap
+      (slice_index new) e) ∙ h))))
       (λ (ni : m ≢ i).
-      ⊎_elim (λ (e : m ≡ j). absurd (within i (omega arith) (omega arith) (sym at_j ∙ (sym (ap (slice_index new) e) ∙ h))))
+      ⊎_elim (λ (e : m ≡ j). absurd (within i (omega arith) (omega arith) (sym at_j ∙ (sym (ap
+      (slice_index new) e) ∙ h))))
       (λ (nj : m ≢ j). sym (others m ni nj) ∙ h) (cases_eq m j))
       (cases_eq m i)
 
@@ -315,7 +317,11 @@ pub gone_always : (words : List ℕ) (at e : ℕ) → IsClause words at e → at
 gone_always words at e is two negated clause stands = (
   slice_index words at,
   stands.only at (omega arith, λ m low high. is.literals m low high),
-  subst (HasLiteral clause) negated (stands.only (at + 1) (omega arith, λ m low high. is.literals m (omega arith) high)),
+  subst (HasLiteral clause) negated (stands.only (at + 1) (
+    omega arith,
+    λ m low high. is.literals m
+        (omega arith) high,
+  )),
 )
 
 -- what the clause at a place is not, it is not where its literals changed places

@@ -1,5 +1,6 @@
 -- A refutation that is read in pieces.
-use Rattle.std.proofs.Common.{◌≡◌, ◌<◌, ◌+◌, ◌++◌, ◌∙◌, ℕ, List, [], Bool, false, Ok, Err, ap, arith, inl, inr, refl, subst, sym}
+use Rattle.std.proofs.Common.{◌≡◌, ◌<◌, ◌+◌, ◌++◌, ◌∙◌, ℕ, List, [], Bool, false, Ok, Err, ap, arith, inl, inr, refl}
+use Rattle.std.proofs.Common.{subst, sym}
 use Rattle.std.proofs.Common.{fold, length, take}
 use Rattle.std.specs.Prelude.{slice_index}
 use Rattle.aig_fault.specs.Stopping.{StopsFor, refusal}
@@ -14,7 +15,8 @@ use Rattle.aig_io.specs.Runs.{AtEnd, Broken, Ending, IsUnbroken, Open, Read}
 use Rattle.aig_io.proofs.Took.{took_none, took_twice}
 use Rattle.aig_refute.specs.Agree.{Agrees}
 use Rattle.aig_refute.specs.Lines.{Reading, Step, begun, missing_end, next, reading_of}
-use Rattle.aig_refute.specs.Refuted.{AreInLines, AreStored, EndsFor, Followed, HaveCome, IsLineFault, Keeps, ReadingSays}
+use Rattle.aig_refute.specs.Refuted.{AreInLines, AreStored, EndsFor, Followed, HaveCome, IsLineFault, Keeps}
+use Rattle.aig_refute.specs.Refuted.{ReadingSays}
 use Rattle.aig_refute.specs.Refuted.{IsStepFault, IsWrongByte, IsWrongEnd}
 use Rattle.aig_refute.specs.Refuted.{IsWrongLast, IsWrongWithin, ShowsNothing, followed, is_refuted, text_of, unread}
 use Rattle.aig_refute.specs.declared.checker.Checker.{Checker}
@@ -65,7 +67,15 @@ pub wrong_piece : (piece : List ℕ) (k : ℕ) (reader now : RefutationReader) (
     → StopsFor (IsWrongWithin piece reader checker) stopped
 wrong_piece piece k reader now checker checker_now stopped inside still come =
     stops_weaker (IsWrongByte (slice_index piece k) now checker_now) (IsWrongWithin piece reader checker) stopped
-    (λ fault why. (still, λ given f first. (k, inside, why given (fold followed f (take k piece)) (come given f first))))
+    (λ fault why. (
+      still,
+      λ given f first. (
+        k,
+        inside,
+        why given (fold followed f (take k piece))
+            (come given f first),
+      ),
+    ))
 
 -- what ends the last number is a piece as well
 pub wrong_last_piece : (piece : List ℕ) (reader : RefutationReader) (checker : Checker) (stopped : Stopped)
@@ -79,7 +89,8 @@ wrong_last_piece piece reader checker stopped is =
           (is ∙ ap missing_end come.0) (why.1 given f come),
     ))
 
-ends_for : (given : List (List ℕ)) (limit : ℕ) (P : Fault → Type 0) (stopped : Stopped) (bytes : List ℕ) (ending : Ending)
+ends_for : (given : List (List ℕ)) (limit : ℕ) (P : Fault → Type 0) (stopped : Stopped) (bytes : List ℕ)
+    (ending : Ending)
     → StopsFor P stopped → IsUnbroken ending
     → ((fault : Fault) → P fault → IsLineFault given (unread limit) (text_of (unread limit) bytes ending) fault)
     → EndsFor given limit stopped bytes ending

@@ -32,9 +32,10 @@ returns-then-is_refuted g c =
     (c.in_ok-is_refuted.ensures.yes c.if-is_refuted.true) in
     search (rules, right)
 
-pub returns-else-is_refuted : goal.returns-else-is_refuted
-returns-else-is_refuted g c =
+pub returns-then-count-eq0 : goal.returns-then-count-eq0
+returns-then-count-eq0 g c =
     let end = rw c.if-count-eq0.true at c.in-Ok.ensures.history in
     let why = c.in_ok-is_refuted.ensures.no c.if-is_refuted.false in
     let wrong = not_refuted _ _ _ _ _ _ c.loop-count.invariant _ end why.0 why.1 in
-    search (rules, wrong)
+    let told = c.refused_whole.ensures in
+    rw told wrong

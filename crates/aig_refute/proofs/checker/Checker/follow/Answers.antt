@@ -1,4 +1,5 @@
-use Rattle.std.proofs.Common.{rules, ◌≡◌, ◌<◌, ◌+◌, ◌++◌, [], ◌∷◌, ◌∙◌, arith, false, fold, length, List, ℕ, subst, sym, take}
+use Rattle.std.proofs.Common.{rules, ◌≡◌, ◌<◌, ◌+◌, ◌++◌, [], ◌∷◌, ◌∙◌, arith, false, fold, length, List, ℕ, subst}
+use Rattle.std.proofs.Common.{sym, take}
 use Rattle.std.specs.Prelude.{slice_index}
 use Rattle.std.proofs.lemmas.Grind.{common_steps}
 use Rattle.std.proofs.lemmas.List.Sums.{fold_more}
@@ -38,5 +39,6 @@ pub returns-clause-followed : goal.returns-clause-followed
 returns-clause-followed c = λ still given f come.
     let piece : List ℕ = c.args.piece.now in
     let all : take c.loop-k.k piece ≡ piece = grind (arith, common_steps) in
-    subst (λ (bytes : List ℕ). AreInLines f bytes × HaveCome given (fold followed f bytes) c.loop-k.reader c.loop-k.self)
+    subst (λ (bytes : List ℕ). AreInLines f bytes × HaveCome given (fold followed f bytes) c.loop-k.reader
+    c.loop-k.self)
     all (c.loop-k.invariant.2 given f come)

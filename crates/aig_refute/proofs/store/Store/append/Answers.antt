@@ -31,7 +31,11 @@ returns-clause-stored c = λ other stored.
     let words : List ℕ = c.args.self.now.words.items in
     let is : c.push.new.self.items ≡ (words ++ c.args.clause.now) ++ END ∷ [] = search rules in
     stored_from words c.push.new.self.items other
-    (λ e stands. inl (e, stands_before words c.args.clause.now c.push.new.self.items c.requires.literals is other e stands))
+    (λ e stands. inl (
+      e,
+      stands_before words c.args.clause.now c.push.new.self.items
+          c.requires.literals is other e stands,
+    ))
     stored
 
 pub returns-clause-pushed : goal.returns-clause-pushed

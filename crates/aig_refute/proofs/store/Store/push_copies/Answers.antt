@@ -16,7 +16,8 @@ loop-end-preserved c =
       c.push_copy.ensures.base ∙ c.loop-end.invariant.3,
       λ clause e lt stands.
           ⊎_elim
-          (λ (l : e < c.loop-end.at). c.in_ok-push_copy.ensures.stored clause (c.loop-end.invariant.4 clause e l stands))
+          (λ (l : e < c.loop-end.at). c.in_ok-push_copy.ensures.stored clause
+          (c.loop-end.invariant.4 clause e l stands))
           (λ (g : c.loop-end.at ≤ e).
           ⊎_elim
           (λ (same : e ≡ end). c.in_ok-push_copy.ensures.copied clause (rw same at stands))
@@ -32,6 +33,7 @@ returns-clause-stored c = λ clause stored.
     ⊎_elim
     (λ (l : e < c.loop-end.at). c.loop-end.invariant.4 clause e l stands)
     (λ (g : c.loop-end.at ≤ e).
-    absurd (c.clause_end.ensures.none (search rules) c.loop-end.invariant.0 c.loop-end.invariant.1 e g stands.inside stands.ends))
+    absurd (c.clause_end.ensures.none (search rules) c.loop-end.invariant.0
+    c.loop-end.invariant.1 e g stands.inside stands.ends))
     (cases_lt e c.loop-end.at))
     stored
