@@ -79,3 +79,15 @@ def inputs(count):
 def claim(count):
     """The first lines of a witness that claims the last bad state, from the first state."""
     return f"1\nb{count - 1}\n{reset(count)}\n".encode()
+
+
+def contradiction(count):
+    """So many inputs, of which two would have to have one of their four values, and have none. In clauses these are 2 and 3,
+    the gates are count + 2 and more, and the largest variable is count + 9."""
+    first, second, gate = 2, 4, 2 * count + 2
+    yield f"aag {count + 7} {count} 0 0 7 1\n"
+    yield from (f"{2 * at}\n" for at in range(1, count + 1))
+    yield f"{gate + 12}\n"
+    for at, (left, right) in enumerate(itertools.product((first, first + 1), (second, second + 1))):
+        yield f"{gate + 2 * at} {left} {right}\n"
+    yield f"{gate + 8} {gate + 1} {gate + 3}\n{gate + 10} {gate + 5} {gate + 7}\n{gate + 12} {gate + 8} {gate + 10}\n"

@@ -5,9 +5,9 @@ The circuits are those of answers.py, and some that compare two sums of the same
 mostly equal. A refutation of their clauses is made here by trying all inputs: behind each conflict stands
 the clause that forbids the inputs that were tried, so that each line follows by unit propagation. It is spelled in some way, in
 text or binary, with deletions, and mostly spoiled: cut, with a line left out, moved or of another kind, a sign or a bit
-turned, a number changed; or it is that of other frames, or of another bad state. Where clauses can be satisfied, what comes of the
-inputs that were tried is given as a forged one. The program must say what the checker says. Where that finds them refuted, trying
-all inputs must find no assignment.
+turned, a number changed; or it is that of other frames, or of another bad state. Where clauses can be satisfied, what comes of
+the inputs that were tried is given as a forged one. In half of them other lines bring in variables, as in new_variables.py. The
+program must say what the checker says. Where that finds them refuted, trying all inputs must find no assignment.
 """
 import collections
 import random
@@ -15,6 +15,7 @@ import re
 from pathlib import Path
 
 from lib import answers, images, traces, unrolled, witnesses
+from lib.new_variables import ADDED, DELETED, with_new_variables
 
 CIRCUITS = 600
 # so many lemmas are enough: then fewer frames are taken
@@ -22,7 +23,7 @@ LEMMAS = 200
 BLANKS = re.compile(rb"[ \r\n]*")
 COMMENT = re.compile(rb"c[^\n]*")
 NUMBER = re.compile(rb"(?:-[1-9][0-9]*|[0-9]+)(?=[ \r\n]|\Z)")
-ADDED, DELETED, BAD = "added", "deleted", "bad"
+BAD = "bad"
 BITS = [1 << at for at in range(8)]
 # a number in a binary refutation, and what begins as one
 CODE, BEGUN = re.compile(rb"[\x80-\xff]{0,4}[\0-\x7f]"), re.compile(rb"[\x80-\xff]{0,4}\Z")
@@ -34,45 +35,47 @@ class Checker:
     def __init__(self, clauses, largest):
         self.largest = largest
         self.having, self.places = collections.defaultdict(list), collections.defaultdict(list)
-        self.true, self.order, self.is_refuted = set(), [], False
+        self.true, self.false, self.order, self.is_refuted = set(), set(), [], False
         for clause in clauses:
             self.keep(clause)
 
     def keep(self, clause):
         """Keeps a clause, and what follows from it."""
-        it = [True, clause]
+        it = [True, frozenset(clause)]
         self.places[tuple(sorted(clause))].append(it)
-        for literal in set(clause):
+        for literal in it[1]:
             self.having[literal].append(it)
         start = len(self.order)
-        if self.is_false(clause) or self.has_conflict(start):
+        if self.is_false(it[1]) or self.has_conflict(start):
             self.is_refuted = True
 
     def delete(self, clause):
-        """Deletes a clause once, if it is there."""
+        """Deletes a clause once, if it is there, and not of new variables alone."""
         found = self.places[tuple(sorted(clause))]
-        if found:
+        if found and any(abs(it) <= self.largest for it in clause):
             found.pop()[0] = False
 
     def assume(self, literal):
         self.true.add(literal)
+        self.false.add(-literal)
         self.order.append(literal)
 
     def is_false(self, clause):
         """Whether all literals are false. If just one is open, it is true from here on."""
-        if any(it in self.true for it in clause):
+        if not self.true.isdisjoint(clause):
             return False
-        free = {it for it in clause if -it not in self.true}
+        free = clause - self.false
         if len(free) == 1:
-            self.assume(free.pop())
+            self.assume(*free)
             return False
         return not free
 
     def has_conflict(self, start):
         """Whether what follows from the literals behind this one has a conflict."""
         while start < len(self.order):
-            if any(is_there and self.is_false(clause) for is_there, clause in self.having[-self.order[start]]):
-                return True
+            for is_there, clause in self.having[-self.order[start]]:
+                if is_there and self.is_false(clause):
+                    return True
             start += 1
         return False
 
@@ -85,22 +88,23 @@ class Checker:
 
     def extends(self, clause):
         """Whether the first literal is of a new variable, and can be made true: what the clauses with its negation come to,
-        joined to this one, follows. Of those that were deleted, the ones of new variables alone count too."""
+        joined to this one, follows."""
         if not clause or abs(clause[0]) <= self.largest or -clause[0] in self.true:
             return False
-        others = [it for is_there, it in self.having[-clause[0]] if is_there or min(map(abs, it)) > self.largest]
-        return all(self.follows(clause + [it for it in other if it != -clause[0]]) for other in others)
+        others = [it for is_there, it in self.having[-clause[0]] if is_there]
+        return all(self.follows([*clause, *(other - {-clause[0]})]) for other in others)
 
     def contradicts(self, literal):
         """Whether this literal is true; if not, it is false from here on."""
         if literal in self.true:
             return True
-        if -literal not in self.true:
+        if literal not in self.false:
             self.assume(-literal)
         return False
 
     def forget(self, start):
         self.true.difference_update(self.order[start:])
+        self.false.difference_update(-it for it in self.order[start:])
         del self.order[start:]
 
 
@@ -361,6 +365,8 @@ def turned(chance, proof):
 def given(chance, largest, clauses, lemmas):
     """The text of a refutation, or of what is nearly one."""
     found, which = with_deletions(chance, clauses, lemmas), chance.randrange(8)
+    if chance.randrange(2):
+        found = with_new_variables(chance, Checker(clauses, largest), clauses, found)
     if which < 3:
         found = spoiled(chance, largest, found)
     proof = spelled_binary(found) if chance.randrange(2) else spelled_text(chance, found)

@@ -2,6 +2,7 @@
 """Compares what the program makes of circuits, stimuli and witnesses made by chance with plain evaluations.
 
     tests/run/by_chance.py PROGRAM [KIND [NUMBER]]     all of it, or one kind, or one circuit of it
+    tests/run/by_chance.py PROGRAM KIND --circuits N   one kind, of so many circuits and no longer of its own CIRCUITS
     tests/run/by_chance.py PROGRAM --part K N          of each kind every Nth circuit from number K on
 
 A kind is a module of tests/lib: see its head for what is compared. Its circuits have numbers from 0 on, and a circuit of
@@ -42,7 +43,19 @@ def why_wrong(case):
         return repr(why)
 
 
+def without_count(words):
+    """The words without a count of circuits. The kind takes that in the place of its own."""
+    if words[1:2] != ("--circuits",):
+        return words
+    kind, _, count = words
+    if not hasattr(KINDS.get(kind), "CIRCUITS"):
+        counts.finish([f"{kind}: wanted a kind that counts its circuits; came none"], 0)
+    KINDS[kind].CIRCUITS = int(count)
+    return (kind,)
+
+
 def main(program, *words):
+    words = without_count(words)
     part, (kind, number) = counts.part_of(words), (*words, None, None)[:2]
     kinds = list(KINDS) if part else [it for it in KINDS if kind in (None, it)]
     number = None if part or number is None else int(number)

@@ -4,8 +4,9 @@
     tests/run/sizes.py PROGRAM [NAME]     all, or what has NAME in the name of its function
 
 Files, stimuli, witnesses and map blocks have more than 64 MB, comments of a solver's answer 100 MB, a line of its
-values 50 MB, and refutations 100 MB, with a lemma of a million literals. An invariant has 200,000 rows, and between them
-100 MB of comments. Each section has 500,000 lines. There are
+values 50 MB, and refutations 100 MB, with a lemma of a million literals. Refutations of many lines bring in variables, have
+many clauses at once, or delete what they add, in time and memory that is bounded. An invariant has 200,000 rows, and between
+them 100 MB of comments. Each section has 500,000 lines. There are
 20,000 runs, 1,000 frames, and 4,000,000 gates, each before the one that it is over. Dumps have 350,000 signals, and
 1,200,000 steps. Circuits that are compared have 1,000,000 gates each, or 200,000 names of inputs and as many of outputs.
 What is wanted is made here by rule. A run may take 1.5 GB of memory.
@@ -14,6 +15,7 @@ The last line is 'N passed, M failed'.
 """
 import contextlib
 import filecmp
+import functools
 import itertools
 import os
 import resource
@@ -24,8 +26,8 @@ from pathlib import Path
 
 sys.dont_write_bytecode = True
 sys.path[0] = str(Path(__file__).resolve().parent.parent)
-from lib import answers, counts, waves
-from lib.large import claim, conjunctions, dump, inputs, trace, wide, write
+from lib import answers, counts, long_refutations, waves
+from lib.large import claim, conjunctions, contradiction, dump, inputs, trace, wide, write
 
 # bytes: a large file, and what a run may take; seconds that a run may take
 MANY, MEMORY, PATIENCE = 70_000_000, 1_500_000_000, 300
@@ -43,6 +45,10 @@ COMMENTS, VALUES = 100_000_000, 50_000_000
 LITERALS, LEMMAS, ROWS, HELD = 1_000_000, 1_000_000, 200_000, 40
 # gates of each circuit that is compared, and bytes for that: 35 for each gate, and the program's; and names of each kind
 COMPARED, COMPARING, NAMED = 1_000_000, 75_000_000, 200_000
+# pairs of lines by which a hundred thousand words are let go; lemmas or definitions, and how often their time is taken;
+# rounds of lines that are deleted, and kilobytes for that, where all of them would take more than twice as many
+MOVED, CLAUSES, RUNS_OF_TIME, STEADY, LITTLE = 60_000, 25_000, 3, 250_000, 24_000
+REFUTES = "aigunroll --frames 1 model --refutation -"
 # bytes of a file that are held at a time
 EDGE = 65_536
 
@@ -58,12 +64,21 @@ class Room:
         if not is_right:
             self.wrong.append(f"{name}: came {came}")
 
-    def run(self, words, given, output):
-        """Standard error and the status of the words over this file; standard output goes to another."""
+    def run(self, words, given, output, before=()):
+        """Standard error and the status of the words over this file; standard output goes to another. Words before those of
+        the program may run it."""
         with open(given, "rb") as source, open(output, "wb") as sink:
             how = {"stdin": source, "stdout": sink, "stderr": subprocess.PIPE, "timeout": PATIENCE}
-            done = subprocess.run([self.program, *words.split()], check=False, **how)
+            done = subprocess.run([*before, self.program, *words.split()], check=False, **how)
         return done.stderr, done.returncode
+
+    def seconds(self, words, given, told):
+        """The time of a processor that the words take over this file, which they refuse in these words."""
+        before = resource.getrusage(resource.RUSAGE_CHILDREN)
+        came = self.run(words, given, "came")
+        after = resource.getrusage(resource.RUSAGE_CHILDREN)
+        self.judge(f"{words} < {given}", came == (f"aiger: -: {told}\n".encode(), 1), came)
+        return after.ru_utime + after.ru_stime - before.ru_utime - before.ru_stime
 
     def made(self, words, given, output="made"):
         """The file that the words write."""
@@ -302,31 +317,59 @@ def large_answers(room):
 def large_refutations(room):
     """Of two inputs, which have none of their four values, beside many inputs that are in long lemmas alone."""
     count = LITERALS + 2
-    gates = [(1, 2), (1, -2), (-1, 2), (-1, -2)]
-
-    def literal(number):
-        return 2 * abs(number) + (number < 0)
-
-    lines = [(2 * (count + at), *map(literal, both)) for at, both in enumerate(gates, 1)]
-    lines += [(2 * (count + 5), 2 * count + 3, 2 * count + 5), (2 * (count + 6), 2 * count + 7, 2 * count + 9)]
-    lines += [(2 * (count + 7), 2 * (count + 5), 2 * (count + 6))]
-    head = f"aag {count + 7} {count} 0 0 7 1\n".encode()
-    ends = (f"{2 * (count + 7)}\n", *(f"{own} {left} {right}\n" for own, left, right in lines))
-    write("model", head, (f"{2 * at}\n" for at in range(1, count + 1)), ends)
+    write("model", contradiction(count))
     write("wanted", b"none within 1\n")
     # its last two literals are those by which it follows
     long = b" ".join(b"%d" % at for at in range(4, count + 2)) + b" 2 3 0\n"
     few = b"2 3 0\nd 3 2 0\n" * (LEMMAS // 2)
-    words = "aigunroll --frames 1 model --refutation -"
     write("proof", b"c" * COMMENTS, b"\n", long, b"d ", long, few, long, b"2 0\n")
-    room.gives(words, "proof", "wanted")
+    room.gives(REFUTES, "proof", "wanted")
     write("proof", long, few, b"4 0\n")
-    came = room.run(words, "proof", "came")
+    came = room.run(REFUTES, "proof", "came")
     told = b"aiger: -: line %d: does not follow\n" % (2 * (LEMMAS // 2) + 2)
     room.judge("a line that does not follow behind many", came == (told, 1), came)
     write("proof", few, long[:-2])
-    came = room.run(words, "proof", "came")
+    came = room.run(REFUTES, "proof", "came")
     room.judge("a long lemma without its end", came == (b"aiger: -: no refutation\n", 1), came)
+
+
+def moved_refutations(room):
+    """What was added before the clauses are moved together, between two lines, is there behind them: what follows by
+    definitions alone follows, and what two lines do not allow is refused."""
+    write("model", contradiction(3))
+    write("wanted", b"none within 1\n")
+    told = len(long_refutations.DEFINED) + MOVED * len(long_refutations.SHORT) + 1
+    for is_binary in (False, True):
+        spell = functools.partial(long_refutations.spelled, is_binary=is_binary)
+        before = spell(long_refutations.DEFINED) + spell(long_refutations.SHORT) * MOVED
+        write("proof", before, spell(long_refutations.USED))
+        room.gives(REFUTES, "proof", "wanted")
+        write("proof", before, spell(long_refutations.BLOCKED))
+        room.seconds(REFUTES, "proof", f"line {told}: does not follow")
+
+
+def growing_refutations(room):
+    """Lemmas, or definitions of new variables, that are all there at once and then deleted. For four times as many it may
+    take eight times as long. By what is deleted the last line would follow."""
+    for kind in (long_refutations.lemmas, long_refutations.definitions):
+        times = []
+        for count in (CLAUSES, 4 * CLAUSES):
+            lines = kind(count)
+            write("model", contradiction(count + 4))
+            write("proof", long_refutations.spelled(lines))
+            told = f"line {len(lines)}: does not follow"
+            times.append(min(room.seconds(REFUTES, "proof", told) for _ in range(RUNS_OF_TIME)))
+        room.judge(f"the time for {kind.__name__}", times[1] <= 8 * times[0], times)
+
+
+def steady_refutations(room):
+    """Lines that are deleted soon after, many of them, in little memory."""
+    write("model", contradiction(3))
+    around, rounds = (long_refutations.spelled(it) for it in (long_refutations.AROUND, long_refutations.ROUND))
+    write("proof", around, rounds * STEADY, b"4 0\n")
+    came = room.run(REFUTES, "proof", "came", ["/bin/sh", "-c", 'ulimit -v "$0" && exec "$@"', str(LITTLE)])
+    told = len(long_refutations.AROUND) + STEADY * len(long_refutations.ROUND) + 1
+    room.judge("many deletions", came == (f"aiger: -: line {told}: does not follow\n".encode(), 1), came)
 
 
 def large_invariants(room):
@@ -448,7 +491,7 @@ def window_edges(room):
 
 JUDGES = [large_chains, large_tails, large_sections, many_runs, many_signals, many_latches, long_stimuli, long_dumps]
 JUDGES += [many_frames, many_clauses, large_answers, large_refutations, large_invariants, large_miters, many_names]
-JUDGES += [frames_of_nothing, window_edges]
+JUDGES += [frames_of_nothing, window_edges, moved_refutations, growing_refutations, steady_refutations]
 
 
 def main(program, name=""):

@@ -1,6 +1,6 @@
 -- The tail of a binary file, after its gates.
-use Rattle.std.proofs.Common.{◌≡◌, ◌∙◌, ◌-◌, ◌++◌, ◌⊎◌, ℕ, List, Result, Ok, Err, length, take, drop, take-append-drop, ap}
-use Rattle.std.proofs.Common.{append_assoc, sym, subst, inl, inr}
+use Rattle.std.proofs.Common.{◌≡◌, ◌∙◌, ◌-◌, ◌++◌, ◌⊎◌, ℕ, List, Result, Ok, Err, length, take, drop}
+use Rattle.std.proofs.Common.{take-append-drop, ap, append_assoc, sym, subst, inl, inr}
 use Rattle.aig_circuit.specs.declared.circuit.Circuit.{Circuit}
 use Rattle.aig_circuit.specs.declared.circuit.Gate.{Gate}
 use Rattle.aig_core.specs.Names.{nothing_named}
@@ -30,7 +30,8 @@ pub tail_read : (r : BinaryReader) (h : Header) (bytes last rest : List ℕ) (ga
     → from ≡ ahead number (lines_of rest)
     → IsReadOf (bytes_of from.lines) found (tail_at h nothing_named c from.number from.lines)
     → IsReadOf bytes found (rest_of r bytes)
-tail_read r h bytes last rest gates b c at now from number found here lines behind there read dropped circuit start tail =
+tail_read r h bytes last rest gates b c at now from number found here lines behind there read dropped circuit start
+    tail =
     let n = length last - length rest in
     let last_is : bytes_of now.lines ≡ last = ap (λ (a : Ahead). bytes_of a.lines) (sym there) ∙ (pieces last).joined in
     let told : rest_of r bytes ≡ tail_at h nothing_named c from.number from.lines =

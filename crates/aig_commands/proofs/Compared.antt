@@ -1,6 +1,6 @@
 -- What is known of a miter's file is known of both circuits.
-use Rattle.std.proofs.Common.{◌≡◌, ◌<◌, ◌+◌, ℕ, List, Option, Ok, None, Some, Bool, arith, true, false, length, refl, subst}
-use Rattle.std.proofs.Common.{sym}
+use Rattle.std.proofs.Common.{◌≡◌, ◌<◌, ◌+◌, ℕ, List, Option, Ok, None, Some, Bool, arith, true, false, length, refl}
+use Rattle.std.proofs.Common.{subst, sym}
 use Rattle.aig_circuit.specs.declared.circuit.Circuit.{Circuit}
 use Rattle.aig_circuit.specs.declared.circuit.TheConstants.{LARGEST}
 use Rattle.aig_circuit.specs.Wellformed.{IsWellFormed}

@@ -1,6 +1,7 @@
 -- A trace text, line by line.
 use Rattle.std.proofs.Common.{◌≡◌, ◌∙◌, ◌∷◌, ◌++◌, ◌+◌, ◌-◌, ◌≤◌, if◌then◌else◌, List, ℕ, [], Bool, true, false, fold}
-use Rattle.std.proofs.Common.{refl, sym, ap, ap₂, append-nil, append_assoc, arith, drop, length, length-append, subst, take}
+use Rattle.std.proofs.Common.{refl, sym, ap, ap₂, append-nil, append_assoc, arith, drop, length, length-append, subst}
+use Rattle.std.proofs.Common.{take}
 use Rattle.std.proofs.lemmas.List.{length-take-le, take-append-drop}
 use Rattle.std.proofs.lemmas.List.Sums.{fold-append}
 use Rattle.std.proofs.Math.Seq.{take-append_seam}

@@ -1,6 +1,6 @@
 -- Latches of a binary file: their lines tell their next states, and their places their variables.
-use Rattle.std.proofs.Common.{◌≡◌, ◌+◌, ◌<◌, ◌∷◌, ◌++◌, ◌∙◌, rules, ℕ, suc, List, [], map, take, length, get_or, refl, ap}
-use Rattle.std.proofs.Common.{◌-◌, ap₂, append_assoc, arith, sym}
+use Rattle.std.proofs.Common.{◌≡◌, ◌+◌, ◌<◌, ◌∷◌, ◌++◌, ◌∙◌, rules, ℕ, suc, List, [], map, take, length, get_or, refl}
+use Rattle.std.proofs.Common.{◌-◌, ap, ap₂, append_assoc, arith, sym}
 use Rattle.std.proofs.lemmas.Grind.{common_steps}
 use Rattle.std.proofs.lemmas.List.{take_more, length-map, length-take-le}
 use Rattle.aig_circuit.specs.declared.circuit.Circuit.{Circuit}

@@ -1,6 +1,7 @@
 -- Reading sections one after another, also where their lines come in pieces.
 use Rattle.std.proofs.Common.{◌≡◌, ◌+◌, ◌<◌, ◌≤◌, ◌∷◌, ◌∙◌, ◌⊎◌, ◌-◌, ◌++◌, ℕ, zero, suc, List, [], drop, length}
-use Rattle.std.proofs.Common.{get_or, Ok, Err, refl, sym, inl, inr, arith, add-one, map, append_assoc, append-nil, ap, rules}
+use Rattle.std.proofs.Common.{get_or, Ok, Err, refl, sym, inl, inr, arith, add-one, map, append_assoc, append-nil, ap}
+use Rattle.std.proofs.Common.{rules}
 use Rattle.std.proofs.Common.{length-append}
 use Rattle.std.specs.List.{sum}
 use Rattle.std.specs.Prelude.{slice_index}
@@ -205,7 +206,8 @@ module _ (h : Header) where
   missing_section : (p : Progress) (at : Ahead) → 0 < p.due.count → at.lines ≡ []
       → sections_from h p at ≡ Err (fault_at at.number kinds.Truncated)
   missing_section p at some none =
-      wrong_section p at (fault_at at.number kinds.Truncated) (row_missing p.format h (section_of p.section) p.due at some none)
+      wrong_section p at (fault_at at.number kinds.Truncated)
+      (row_missing p.format h (section_of p.section) p.due at some none)
 
   -- the sizes of justice properties
   carried_sum : (carried : ℕ) (rows : List (List ℕ))

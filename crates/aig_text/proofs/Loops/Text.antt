@@ -139,7 +139,9 @@ pub record IsHead (head : Ahead → Found Header) (whole : List Line → Result 
   pub refused :
       (at : Ahead) (more : List Line) (e : Stopped) → at.lines ≢ [] → head at ≡ Err e
       → head (with_lines at more) ≡ Err e
-  pub tells : (ls : List Line) (h : Header) (now : Ahead) → head (ahead 1 ls) ≡ Ok (h, now) → whole ls ≡ follow (Ok h) now
+  pub tells :
+      (ls : List Line) (h : Header) (now : Ahead) → head (ahead 1 ls) ≡ Ok (h, now)
+      → whole ls ≡ follow (Ok h) now
   pub stops : (ls : List Line) (e : Stopped) (now : Ahead) → head (ahead 1 ls) ≡ Err e → whole ls ≡ follow (Err e) now
 
 -- the header line was read of whole lines

@@ -28,7 +28,8 @@ loop-lane-preserved g c =
     ∙ ap (λ (t : List ℕ). text_of_group first ++ t) (append-nil (kept (get_or runs lane no_run) ++ codes ".\n")) in
     record {
       put =
-          subst (λ (n : ℕ). Took H c.args.output.now now (text_of_group (kept_texts shown runs n sheet))) (one_behind lane)
+          subst (λ (n : ℕ). Took H c.args.output.now now (text_of_group (kept_texts shown runs n sheet)))
+          (one_behind lane)
           (subst (λ (t : List ℕ). Took H c.args.output.now now t) (sym whole)
           (took_twice c.args.output.now c.loop-lane.output now (text_of_group first) _ c.loop-lane.invariant.put
           (subst (λ (run : Run). Took H c.loop-lane.output now (kept run ++ codes ".\n")) is_run c.put_run.ensures)));

@@ -24,7 +24,8 @@ returns-in_err-found g c =
     (g.R.Source.history c.fetch_first.new.source) (sym c.as_slice.ensures ∙ c.ended_lines.ensures.cut)
     c.begin-binary.ensures.within c.begin-binary.ensures.on c.pass.ensures in
     rw (h.1, h.2)
-    (source_read c.args.max_var (Err _) _ _ (is_refused c.args.max_var c.in_ok-first.first c.pass.new.self (rest_of c.begin-binary.result.0) _ _ reads
+    (source_read c.args.max_var (Err _) _ _
+    (is_refused c.args.max_var c.in_ok-first.first c.pass.new.self (rest_of c.begin-binary.result.0) _ _ reads
     c.in_err-found.field-0.0 _ _ first
     (λ more. word_stays c.in_ok-first.first c.ended_lines.result.0.now c.ended_lines.result.1.now more
     (sym c.as_slice.ensures ∙ c.ended_lines.ensures.cut) c.ended_lines.ensures.ended
@@ -60,7 +61,8 @@ returns-then-first_word_is g c =
     (g.R.Source.history c.fetch_first.new.source) (sym c.as_slice.ensures ∙ c.ended_lines.ensures.cut)
     c.begin-binary.ensures.within c.begin-binary.ensures.on c.pass.ensures in
     rw (c.into_checked.ensures.value ∙ c.from_well_ordered.ensures)
-    (source_read c.args.max_var (Ok _) _ _ (is_file c.args.max_var c.in_ok-first.first c.pass.new.self (rest_of c.begin-binary.result.0) _ _ reads
+    (source_read c.args.max_var (Ok _) _ _
+    (is_file c.args.max_var c.in_ok-first.first c.pass.new.self (rest_of c.begin-binary.result.0) _ _ reads
     c.in_ok-found.found _ c.in_ok-found.ensures _ first))
 
 pub returns-in_err-circuit : goal.returns-in_err-circuit
@@ -93,7 +95,8 @@ returns g c =
     c.ended_lines.ensures.ended c.is_empty.ensures c.if-is_empty.false c.first_word_is.ensures
     c.if-first_word_is.false c.begin-reader.ensures.within c.begin-reader.ensures.on c.pass-2.ensures in
     source_read c.args.max_var c.check_read.result _ _ (all_came (AnswersFile c.args.max_var) c.check_read.result _ _
-    (checked begin c.in_ok-circuit.circuit _ _ _ c.check_read.result first c.in_ok-circuit.ensures c.check_read.ensures))
+    (checked begin c.in_ok-circuit.circuit _ _ _ c.check_read.result first c.in_ok-circuit.ensures
+    c.check_read.ensures))
 
 pub returns-then-not-more : goal.returns-then-not-more
 returns-then-not-more g c =

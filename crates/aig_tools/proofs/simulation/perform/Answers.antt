@@ -12,7 +12,8 @@ returns-in-Trace-clause-transferred g c =
 pub returns-in-Dump-clause-transferred : goal.returns-in-Dump-clause-transferred
 returns-in-Dump-clause-transferred g c =
     rw (c.in-Dump.is, c.without_verdict-in-Dump.ensures)
-    (of_steps (DumpSays c.in-Dump.batch c.args.found) c.write_dump-written.result _ _ _ _ c.write_dump-written.ensures.transferred)
+    (of_steps (DumpSays c.in-Dump.batch c.args.found) c.write_dump-written.result _ _ _ _
+    c.write_dump-written.ensures.transferred)
 
 pub returns-in_err-judge-in-Verdict-clause-transferred : goal.returns-in_err-judge-in-Verdict-clause-transferred
 returns-in_err-judge-in-Verdict-clause-transferred g c =
