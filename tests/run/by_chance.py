@@ -2,7 +2,7 @@
 """Compares what the program makes of circuits, stimuli and witnesses made by chance with plain evaluations.
 
     tests/run/by_chance.py PROGRAM [KIND [NUMBER]]     all of it, or one kind, or one circuit of it
-    tests/run/by_chance.py PROGRAM KIND --circuits N   one kind, of so many circuits and no longer of its own CIRCUITS
+    tests/run/by_chance.py PROGRAM KIND --circuits N   one kind, over so many circuits in place of its own number
     tests/run/by_chance.py PROGRAM --part K N          of each kind every Nth circuit from number K on
 
 A kind is a module of tests/lib: see its head for what is compared. Its circuits have numbers from 0 on, and a circuit of
