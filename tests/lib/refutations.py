@@ -50,9 +50,9 @@ class Checker:
             self.is_refuted = True
 
     def delete(self, clause):
-        """Deletes a clause once, if it is there, and not of new variables alone."""
+        """Deletes a clause once, if it is there, and not a single number of a new variable."""
         found = self.places[tuple(sorted(clause))]
-        if found and any(abs(it) <= self.largest for it in clause):
+        if found and (len(clause) > 1 or abs(clause[0]) <= self.largest):
             found.pop()[0] = False
 
     def assume(self, literal):

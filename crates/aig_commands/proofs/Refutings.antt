@@ -24,16 +24,18 @@ use Rattle.aig_commands.proofs.TripsExist.{well_formed_file}
 -- a refutation was read: it is right, or is refused
 refutation_says : (selected d : Circuit) (frames : ℕ) (r : Result (Unit {0}) Stopped) (bytes : List ℕ) (ending : Ending)
     → IsWellFormed d → IsUnrolled selected frames d → RefutationSays d r bytes ending
-    → ReadSays {A = Unit {0}} (λ _ _. IsUnsatisfiable selected frames) IsRefutationRefused r bytes ending
+    → ReadSays {A = Unit {0}} (λ _ _. IsUnsatisfiable selected frames)
+    (IsRefutationRefused selected frames) r bytes ending
 refutation_says selected d frames (Ok done) bytes ending formed is says = (says.0, (d, formed, is, says.1))
 refutation_says selected d frames (Err stops.OutOfMemory) bytes ending formed is says = says
 refutation_says selected d frames (Err stops.ReadFailed) bytes ending formed is says = says
 refutation_says selected d frames (Err stops.WriteFailed) bytes ending formed is says = says
-refutation_says selected d frames (Err (stops.Refused fault)) bytes ending formed is says = says
+refutation_says selected d frames (Err (stops.Refused fault)) bytes ending formed is says = (d, formed, is, says)
 
 pub refutation_read : (selected d : Circuit) (frames : ℕ) (r : Result (Unit {0}) Stopped) (before after : History)
     → IsWellFormed d → IsUnrolled selected frames d → Read (RefutationSays d r) before after
-    → Read (ReadSays {A = Unit {0}} (λ _ _. IsUnsatisfiable selected frames) IsRefutationRefused r) before after
+    → Read (ReadSays {A = Unit {0}} (λ _ _. IsUnsatisfiable selected frames)
+    (IsRefutationRefused selected frames) r) before after
 refutation_read selected d frames r before after formed is =
     read_weaker _ _ before after (λ bytes ending. refutation_says selected d frames r bytes ending formed is)
 

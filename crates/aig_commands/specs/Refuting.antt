@@ -13,7 +13,7 @@ use Rattle.aig_witness.specs.declared.verdict.Verdict.TheVariants.{Confirmed}
 use Rattle.aig_witness.specs.Witness.{Claim, IsVerdict}
 use Rattle.aig_fault.specs.declared.fault.Fault.{Fault}
 use Rattle.aig_io.specs.Runs.{AtEnd, Ending}
-use Rattle.aig_refute.specs.Refuted.{IsRefusedWhere}
+use Rattle.aig_refute.specs.Refuted.{IsRefusedWhere, literals_of}
 
 -- the circuit can be unrolled over so many frames
 pub record CanUnroll (c : Circuit) (frames : ℕ) : Type 0 where
@@ -43,10 +43,13 @@ pub record IsNoneText (request : Reach) (selected : Circuit) (text : List ℕ) :
       → IsNoneWithin c request.bad request.frames
   pub written_as : text ≡ none_text request.frames
 
--- It is not known that the clauses are refuted, for this reason.
-abbrev pub NotRefuted : Fault → Type 0
-NotRefuted fault = IsRefusedWhere fault AtEnd
+-- A refutation of the circuit's clauses, unrolled over so many frames, is refused for this reason, where its bytes
+-- ended
+-- so.
+abbrev pub IsRefutationRefused : Circuit → ℕ → Fault → List ℕ → Ending → Type 0
+IsRefutationRefused c frames fault bytes ending = (d : Circuit) × IsWellFormed d × IsUnrolled c frames d
+    × IsRefusedWhere (bad_clauses d) (literals_of d) fault bytes ending
 
--- The refutation is refused for this reason, where its bytes ended so.
-abbrev pub IsRefutationRefused : Fault → List ℕ → Ending → Type 0
-IsRefutationRefused fault bytes ending = IsRefusedWhere fault ending
+-- It is not known that the clauses are refuted, for this reason.
+abbrev pub NotRefuted : Circuit → ℕ → (refutation : List ℕ) → Fault → Type 0
+NotRefuted c frames refutation fault = IsRefutationRefused c frames fault refutation AtEnd

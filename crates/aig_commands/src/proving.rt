@@ -80,7 +80,7 @@ pub(crate) fn read_never<R: Source>(
 ) -> Result<(), Stopped>
     requires can_unroll { CanUnroll strengthened 1 }
     ensures { Read (ReadSays (λ _ _. IsNeverText _request.now strengthened never_text)
-        IsRefutationRefused result) (R.history source.old) (R.history source.new) }
+        (IsRefutationRefused strengthened 1) result) (R.history source.old) (R.history source.new) }
 {
     let _circuit = strengthened.circuit(); // for the proof
     let checked = read_refutation(alloc, &strengthened, 1, source);

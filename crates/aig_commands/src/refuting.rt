@@ -36,8 +36,8 @@ pub(crate) fn read_refutation<R: Source>(
     source: &mut R,
 ) -> Result<(), Stopped>
     requires can_unroll { CanUnroll selected.now frames }
-    ensures { Read (ReadSays (λ _ _. IsUnsatisfiable selected.now frames) IsRefutationRefused
-        result)
+    ensures { Read (ReadSays (λ _ _. IsUnsatisfiable selected.now frames)
+        (IsRefutationRefused selected.now frames) result)
         (R.history source.old) (R.history source.new) }
 {
     let unrolled = unrolled_of(alloc, selected, frames)?;
@@ -56,7 +56,7 @@ pub(crate) fn read_none_within<R: Source>(
 ) -> Result<Answer, Stopped>
     requires can_unroll { CanUnroll selected.now request.now.frames }
     ensures read { Read (ReadSays (λ answer _. IsNoneText request.now selected.now (text_of answer))
-        IsRefutationRefused result) (R.history source.old) (R.history source.new) }
+        (IsRefutationRefused selected.now request.now.frames) result) (R.history source.old) (R.history source.new) }
     ensures some { IfOk result (λ answer. 0 < length (text_of answer)) }
 {
     read_refutation(alloc, selected, request.frames, source)?;

@@ -2,8 +2,8 @@
 use Rattle.std.specs.Prelude.{◌≡◌, ◌<◌, ◌≤◌, ◌^◌, ◌==◌, ◌++◌, ◌∷◌, ℕ, zero, suc, List, [], length, take}
 use Rattle.std.specs.Prelude.{Bool, true, false, not, Option, None, Some, Result, Ok, Err}
 use Rattle.aig_io.specs.Devices.{History, Origin, no_file}
-use Rattle.aig_io.specs.Files.{End, Files, OpenFile, Use, ended, used}
-use Rattle.aig_io.specs.Files.{Left, NotKept, NotMade, NotOpened, ReadFailed, Whole, WriteFailed, Written}
+use Rattle.aig_io.specs.Files.{End, Files, OpenFile, Use, end_of_close, ended, used}
+use Rattle.aig_io.specs.Files.{Left, NotKept, NotMade, NotOpened, ReadFailed, Synced, Whole, WriteFailed, Written}
 use Rattle.aig_files.specs.declared.stage.Stage.{Stage}
 use Rattle.aig_files.specs.declared.stage.Stage.TheVariants as stages
 
@@ -21,12 +21,15 @@ abbrev pub open_bytes : Option OpenFile → List ℕ
 open_bytes None = []
 open_bytes (Some file) = file.bytes
 
--- the uses before a device's own, at this stage of it, and the bytes that it gave or took
+-- the uses before a device's own, at this stage of it, the files then, and the bytes that it gave or took
 abbrev pub uses_before : Stage → Files → List Use
 uses_before stages.Untouched files = files.uses
 uses_before stages.Open files = files.uses
 uses_before stages.Ended files = earlier files.uses
 uses_before stages.Failed files = earlier files.uses
+
+abbrev pub files_before : Stage → Files → Files
+files_before stage files = record files { uses = uses_before stage files; current = None }
 
 abbrev pub bytes_at : Stage → Files → List ℕ
 bytes_at stages.Untouched files = []
@@ -35,13 +38,13 @@ bytes_at stages.Ended files = (newest files.uses).bytes
 bytes_at stages.Failed files = (newest files.uses).bytes
 
 -- the file with this name, over the files that are lent
-abbrev pub named : ℕ → List ℕ → List Use → Origin
+abbrev pub named : ℕ → List ℕ → Files → Origin
 named lender name before = record no_file { lender = lender; name = Some name; before = before }
 
 -- the history of a device at this stage
 abbrev pub history_at : ℕ → List ℕ → Stage → Files → ℕ → ℕ → History
 history_at lender name stage files ends failures = record {
-  origin = named lender name (uses_before stage files);
+  origin = named lender name (files_before stage files);
   bytes = bytes_at stage files;
   ends = ends;
   failures = failures;
@@ -56,11 +59,13 @@ IsFailure written bytes NotMade = (written ≡ true) × (bytes ≡ [])
 IsFailure written bytes WriteFailed = written ≡ true
 IsFailure written bytes Whole = ⊥
 IsFailure written bytes Written = ⊥
+IsFailure written bytes Synced = ⊥
 IsFailure written bytes NotKept = ⊥
 
 -- the file with this name was used last, and that ended so
 abbrev pub IsUsed : List ℕ → List ℕ → End → Files → Type 0
-IsUsed name bytes end files = files ≡ record { uses = used name bytes end ∷ earlier files.uses; current = None }
+IsUsed name bytes end files =
+    files ≡ record files { uses = used name bytes end ∷ earlier files.uses; current = None }
 
 -- the files at this stage of the use of the file with this name, which is written or read
 abbrev pub IsAt : Bool → List ℕ → Stage → Files → Type 0
@@ -106,11 +111,11 @@ abbrev pub moved : {E : Type 0} → List ℕ → Result ℕ E → List ℕ
 moved bytes (Ok n) = take n bytes
 moved bytes (Err fault) = []
 
--- A call at this stage answered so: the uses before are the same, and the bytes that it moved were added.
+-- A call at this stage answered so: the files before are the same, and the bytes that it moved were added.
 pub record Moved {E : Type 0} (written : Bool) (name bytes : List ℕ) (answer : Result ℕ E) (stage : Stage)
     (old new : Files) : Type 0 where
   pub at : IsAt written name (stage_after answer) new
-  pub before : uses_before (stage_after answer) new ≡ uses_before stage old
+  pub before : files_before (stage_after answer) new ≡ files_before stage old
   pub added : bytes_at (stage_after answer) new ≡ bytes_at stage old ++ moved bytes answer
   pub ended : is_ended stage ≡ true → is_ended (stage_after answer) ≡ true
   pub failed : is_failed stage ≡ true → is_failed (stage_after answer) ≡ true
@@ -123,9 +128,9 @@ let_go end stages.Ended files = files
 let_go end stages.Failed files = files
 
 -- how the writing of a file ended that was closed with this answer
-abbrev pub closing : {T E : Type 0} → Result T E → End
-closing (Ok closed) = Written
-closing (Err fault) = NotKept
+abbrev pub closing : {T E : Type 0} → Files → Result T E → End
+closing files (Ok closed) = end_of_close files
+closing files (Err fault) = NotKept
 
 -- the use of the file after a device, where it ended so, over the uses before it
 abbrev pub uses_after : Option (List ℕ) → List ℕ → End → List Use → List Use
@@ -134,8 +139,8 @@ uses_after (Some name) bytes end before = used name bytes end ∷ before
 
 -- No file is open, and the newest use is that of the device with this history: it ended so.
 abbrev pub used_as : End → History → Files
-used_as end history = record {
-  uses = uses_after history.origin.name history.bytes end history.origin.before;
+used_as end history = record history.origin.before {
+  uses = uses_after history.origin.name history.bytes end history.origin.before.uses;
   current = None;
 }
 
@@ -147,4 +152,4 @@ pub record IsShown (written : Bool) (end : End) (history : History) (files : Fil
       → (failure : End) × IsFailure written history.bytes failure × (files ≡ used_as failure history)
   pub used : history.ends ≡ 0 → history.failures ≡ 0 → 0 < length history.bytes → files ≡ used_as end history
   pub untouched : history.ends ≡ 0 → history.failures ≡ 0 → history.bytes ≡ []
-      → files ≡ record { uses = history.origin.before; current = None }
+      → files ≡ history.origin.before

@@ -1,7 +1,7 @@
 //! What can be done with files.
 ghost use Rattle.std.specs.Prelude.{◌≡◌, ◌<◌, ◌≤◌, length, IfOk, None, true};
 ghost use Rattle.aig_io.specs.Files.{after_close, after_create, after_open, after_read};
-ghost use Rattle.aig_io.specs.Files.{after_write, ended, Files, is_read, is_written, Left};
+ghost use Rattle.aig_io.specs.Files.{after_write, ended, Files, is_read, is_written, Left, with_sync};
 
 use aig_io::DeviceFault;
 
@@ -42,7 +42,7 @@ pub trait FileAccess {
 
     /// From now on a file that was written is closed only once the disk has it.
     fn sync_before_close(&mut self)
-        ensures { files self.new ≡ files self.old };
+        ensures { files self.new ≡ with_sync (files self.old) };
 
     /// Closes the file that was written. An error may only show now, as on a network's file system,
     /// and then not all that was written is kept.

@@ -38,7 +38,7 @@ impl<'a, A: FileAccess> NamedSink<'a, A> {
     pub fn new(access: &'a mut A, name: &'a str) -> Self
         requires { (A.files access.old).current ≡ None }
         ensures { result ≡
-            unused (named access.entry.ghost_name name.now (A.files access.old).uses) }
+            unused (named access.entry.ghost_name name.now (A.files access.old)) }
     {
         NamedSink {
             access,
@@ -53,7 +53,8 @@ impl<'a, A: FileAccess> NamedSink<'a, A> {
     pub fn finish(self) -> (Result<(), DeviceFault>, &'a mut A)
         ensures lender { result.1.ghost_name ≡ self.entry.origin.lender }
         ensures idle { (A.files result.1.now).current ≡ None }
-        ensures shown { IsShown true (closing result.0) self.entry (A.files result.1.now) }
+        ensures shown { IsShown true (closing self.entry.origin.before result.0) self.entry
+            (A.files result.1.now) }
         ensures err { OnErr result.0 ((self.entry.failures ≡ 0) × (0 < length self.entry.bytes)) }
     {
         let NamedSink {
@@ -70,7 +71,8 @@ impl<'a, A: FileAccess> NamedSink<'a, A> {
 /// Closes the file where it is open.
 fn close<A: FileAccess>(access: &mut A, stage: Stage) -> Result<(), DeviceFault>
     requires { is_open stage ≡ true → is_written (A.files access.old).current ≡ true }
-    ensures files { A.files access.new ≡ let_go (closing result) stage (A.files access.old) }
+    ensures files { A.files access.new
+        ≡ let_go (closing (A.files access.old) result) stage (A.files access.old) }
     ensures err { OnErr result (is_open stage ≡ true) }
 {
     match stage {

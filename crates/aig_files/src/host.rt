@@ -32,6 +32,8 @@ pub(crate) const CLOSED: u64 = 9;
 
 pub(crate) const NOT_CLOSED: u64 = 10;
 
+pub(crate) const SYNC_ASKED: u64 = 11;
+
 /// The files of the runtime.
 #[derive(Drop)]
 pub struct HostFiles<'a, T: Files> {
@@ -40,6 +42,7 @@ pub struct HostFiles<'a, T: Files> {
     syncs: bool,
     log: Record,
     ghost closed: { is_some file ≡ is_some (files_of log.notes).current },
+    ghost asked: { syncs ≡ (files_of log.notes).syncs },
 }
 
 impl<'a, T: Files> HostFiles<'a, T> {
@@ -157,6 +160,7 @@ impl<T: Files> FileAccess for HostFiles<'_, T> {
 
     fn sync_before_close(&mut self) {
         self.syncs = true;
+        self.log.note(&[SYNC_ASKED], &[]);
     }
 
     fn close(&mut self) -> Result<(), DeviceFault> {

@@ -43,7 +43,7 @@ impl<'a, A: FileAccess> NamedSource<'a, A> {
     pub fn new(access: &'a mut A, name: &'a str) -> Self
         requires { (A.files access.old).current ≡ None }
         ensures { result ≡
-            unused (named access.entry.ghost_name name.now (A.files access.old).uses) }
+            unused (named access.entry.ghost_name name.now (A.files access.old)) }
     {
         NamedSource {
             access,

@@ -17,9 +17,8 @@ use Rattle.aig_meaning.specs.Meaning.{Holds, literal_value, next_literals}
 use Rattle.aig_unroll.specs.Unrolled.{chain_behind, chained, gate_of}
 use Rattle.aig_unroll.specs.SideBySide.{and_all}
 use Rattle.aig_unroll.proofs.Traces.OneFrame.{variable_value}
-use Rattle.aig_invariant.specs.Invariant.{Cube, asked_literals, conjunction, freed, state_literals, with_conjunction}
-use Rattle.aig_invariant.specs.Invariant.{with_cube, with_cubes, with_now}
-use Rattle.aig_invariant.proofs.Meeting.{asked_values, meets}
+use Rattle.aig_invariant.specs.Invariant.{Cube, asked_literals, asked_values, conjunction, freed, meets, state_literals}
+use Rattle.aig_invariant.specs.Invariant.{with_conjunction, with_cube, with_cubes, with_now}
 
 -- the inputs and the latches' variables stay
 pub inputs_stay : (cubes : List Cube) (c : Circuit) → (with_cubes cubes c).inputs ≡ c.inputs
@@ -35,7 +34,7 @@ one_more : (f : ℕ → Val) (ls : List ℕ) (l : ℕ) (v : Val) (vs : List Val)
 one_more f [] l v vs is = ap (λ (x : Val). x ∷ vs) is
 one_more f (k ∷ ks) l v vs is = ap (λ (xs : List Val). f k ∷ xs) (one_more f ks l v vs is)
 
-not_twice : (v : Val) → value_not (value_not v) ≡ v
+pub not_twice : (v : Val) → value_not (value_not v) ≡ v
 not_twice Zero = refl
 not_twice One = refl
 not_twice X = refl

@@ -1,4 +1,4 @@
--- Whether a state meets a cube, as a value: 1 where it does, 0 where it does not, as at a start that is apart from it.
+-- That a state meets a cube is 0 at a start that is apart from it, and no x without one in the state.
 use Rattle.std.proofs.Common.{◌≡◌, ◌∙◌, List, [], ◌∷◌, true, ap, refl}
 use Rattle.std.specs.List.{AllByRecursion, AllZip}
 use Rattle.aig_circuit.specs.declared.circuit.Reset.{Reset}
@@ -9,18 +9,7 @@ use Rattle.aig_circuit.specs.Values.{value_and, value_not}
 use Rattle.aig_meaning.specs.Trace.{MayStartAt}
 use Rattle.aig_cnf.proofs.Existing.{IsSure}
 use Rattle.aig_unroll.specs.SideBySide.{and_all}
-use Rattle.aig_invariant.specs.Invariant.{Cube, is_off_start}
-
--- values that are 1 where these values are what a cube asks for
-abbrev pub asked_values : Cube → List Val → List Val
-asked_values [] xs = []
-asked_values (v ∷ vs) [] = []
-asked_values (Zero ∷ vs) (x ∷ xs) = value_not x ∷ asked_values vs xs
-asked_values (One ∷ vs) (x ∷ xs) = x ∷ asked_values vs xs
-asked_values (X ∷ vs) (x ∷ xs) = asked_values vs xs
-
-abbrev pub meets : List Val → Cube → Val
-meets state cube = and_all One (asked_values cube state)
+use Rattle.aig_invariant.specs.Invariant.{Cube, asked_values, is_off_start}
 
 and_zero : (v : Val) → value_and v Zero ≡ Zero
 and_zero Zero = refl

@@ -1,180 +1,80 @@
--- By induction on a run: no state of it meets a cube, and no bad state of it is 1, since a step that goes wrong would
--- be a claim of the circuit with the invariant, confirmed at its first step.
-use Rattle.std.proofs.Common.{◌≡◌, ◌∙◌, ◌++◌, ℕ, zero, suc, List, [], ◌∷◌, Bool, None, Some, ap, arith}
-use Rattle.std.proofs.Common.{get_or, length, map, refl, subst, sym}
+-- By induction on a run: no state of it meets a cube, and no bad state of it is 1, since no step breaks the invariant.
+use Rattle.std.proofs.Common.{◌≡◌, ◌⊎◌, ◌++◌, ℕ, zero, List, [], ◌∷◌, Bool, None, Some, arith}
+use Rattle.std.proofs.Common.{inl, inr, length, map, refl, subst, sym}
 use Rattle.std.specs.List.{All, AllByRecursion, AllZip, Contains}
-use Rattle.std.proofs.lemmas.List.{length-map}
-use Rattle.std.proofs.lemmas.List.Elements.{All-append, All-cons, All-contains, All-from_recursion, All-head, All-map}
-use Rattle.std.proofs.lemmas.List.Elements.{All-nil, All-same, All-tail, All-weaker}
+use Rattle.std.proofs.lemmas.List.Elements.{All-cons, All-head, All-map}
+use Rattle.std.proofs.lemmas.List.Elements.{All-nil, All-tail, All-weaker, Contains-append_right}
 use Rattle.aig_circuit.specs.declared.circuit.Circuit.{Circuit}
-use Rattle.aig_circuit.specs.declared.circuit.Gate.{Gate}
-use Rattle.aig_circuit.specs.declared.circuit.Latch.{Latch}
 use Rattle.aig_circuit.specs.declared.value.Val.{Val}
 use Rattle.aig_circuit.specs.declared.value.Val.TheVariants.{Zero, One}
-use Rattle.aig_circuit.specs.Values.{value_not}
 use Rattle.aig_circuit.specs.Wellformed.{IsWellFormed}
 use Rattle.aig_meaning.specs.Completion.{RowStays}
-use Rattle.aig_meaning.specs.Meaning.{Holds, IsRow, IsStepAssignment, Row}
-use Rattle.aig_meaning.specs.Meaning.{latch_variables, literal_value, next_literals}
-use Rattle.aig_meaning.specs.Trace.{Follow, IsFirstState, IsTrace, MayStartAt}
-use Rattle.aig_meaning.proofs.Existing.{one_step_assignment}
-use Rattle.aig_meaning.proofs.Related.{contained_later, known_bad, known_constraints, known_next, literals_agree}
-use Rattle.aig_meaning.proofs.Traces.{inputs_length, known_values_stay, one_trace, row_shown, state_length}
+use Rattle.aig_meaning.specs.Meaning.{IsRow, Row}
+use Rattle.aig_meaning.specs.Meaning.{next_literals}
+use Rattle.aig_meaning.specs.Trace.{Follow, IsFirstState}
+use Rattle.aig_meaning.proofs.Related.{known_next}
+use Rattle.aig_meaning.proofs.Traces.{known_values_stay, one_trace}
 use Rattle.aig_cnf.specs.Clauses.{Satisfies, bad_clauses}
 use Rattle.aig_cnf.proofs.Existing.{IsSure}
 use Rattle.aig_unroll.specs.Unrolled.{IsUnrolled, resets_of}
 use Rattle.aig_reach.proofs.Setting.{all_stay, are_sure, sure, sure_starts}
-use Rattle.aig_reach.proofs.Whole.{unsatisfiable_means_none}
 use Rattle.aig_replay.specs.Alone.{with_bad_alone}
 use Rattle.aig_replay.proofs.BadAlone.{alone_is_well_formed, verdict_there}
 use Rattle.aig_witness.specs.declared.verdict.Verdict.TheVariants.{Confirmed}
 use Rattle.aig_witness.specs.Witness.{Claim, IsBad, IsHeld, IsVerdict}
 use Rattle.aig_witness.proofs.Verdicts.{each_long}
-use Rattle.aig_invariant.specs.Invariant.{Cube, freed, state_literals, with_invariant}
-use Rattle.aig_invariant.specs.Laws.{InvariantsMeanNever}
-use Rattle.aig_invariant.proofs.Grown.{grown, inputs_stay, plain_values, variables_stay}
-use Rattle.aig_invariant.proofs.Kept.{IsOne, all_sure, one_kept, ones_kept, steps_long, steps_stay, steps_sure}
+use Rattle.aig_invariant.specs.Invariant.{Cube, meets, with_invariant}
+use Rattle.aig_invariant.specs.Laws.{Breaks, InvariantsMeanNever}
+use Rattle.aig_invariant.proofs.Broken.{satisfiable_exactly_where_broken, there_is_one}
+use Rattle.aig_invariant.proofs.Kept.{all_sure, one_kept, ones_kept, steps_long, steps_stay, steps_sure}
 use Rattle.aig_invariant.proofs.Kept.{sure_steps}
 use Rattle.aig_invariant.proofs.Listed.{IsOff, cubes_off}
-use Rattle.aig_invariant.proofs.Meeting.{apart, meets, sure_met, zero_where_not_one}
+use Rattle.aig_invariant.proofs.Meeting.{apart, sure_met, zero_where_not_one}
 
 -- the state meets none of the cubes
 abbrev IsUnmet : List Cube → List Val → Type 0
-IsUnmet cubes state = All (λ (q : Cube). meets state q ≡ Zero) cubes
+IsUnmet cubes state = All (λ (v : Val). v ≡ Zero) (map (meets state) cubes)
 
--- none of these values is 1
-abbrev HasNoOne : List Val → Type 0
-HasNoOne xs = (i : ℕ) → ¬ (get_or xs i Zero ≡ One)
-
-none_in_front : (xs ys : List Val) → HasNoOne (xs ++ ys) → HasNoOne xs
-none_in_front [] ys none i is = cc
-none_in_front (x ∷ xs) ys none zero is = none 0 is
-none_in_front (x ∷ xs) ys none (suc i) is = none_in_front xs ys (λ k. none (suc k)) i is
-
-none_behind : (xs ys : List Val) → HasNoOne (xs ++ ys) → HasNoOne ys
-none_behind [] ys none = none
-none_behind (x ∷ xs) ys none = none_behind xs ys (λ k. none (suc k))
-
-unmet_by : (cubes : List Cube) (state : List Val) → AllByRecursion IsSure state → HasNoOne (map (meets state) cubes)
-    → IsUnmet cubes state
-unmet_by [] state sure none = All-nil (λ (q : Cube). meets state q ≡ Zero)
+-- none is met where none can be, since no x is in the state
+unmet_by : (cubes : List Cube) (state : List Val) → AllByRecursion IsSure state
+    → ¬ Contains (map (meets state) cubes) One → IsUnmet cubes state
+unmet_by [] state sure none = All-nil (λ (v : Val). v ≡ Zero)
 unmet_by (q ∷ qs) state sure none =
-    All-cons (λ (p : Cube). meets state p ≡ Zero) q qs
-    (zero_where_not_one (meets state q) (sure_met One q state tt sure) (none 0))
-    (unmet_by qs state sure (λ k. none (suc k)))
-
-each_gate : (P : Gate → Type 0) (gs : List Gate) → ((g : Gate) → Contains gs g → P g) → AllByRecursion P gs
-each_gate P [] holds = tt
-each_gate P (g ∷ gs) holds =
-    (holds g (zero, omega arith, refl), each_gate P gs (λ h h_in. holds h (contained_later g gs h h_in)))
-
--- latches that may start at 0 or at 1 start at any values
-free_starts : (a : ℕ → Val) (ls : List Latch)
-    → AllZip MayStartAt (map (λ (l : Latch). l.reset) (map freed ls))
-    (map a (map (λ (l : Latch). l.var) (map freed ls)))
-free_starts a [] = tt
-free_starts a (l ∷ ls) = (tt, free_starts a ls)
+    let met = map (meets state) qs in
+    All-cons (λ (v : Val). v ≡ Zero) (meets state q) met
+    (zero_where_not_one (meets state q) (sure_met One q state tt sure) (λ is. none (zero, omega arith, is)))
+    (unmet_by qs state sure
+    (λ there. none (Contains-append_right (meets state q ∷ []) met One there)))
 
 module _ (c d : Circuit) (cubes : List Cube) (formed : IsWellFormed c)
     (formed_more : IsWellFormed (with_invariant cubes c)) (formed_unrolled : IsWellFormed d)
     (unrolled : IsUnrolled (with_invariant cubes c) 1 d) (none : (a : ℕ → Bool) → ¬ Satisfies a (bad_clauses d)) where
-  abbrev more : Circuit
-  more = with_invariant cubes c
-
-  -- while the constraints hold, no bad state is 1
-  none_bad : (state given : List Val) (a : ℕ → Val) → IsStepAssignment more state given a
-      → All IsOne (map (literal_value a) more.constraints) → HasNoOne (map (literal_value a) more.bad)
-  none_bad state given a is holds property bad =
-      let row = row_shown more a in
-      let is_row : IsRow more row = (
-        a,
-        record {
-          assigned = record { constant = is.constant; inputs = refl; latches = refl; gates = is.gates };
-          outputs_shown = refl;
-          next_shown = refl;
-          bad_shown = refl;
-          constraints_shown = refl;
-        },
-      ) in
-      let claim : Claim = record { property = property; first = row.state; steps = row.inputs ∷ [] } in
-      let starts : IsFirstState more row.state = free_starts a c.latches in
-      let trace : IsTrace more claim.first claim.steps (row ∷ []) = (starts, (refl, refl, is_row, tt)) in
-      let verdict : IsVerdict more claim (Confirmed 0) = record {
-        rows = row ∷ [];
-        trace = trace;
-        is_verdict = record {
-          confirmed = record {
-            before = [];
-            row = row;
-            behind = [];
-            parted = refl;
-            place = refl;
-            is_bad = bad;
-            holds = holds;
-            held = All-nil IsHeld;
-          };
-          first = λ earlier less. absurd (omega (arith, less));
-        };
-      } in
-      unsatisfiable_means_none more d 1 formed_more formed_unrolled unrolled none claim 0 (omega arith) verdict
+  -- no step breaks the invariant
+  unbroken : (row : Row) → ¬ Breaks c cubes row
+  unbroken row breaks =
+      let exactly = satisfiable_exactly_where_broken c d cubes formed formed_more formed_unrolled unrolled in
+      let some = exactly.1 (row, breaks) in
+      none some.0 some.1
 
   -- what a step leads to
   record IsSafe (row : Row) : Type 0 where
-    pub bad : HasNoOne row.bad
+    pub bad : (property : ℕ) → ¬ IsBad property row
     pub known : AllByRecursion IsSure row.next
     pub unmet : IsUnmet cubes row.next
 
   safe : (row : Row) → IsRow c row → AllByRecursion IsSure row.state → AllByRecursion IsSure row.inputs
       → IsUnmet cubes row.state → IsHeld row → IsSafe row
   safe row (b, shown) sure_state sure_given unmet held =
-      let is_row : IsRow c row = (b, shown) in
-      let all = one_step_assignment more row.state row.inputs formed_more
-      (state_length c row is_row ∙ sym (length-map c.latches freed))
-      (inputs_length c row is_row ∙ sym (ap length (inputs_stay cubes c))) in
-      let a : ℕ → Val = all.0 in
-      let is : IsStepAssignment more row.state row.inputs a = all.1 in
-      let shows = grown a is.constant cubes c (each_gate (Holds a) more.gates is.gates) in
-      let is_too : IsStepAssignment c row.state row.inputs a = record {
-        constant = is.constant;
-        inputs = ap (map a) (sym (inputs_stay cubes c)) ∙ is.inputs;
-        latches = ap (map a) (sym (variables_stay c.latches)) ∙ is.latches;
-        gates = λ g g_in. All-contains (Holds a) c.gates g (All-from_recursion (Holds a) c.gates shows.gates) g_in;
-      } in
-      let same = literals_agree c row.state row.inputs b a formed shown.assigned is_too in
-      let bad : row.bad ≡ map (literal_value a) c.bad =
-      shown.bad_shown ∙ same c.bad (known_bad c formed) in
-      let next : row.next ≡ map (literal_value a) (next_literals c) =
-      shown.next_shown ∙ same (next_literals c) (known_next c formed) in
-      let constraints : row.constraints ≡ map (literal_value a) c.constraints =
-      shown.constraints_shown ∙ same c.constraints (known_constraints c formed) in
-      let state : map (literal_value a) (state_literals c) ≡ row.state =
-      plain_values a (latch_variables c) ∙ is_too.latches in
-      let now = λ (q : Cube). value_not (meets row.state q) in
-      let constraints_are : map (literal_value a) more.constraints ≡ row.constraints ++ map now cubes =
-      shows.constraints
-      ∙ ap (λ (s : List Val). map (literal_value a) c.constraints ++ map (λ (q : Cube). value_not (meets s q)) cubes)
-      state
-      ∙ ap (λ (xs : List Val). xs ++ map now cubes) (sym constraints) in
-      let holds : All IsOne (map (literal_value a) more.constraints) =
-      All-same IsOne (map (literal_value a) more.constraints) (row.constraints ++ map now cubes) constraints_are
-      (All-append IsOne row.constraints (map now cubes) held
-      (All-map IsOne now cubes
-      (All-weaker (λ (q : Cube). meets row.state q ≡ Zero) (λ (q : Cube). now q ≡ One) (λ q e. ap value_not e) cubes
-      unmet))) in
-      let bad_are : map (literal_value a) more.bad ≡ row.bad ++ map (meets row.next) cubes =
-      shows.bad
-      ∙ ap (λ (s : List Val). map (literal_value a) c.bad ++ map (meets s) cubes) (sym next)
-      ∙ ap (λ (xs : List Val). xs ++ map (meets row.next) cubes) (sym bad) in
-      let no_one : HasNoOne (row.bad ++ map (meets row.next) cubes) =
-      subst HasNoOne bad_are (none_bad row.state row.inputs a is holds) in
+      let wrong_is = λ (wrong : Contains row.bad One ⊎ Contains (map (meets row.next) cubes) One).
+      unbroken row (record { is_row = (b, shown); unmet = unmet; held = held; wrong = wrong }) in
       let sure_next : AllByRecursion IsSure row.next =
       subst (AllByRecursion IsSure) (sym shown.next_shown)
       (all_sure c formed row.state row.inputs b shown.assigned sure_state sure_given (next_literals c)
       (known_next c formed)) in
       record {
-        bad = none_in_front row.bad (map (meets row.next) cubes) no_one;
+        bad = λ property is. wrong_is (inl (there_is_one row.bad property is));
         known = sure_next;
-        unmet = unmet_by cubes row.next sure_next (none_behind row.bad (map (meets row.next) cubes) no_one);
+        unmet = unmet_by cubes row.next sure_next (λ met. wrong_is (inr met));
       }
 
   -- the same for a row that follows, of one that it stays with
@@ -214,8 +114,9 @@ module _ (c d : Circuit) (cubes : List Cube) (formed : IsWellFormed c)
       known_values_stay c claim.first first claim.steps steps verdict.rows one.0 formed (all_stay claim.first)
       (steps_stay claim.steps) verdict.trace one.1 in
       let unmet : IsUnmet cubes first =
-      All-weaker (IsOff (resets_of c)) (λ (q : Cube). meets first q ≡ Zero)
-      (λ q e. apart One (resets_of c) q first starts e) cubes off in
+      All-map (λ (v : Val). v ≡ Zero) (meets first) cubes
+      (All-weaker (IsOff (resets_of c)) (λ (q : Cube). meets first q ≡ Zero)
+      (λ q e. apart One (resets_of c) q first starts e) cubes off) in
       nowhere claim.property is.before is.row is.behind first steps one.0 (are_sure claim.first)
       (steps_sure claim.steps) unmet one.1.1
       (subst (λ (rs : List Row). AllZip RowStays rs one.0) is.parted stay) is.held is.holds is.is_bad

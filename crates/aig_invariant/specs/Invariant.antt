@@ -10,12 +10,26 @@ use Rattle.aig_circuit.specs.declared.circuit.Reset.TheVariants as resets
 use Rattle.aig_circuit.specs.declared.value.Val.{Val}
 use Rattle.aig_circuit.specs.declared.value.Val.TheVariants.{Zero, One, X}
 use Rattle.aig_circuit.specs.Literal.{literal_of, negation_of}
+use Rattle.aig_circuit.specs.Values.{value_not}
 use Rattle.aig_meaning.specs.Meaning.{latch_variables, next_literals}
+use Rattle.aig_unroll.specs.SideBySide.{and_all}
 use Rattle.aig_unroll.specs.Unrolled.{chain_behind, chained}
 
 -- a cube: for each latch the value that it asks for, or x where it asks for none
 abbrev pub Cube : Type 0
 Cube = List Val
+
+-- values that are 1 where these are what a cube asks for
+abbrev pub asked_values : Cube → List Val → List Val
+asked_values [] xs = []
+asked_values (v ∷ vs) [] = []
+asked_values (Zero ∷ vs) (x ∷ xs) = value_not x ∷ asked_values vs xs
+asked_values (One ∷ vs) (x ∷ xs) = x ∷ asked_values vs xs
+asked_values (X ∷ vs) (x ∷ xs) = asked_values vs xs
+
+-- whether a state meets a cube: 1 where it does, 0 where it does not, x where that is not known
+abbrev pub meets : List Val → Cube → Val
+meets state cube = and_all One (asked_values cube state)
 
 -- the literals that are 1 where what stands for the latches has the values that a cube asks for
 abbrev pub asked_literals : Cube → List ℕ → List ℕ

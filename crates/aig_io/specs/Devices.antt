@@ -2,21 +2,21 @@
 use Rattle.std.specs.Prelude.{◌≡◌, ◌+◌, ◌++◌, ℕ, zero, suc, List, [], Bool, true, false, take}
 use Rattle.std.specs.Prelude.{Option, None, Result, Ok, Err}
 use base.Stored.{Gv, gnil}
-use Rattle.aig_io.specs.Files.{Use}
+use Rattle.aig_io.specs.Files.{Files, no_use}
 use Rattle.aig_io.specs.declared.transfer.ReadError.{ReadError}
 use Rattle.aig_io.specs.declared.transfer.ReadError.TheVariants as errors
 
--- Where a device comes from: the borrow of the files or of the device that it holds, the file's name, and the uses of
--- files before its own; and, in the code of the kit, what else it stands on. A stream has nothing of this, and a file
--- stands on nothing else.
+-- Where a device comes from: the borrow of the files or of the device that it holds, the file's name, and the files
+-- before its use; and, in the code of the kit, what else it stands on. A stream has nothing of this, and a file stands
+-- on nothing else.
 pub record Origin : Type 0 where
   pub lender : ℕ
   pub name : Option (List ℕ)
-  pub before : List Use
+  pub before : Files
   pub stands_on : Gv
 
 abbrev pub no_file : Origin
-no_file = record { lender = 0; name = None; before = []; stands_on = gnil }
+no_file = record { lender = 0; name = None; before = no_use; stands_on = gnil }
 
 -- A device's history: the bytes that it gave or took since it was made, how often it answered that it is at its end,
 -- and how often it failed. Each call of it changes one of these.

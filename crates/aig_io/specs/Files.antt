@@ -1,6 +1,6 @@
 -- What is done with the files of a system, one after the other (this project's files).
-use Rattle.std.specs.Prelude.{ℕ, zero, suc, List, [], ◌∷◌, ◌++◌, Bool, true, false, not, Option, None, Some}
-use Rattle.std.specs.Prelude.{Result, Ok, Err, take}
+use Rattle.std.specs.Prelude.{ℕ, zero, suc, List, [], ◌∷◌, ◌++◌, Bool, true, false, not, if◌then◌else◌}
+use Rattle.std.specs.Prelude.{Option, None, Some, Result, Ok, Err, take}
 
 -- how the use of a file ended
 pub data End : Type 0 where
@@ -9,9 +9,10 @@ pub data End : Type 0 where
   Left : End
   ReadFailed : End
   NotOpened : End
-  -- a file that was made, or cut to nothing: it took its bytes and is closed; it could not be closed, and not all may
-  -- be kept; a write failed; it could not be made, and is as it was
+  -- a file that was made, or cut to nothing: it took its bytes and is closed; likewise, and it was synced before that;
+  -- it could not be closed, and not all may be kept; a write failed; it could not be made, and is as it was
   Written : End
+  Synced : End
   NotKept : End
   WriteFailed : End
   NotMade : End
@@ -28,10 +29,16 @@ pub record OpenFile : Type 0 where
   pub name : List ℕ
   pub bytes : List ℕ
 
--- The uses of files so far, the newest first, and the file that is open. No two are open at once.
+-- The uses of files so far, the newest first, the file that is open, and whether what is written is synced before it
+-- is closed. No two are open at once.
 pub record Files : Type 0 where
   pub uses : List Use
   pub current : Option OpenFile
+  pub syncs : Bool
+
+-- nothing was done with files yet
+abbrev pub no_use : Files
+no_use = record { uses = []; current = None; syncs = false }
 
 abbrev pub used : List ℕ → List ℕ → End → Use
 used name bytes end = record { name = name; bytes = bytes; end = end }
@@ -53,7 +60,7 @@ uses_with end None uses = uses
 uses_with end (Some file) uses = used file.name file.bytes end ∷ uses
 
 abbrev pub ended : End → Files → Files
-ended end files = record { uses = uses_with end files.current files.uses; current = None }
+ended end files = record files { uses = uses_with end files.current files.uses; current = None }
 
 -- a use that was over at once
 abbrev pub refused : List ℕ → End → Files → Files
@@ -77,8 +84,16 @@ abbrev pub after_write : {E : Type 0} → List ℕ → Result ℕ E → Files �
 after_write bytes (Ok n) files = record files { current = with_more (take n bytes) files.current }
 after_write bytes (Err fault) files = ended WriteFailed files
 
+-- from now on what is written is synced
+abbrev pub with_sync : Files → Files
+with_sync files = record files { syncs = true }
+
+-- how the use of a file ends that took its bytes and is closed
+abbrev pub end_of_close : Files → End
+end_of_close files = if files.syncs then Synced else Written
+
 abbrev pub after_close : {T E : Type 0} → Result T E → Files → Files
-after_close (Ok closed) files = ended Written files
+after_close (Ok closed) files = ended (end_of_close files) files
 after_close (Err fault) files = ended NotKept files
 
 -- whether a file is open to be read, or to be written

@@ -175,7 +175,7 @@ module _ (inputs : Inputs) where
 
     pub none_refused : (fault : Fault)
         → Comes inputs (jobs.Read (readings.Reach (reaching Refutation bad frames max_var))) (Err fault)
-        → IsNoneRefused (reaching Refutation bad frames max_var) inputs.model.now fault
+        → IsNoneRefused (reaching Refutation bad frames max_var) inputs.model.now inputs.file.now fault
     none_refused fault comes =
         let request = reaching Refutation bad frames max_var in
         elim (then_fault (readings.Reach request) fault comes) [
@@ -184,7 +184,7 @@ module _ (inputs : Inputs) where
               let why =
               last_fault (readings.Solved request selected) (IsNoneText request selected) (λ next made. made) fault
               (rw then at rest) in
-              inr why
+              inr (selected, is_model, why)
         ]
 
   module _ (bad max_var : ℕ) where
@@ -249,7 +249,7 @@ module _ (inputs : Inputs) where
 
     pub never_refused : (fault : Fault)
         → Comes inputs (jobs.Read (readings.Invariant (proving true bad max_var))) (Err fault)
-        → IsNeverRefused (proving true bad max_var) inputs.model.now inputs.file.now fault
+        → IsNeverRefused (proving true bad max_var) inputs.model.now inputs.file.now inputs.refutation.now fault
     never_refused fault comes =
         let request = proving true bad max_var in
         elim (then_fault (readings.Invariant request) fault comes) [
@@ -262,6 +262,6 @@ module _ (inputs : Inputs) where
                     let why =
                     last_fault (readings.Never request strengthened) IsText (λ next made. made) fault
                     (rw next_is at end) in
-                    inr why
+                    inr (selected, strengthened, is_model, is, why)
               ]
         ]

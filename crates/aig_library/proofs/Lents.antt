@@ -15,7 +15,9 @@ use Rattle.aig_step.specs.TraceText.{IsTraceText}
 use Rattle.aig_batch.specs.Batched.{BatchSays}
 use Rattle.aig_dump.specs.InMemory.{IsBadStimulus, StopsInMemory}
 use Rattle.aig_dump.proofs.Lents as lents
-use Rattle.aig_refute.specs.Refuted.{IsRefusedWhere}
+use Rattle.aig_cnf.specs.Clauses.{bad_clauses}
+use Rattle.aig_refute.specs.Refuted.{IsRefusedWhere, literals_of}
+use Rattle.aig_refute.proofs.Followed.{never_broken, refused_behind}
 use Rattle.aig_commands.specs.Jobs.{IsSolvedRefused, Refuses}
 use Rattle.aig_commands.specs.Reaching.{IsReachRefused}
 use Rattle.aig_commands.specs.Reading.{AtAnyTime, AtItsEnd, ReadSays}
@@ -25,11 +27,6 @@ use Rattle.aig_commands.specs.declared.job.Reading.TheVariants as readings
 use Rattle.aig_fault.specs.declared.fault.Fault.{Fault}
 use Rattle.aig_fault.specs.declared.stopped.Stopped.{Stopped}
 use Rattle.aig_fault.specs.declared.stopped.Stopped.TheVariants as stops
-
--- what a refutation is refused for, it is refused for at its end
-at_end : (fault : Fault) (ending : Ending) → IsRefusedWhere fault ending → IsRefusedWhere fault AtEnd
-at_end fault ending (inl of_line) = inl (of_line.0, tt)
-at_end fault ending (inr last) = inr (last.0, refl)
 
 module _ (input : List ℕ) (now : History) (given : HasGiven now) where
   -- what was made was made of all of the input
@@ -72,16 +69,32 @@ module _ (input : List ℕ) (now : History) (given : HasGiven now) where
       (says (drop (length bytes) input))
   at_any_time IsRefused fault bytes Broken is says = absurd says
 
-  refutation : (fault : Fault) (bytes : List ℕ) (ending : Ending) → IsRefutationRefused fault bytes ending
-      → IsRefutationRefused fault input AtEnd
-  refutation fault bytes ending = at_end fault ending
+  -- what a refutation is refused for, it is refused for at its end
+  refutation : (c : Circuit) (frames : ℕ) (fault : Fault) (bytes : List ℕ) (ending : Ending)
+      → now ≡ came bytes ending (unused (lent input)) → IsRefutationRefused c frames fault bytes ending
+      → IsRefutationRefused c frames fault input AtEnd
+  refutation c frames fault bytes AtEnd is says =
+      subst (λ (bs : List ℕ). IsRefutationRefused c frames fault bs AtEnd)
+      (lents.all_read input now given bytes is) says
+  refutation c frames fault bytes Open is (d, formed, unrolled, why) =
+      let front = lents.part_read input now given bytes is in (
+        d,
+        formed,
+        unrolled,
+        subst (λ (bs : List ℕ). IsRefusedWhere (bad_clauses d) (literals_of d) fault bs AtEnd)
+            (ap (λ (bs : List ℕ). bs ++ drop (length bytes) input) front ∙ take-append-drop (length bytes) input)
+            (refused_behind (bad_clauses d) (literals_of d) fault bytes (drop (length bytes) input) why),
+      )
+  refutation c frames fault bytes Broken is (d, formed, unrolled, inl why) = absurd why.0
+  refutation c frames fault bytes Broken is (d, formed, unrolled, inr why) = absurd (never_broken why.1)
 
   solved : (by : SolverFile) (request : Reach) (selected : Circuit) (fault : Fault) (bytes : List ℕ) (ending : Ending)
       → now ≡ came bytes ending (unused (lent input)) → IsSolvedRefused by request selected fault bytes ending
       → IsSolvedRefused by request selected fault input AtEnd
   solved wrote.Answer request selected fault bytes ending is says =
       at_any_time (IsReachRefused request selected) fault bytes ending is says
-  solved wrote.Refutation request selected fault bytes ending is says = refutation fault bytes ending says
+  solved wrote.Refutation request selected fault bytes ending is says =
+      refutation selected request.frames fault bytes ending is says
 
   all_refused : (reading : Reading) (fault : Fault) (bytes : List ℕ) (ending : Ending)
       → now ≡ came bytes ending (unused (lent input)) → ending ≡ AtEnd → Refuses reading fault bytes ending
@@ -96,7 +109,8 @@ module _ (input : List ℕ) (now : History) (given : HasGiven now) where
       → Refuses reading fault input AtEnd
   refused (readings.Solved request selected) fault bytes ending is says =
       solved request.wrote request selected fault bytes ending is says
-  refused (readings.Never request strengthened) fault bytes ending is says = refutation fault bytes ending says
+  refused (readings.Never request strengthened) fault bytes ending is says =
+      refutation strengthened 1 fault bytes ending is says
   refused (readings.ToAig request) fault bytes ending is says =
       all_refused (readings.ToAig request) fault bytes ending is says.0 says
   refused (readings.Unroll request) fault bytes ending is says =

@@ -103,13 +103,17 @@ pub record IsNoneWithinModel (request : Reach) (model : List ℕ) : Type 0 where
   pub none : IsNoneWithin is_model.has_clauses.found request.bad request.frames
 
 -- That is not known for this reason: the model has no clauses, or the refutation does not show it.
-abbrev pub IsNoneRefused : Reach → (model : List ℕ) → Fault → Type 0
-IsNoneRefused request model fault = IsModelRefused request fault model ⊎ NotRefuted fault
+abbrev pub IsNoneRefused : Reach → (model refutation : List ℕ) → Fault → Type 0
+IsNoneRefused request model refutation fault =
+    IsModelRefused request fault model
+    ⊎ ((selected : Circuit) × IsSelectedModel request model selected
+    × NotRefuted selected request.frames refutation fault)
 
-abbrev pub RefuteAnswers : (bad frames max_var : ℕ) (model : List ℕ) → Outcome → Type 0
-RefuteAnswers bad frames max_var model =
+abbrev pub RefuteAnswers : (bad frames max_var : ℕ) (model refutation : List ℕ) → Outcome → Type 0
+RefuteAnswers bad frames max_var model refutation =
     let request = reaching Refutation bad frames max_var in
-    ShowAnswers (CanReach frames max_var) (IsNoneWithinModel request model) (IsNoneRefused request model)
+    ShowAnswers (CanReach frames max_var) (IsNoneWithinModel request model)
+    (IsNoneRefused request model refutation)
 
 -- The clauses that are written for a model and an invariant: those in which it is to be shown.
 pub record IsProvingText (request : Invariant) (model invariant text : List ℕ) : Type 0 where
@@ -138,14 +142,17 @@ pub record IsNeverOfModel (request : Invariant) (model invariant : List ℕ) : T
   pub never : IsNever is_model.has_clauses.found request.bad
 
 -- That is not known for this reason: there are no clauses, or the refutation does not show it.
-abbrev pub IsNeverRefused : Invariant → (model invariant : List ℕ) → Fault → Type 0
-IsNeverRefused request model invariant fault = IsProvingRefused request model invariant fault ⊎ NotRefuted fault
+abbrev pub IsNeverRefused : Invariant → (model invariant refutation : List ℕ) → Fault → Type 0
+IsNeverRefused request model invariant refutation fault =
+    IsProvingRefused request model invariant fault
+    ⊎ ((selected strengthened : Circuit) × IsInvariantModel request model selected
+    × IsStrengthened selected invariant strengthened × NotRefuted strengthened 1 refutation fault)
 
-abbrev pub NeverAnswers : (bad max_var : ℕ) (model invariant : List ℕ) → Outcome → Type 0
-NeverAnswers bad max_var model invariant =
+abbrev pub NeverAnswers : (bad max_var : ℕ) (model invariant refutation : List ℕ) → Outcome → Type 0
+NeverAnswers bad max_var model invariant refutation =
     let request = proving true bad max_var in
     ShowAnswers (max_var ≤ largest_index) (IsNeverOfModel request model invariant)
-    (IsNeverRefused request model invariant)
+    (IsNeverRefused request model invariant refutation)
 
 -- The miter that is written for two circuits.
 pub record IsComparedText (request : Miter) (one two text : List ℕ) : Type 0 where

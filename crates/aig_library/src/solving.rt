@@ -47,7 +47,7 @@ pub fn refute(
     model: &[u8],
     refutation: &[u8],
 ) -> Outcome
-    ensures { RefuteAnswers bad frames max_var model.now result }
+    ensures { RefuteAnswers bad frames max_var model.now refutation.now result }
 {
     if !can_reach(frames, max_var) {
         return ending(BAD_OPTIONS, 0, 0);
@@ -97,7 +97,7 @@ pub fn never(
     invariant: &[u8],
     refutation: &[u8],
 ) -> Outcome
-    ensures { NeverAnswers bad max_var model.now invariant.now result }
+    ensures { NeverAnswers bad max_var model.now invariant.now refutation.now result }
 {
     if max_var > LARGEST {
         return ending(BAD_OPTIONS, 0, 0);

@@ -65,7 +65,7 @@ any_one a (l ∷ ls) =
     ap₂ (λ x y. x || y) (ap is_one (truth_literal a l) ∙ one_truth (is_true a l)) (any_one a ls)
 
 -- a row that follows is one of the circuit
-row_there : (c : Circuit) (state : List Val) (vectors : List (List Val)) (before : List Row) (row : Row)
+pub row_there : (c : Circuit) (state : List Val) (vectors : List (List Val)) (before : List Row) (row : Row)
     (behind : List Row) → Follow c state vectors (before ++ row ∷ behind) → IsRow c row
 row_there c state [] [] row behind follow = absurd follow
 row_there c state [] (r ∷ rs) row behind follow = absurd follow
@@ -80,7 +80,7 @@ as_long c state (vector ∷ vectors) [] follow = absurd follow
 as_long c state (vector ∷ vectors) (row ∷ rows) follow = ap suc (as_long c row.next vectors rows follow.3)
 
 -- a place at which there is a 1 is one of the list
-within : (values : List Val) (i : ℕ) → get_or values i Zero ≡ One → i < length values
+pub within : (values : List Val) (i : ℕ) → get_or values i Zero ≡ One → i < length values
 within [] i is = cc
 within (v ∷ vs) zero is = omega arith
 within (v ∷ vs) (suc i) is = let behind = within vs i is in omega (arith, behind)

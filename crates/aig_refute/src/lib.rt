@@ -13,11 +13,14 @@
 
 mod checker;
 mod clause_table;
+mod comparer;
+mod gate_places;
 mod gates;
 mod kernel;
 mod propagation;
 mod reader;
 mod reading;
+mod scan;
 mod store;
 mod words;
 

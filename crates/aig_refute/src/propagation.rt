@@ -3,26 +3,12 @@
 ghost use Rattle.std.specs.Prelude.{◌≡◌, ◌+◌, ◌<◌, ◌≤◌, ℕ, Bool, true, false, length, IfOk};
 ghost use Rattle.aig_refute.specs.Agree.{Agrees, Extends, Grows};
 
-use crate::kernel::{Derived, Kernel, Visit};
+use crate::kernel::{Derived, Kernel};
+use crate::scan::{Progress, Watch, put_watch};
 use crate::words::negation;
+use aig_core::Gate;
 use std::alloc::{AllocError, Global};
 use std::mem;
-
-/// A clause that a literal watches, and its blocking literal: where that is true, nothing has to be
-/// looked at.
-#[derive(Clone, Copy, Debug, PartialEq, Eq)]
-pub(crate) struct Watch {
-    blocking: u32,
-    clause: u32,
-}
-
-/// What became of a watch.
-#[derive(Clone, Copy, Debug, PartialEq, Eq)]
-enum Look {
-    Kept(u32),
-    Left,
-    Conflict,
-}
 
 /// The clauses, by the literals that watch them.
 #[derive(Drop)]
@@ -45,18 +31,51 @@ fn take_out(list: &mut Vec<Watch>, from: usize, to: usize) {
     list.truncate(list.len() - (to - from));
 }
 
-impl Propagation {
-    /// No clauses, over literals below this one.
-    pub(crate) fn new(alloc: Global, literals: usize) -> Result<Propagation, AllocError>
-        ensures { IfOk result (λ propagation. (a : ℕ → Bool) → Agrees a propagation.kernel) }
-    {
-        let mut watches = Vec::with_capacity(alloc, literals)?;
-        for _ in 0..literals {
-            watches.push(Vec::new(alloc))?;
+/// How many words the clauses of a gate take.
+const WORDS_OF_A_GATE: usize = 10;
+
+/// Counts one more of a literal.
+fn count(counts: &mut [u32], literal: u32) {
+    let at = literal as usize;
+    if at < counts.len() {
+        counts[at] = counts[at].saturating_add(1);
+    }
+}
+
+/// By literal, how many clauses of gates it will watch.
+fn watch_counts(alloc: Global, literals: usize, gates: &[Gate]) -> Result<Vec<u32>, AllocError> {
+    let mut counts = vec![in alloc; 0u32; literals]?;
+    for gate in gates {
+        let own = gate.var.0.wrapping_mul(2);
+        for literal in [negation(own), negation(own), own] {
+            count(&mut counts, literal);
         }
+        for literal in [gate.left.0, negation(gate.left.0), gate.right.0] {
+            count(&mut counts, literal);
+        }
+    }
+    Ok(counts)
+}
+
+impl Propagation {
+    /// No clauses, over literals below this one, with room for those of gates.
+    pub(crate) fn new(
+        alloc: Global,
+        literals: usize,
+        gates: &[Gate],
+    ) -> Result<Propagation, AllocError>
+        ensures agrees { IfOk result (λ propagation. (a : ℕ → Bool) → Agrees a propagation.kernel) }
+        ensures base { IfOk result (λ propagation. propagation.kernel.store.base ≡ literals) }
+    {
+        let counts = watch_counts(alloc, literals, gates)?;
+        let mut watches = Vec::with_capacity(alloc, literals)?;
+        for count in &counts {
+            watches.push(Vec::with_capacity(alloc, *count as usize)?)?;
+        }
+        let words = gates.len().saturating_mul(WORDS_OF_A_GATE);
         Ok(Propagation {
             alloc,
-            kernel: Kernel::new(alloc, literals)?,
+            kernel: Kernel::new(alloc, literals, words)?,
             watches,
             next: 0,
         })
@@ -91,37 +110,17 @@ impl Propagation {
     ) -> Result<(), AllocError>
         ensures { self.new.kernel ≡ self.old.kernel }
     {
-        let at = literal as usize;
-        if at < self.watches.len() {
-            self.watches[at].push(Watch { blocking, clause })?;
-        }
-        Ok(())
+        put_watch(&mut self.watches, literal, Watch { blocking, clause })
     }
 
-    /// Looks at one clause that a literal watches which has become false.
-    #[tactic(auto, using(crate::proofs::Later::grows_both, crate::proofs::Later::grows_same))]
+    /// What follows from a clause that is watched.
     #[inline(always)]
-    fn look(&mut self, literal: u32, watch: Watch) -> Result<Look, AllocError>
+    fn derive(&mut self, watch: Watch) -> Result<Derived, AllocError>
         ensures grows { Grows self.old.kernel self.new.kernel }
-        ensures conflict { IfOk result (λ look. look ≡ Look.Conflict
+        ensures conflict { IfOk result (λ derived. derived ≡ Derived.Conflict
             → (a : ℕ → Bool) → ¬ Agrees a self.old.kernel) }
     {
-        if self.kernel.is_known(watch.blocking) {
-            return Ok(Look::Kept(watch.blocking));
-        }
-        match self.kernel.visit(watch.clause as usize, literal) {
-            Visit::Gone => Ok(Look::Left),
-            Visit::True(other) => Ok(Look::Kept(other)),
-            Visit::Moved(free, other) => {
-                self.watch(free, other, watch.clause)?;
-                Ok(Look::Left)
-            }
-            Visit::Stuck(other) => match self.kernel.derive(watch.clause as usize)? {
-                Derived::Conflict => Ok(Look::Conflict),
-                Derived::Assigned => Ok(Look::Kept(other)),
-                Derived::Nothing => Ok(Look::Kept(other)),
-            },
-        }
+        self.kernel.derive(watch.clause as usize)
     }
 
     /// Looks at the clauses of a list, and answers whether one is false: then the rest stays.
@@ -131,25 +130,26 @@ impl Propagation {
         ensures conflict { IfOk result (λ c. c ≡ true
             → (a : ℕ → Bool) → ¬ Agrees a self.old.kernel) }
     {
-        let mut kept = 0;
-        for at in 0..list.len() {
-            let watch = list[at];
-            let blocking = match self.look(literal, watch)? {
-                Look::Kept(blocking) => blocking,
-                Look::Left => continue,
-                Look::Conflict => {
-                    take_out(list, kept, at);
-                    return Ok(true);
-                }
+        let mut progress = Progress { at: 0, kept: 0 };
+        loop {
+            progress = self
+                .kernel
+                .scan(&mut self.watches, list, literal, progress)?;
+            if progress.at >= list.len() {
+                list.truncate(progress.kept);
+                return Ok(false);
+            }
+            let watch = list[progress.at];
+            if self.derive(watch)? == Derived::Conflict {
+                take_out(list, progress.kept, progress.at);
+                return Ok(true);
+            }
+            list[progress.kept] = watch;
+            progress = Progress {
+                at: progress.at + 1,
+                kept: progress.kept + 1,
             };
-            list[kept] = Watch {
-                blocking,
-                clause: watch.clause,
-            };
-            kept += 1;
         }
-        list.truncate(kept);
-        Ok(false)
     }
 
     /// Looks at the clauses that a literal watches which has become false, and answers whether one
@@ -192,6 +192,23 @@ impl Propagation {
         Ok(false)
     }
 
+    /// Follows what the clause that begins there says to its end, or to a clause that is false: then
+    /// the answer is yes.
+    #[tactic(auto, using(crate::proofs::Later::grows_both, crate::proofs::Later::grows_same))]
+    pub(crate) fn follow(&mut self, at: usize) -> Result<bool, AllocError>
+        ensures grows { Grows self.old.kernel self.new.kernel }
+        ensures conflict { IfOk result (λ c. c ≡ true
+            → (a : ℕ → Bool) → ¬ Agrees a self.old.kernel) }
+    {
+        match self.kernel.derive(at)? {
+            Derived::Conflict => Ok(true),
+            _ => {
+                let conflict = self.propagate()?;
+                Ok(conflict)
+            }
+        }
+    }
+
     /// No clause is watched any more.
     fn unwatch(&mut self)
         ensures { self.new.kernel ≡ self.old.kernel }
@@ -201,12 +218,12 @@ impl Propagation {
         }
     }
 
-    /// Keeps only the clauses that begin at these places, watched by none, and gives where each
-    /// begins now.
-    pub(crate) fn compact(&mut self, starts: &[u32]) -> Result<Vec<u32>, AllocError>
+    /// Gives the memory of clauses that were let go back, and tells where each of the others begins:
+    /// no literal watches it.
+    pub(crate) fn compact(&mut self) -> Result<Vec<u32>, AllocError>
         ensures { Grows self.old.kernel self.new.kernel }
     {
-        let places = self.kernel.compact(self.alloc, starts)?;
+        let places = self.kernel.compact(self.alloc)?;
         self.unwatch();
         Ok(places)
     }

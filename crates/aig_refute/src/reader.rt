@@ -1,6 +1,20 @@
 //! The lines of a refutation, read byte by byte: as text or binary, which the first bytes tell
-//! apart. Nothing rests on what is read: a clause is added only where it follows.
+//! apart.
+ghost use Rattle.std.specs.Prelude.{◌≡◌, ◌<◌, ◌≤◌, ◌^◌, IfOk, None, OnOk, fold, true};
+ghost use Rattle.aig_refute.specs.Lines.{Goes, after, begun, behind_blank, cleared, code_of};
+ghost use Rattle.aig_refute.specs.Lines.{ended, first_reader, held_codes, held_text, in_binary, in_blank};
+ghost use Rattle.aig_refute.specs.Lines.{in_code, in_comment, in_first, in_first_deletion};
+ghost use Rattle.aig_refute.specs.Lines.{in_first_number, in_letter, in_line, in_mark, in_minus};
+ghost use Rattle.aig_refute.specs.Lines.{in_number, is_blank, is_code, is_digit, line_of};
+ghost use Rattle.aig_refute.specs.Lines.{may_be_held, missing_end, move, next, reading_of};
+ghost use Rattle.aig_refute.specs.Lines.{refused, with_code, with_digit, with_group, with_number};
+ghost use Rattle.aig_refute.specs.Lines.{with_whole};
+
+use crate::words::END;
 use std::alloc::{AllocError, Global};
+
+/// The most bytes of the first number of a text: a sign and ten digits.
+pub(crate) const MOST_HELD: usize = 11;
 
 /// What a byte ended.
 #[derive(Clone, Copy, Debug, PartialEq, Eq)]
@@ -15,100 +29,142 @@ pub enum LineEnd {
     Bad,
 }
 
-/// What comes next.
+/// Where the next byte stands.
 #[derive(Clone, Copy, Debug, PartialEq, Eq)]
-enum Awaited {
-    /// The first byte: text or binary is open.
+pub enum Spot {
+    /// Before all others: text or binary is open.
     First,
-    /// What is after a `d` that was the first byte.
+    /// After a `d` that was the first byte.
     FirstDeletion,
-    /// What is after a space that stands there: the digits of a text, or codes.
+    /// After a space that stands there: in a number of a text, or codes.
     FirstNumber,
-    /// In a text, what is between numbers.
+    /// In a text, at the beginning of a line.
+    LineStart,
+    /// Between numbers.
     Blank,
-    /// The rest of a comment.
+    /// In a comment.
     Comment,
-    /// A digit after `-`.
-    Digit,
-    /// The rest of a number.
+    /// After a minus.
+    Minus,
+    /// In a number.
     Number,
-    /// In a binary refutation, a line.
+    /// In a binary refutation, at the beginning of a line.
     Mark,
-    /// A byte of a number.
+    /// In a code.
     Code,
-    /// Nothing, after a byte that is in no line.
-    Nothing,
+    /// After a byte that is in no line.
+    Wrong,
 }
 
-/// Reads the bytes of a refutation.
-#[derive(Drop)]
-pub struct RefutationReader {
-    awaited: Awaited,
-    number: u64,
-    shift: u32,
-    is_negative: bool,
-    is_deletion: bool,
-    /// Literals are below this one.
-    limit: u64,
-    clause: Vec<u32>,
+/// How far a refutation was read.
+#[derive(Clone, Copy, Debug, PartialEq, Eq)]
+pub struct Reader {
+    pub spot: Spot,
+    /// What the number comes to so far, or the code.
+    pub number: u64,
+    /// Whether the number is negative.
+    pub is_negative: bool,
+    /// How many bits of the code came.
+    pub shift: u32,
+    /// Whether the line deletes its clause.
+    pub is_deletion: bool,
+    /// Whether the clause has literals.
+    pub has_literals: bool,
+    /// In line number N literals are below this one and 2N.
+    pub limit: u64,
     /// How many lines began.
-    line: u64,
-    /// The next byte begins a line.
-    is_line_over: bool,
-    /// The bytes of a first number, which may be codes.
-    held: [u8; MOST_HELD],
-    /// How many there are.
-    count: usize,
+    pub line: u64,
 }
 
-/// The most bytes of the first number of a text: a sign and ten digits.
-const MOST_HELD: usize = 11;
+#[inline(always)]
+fn is_digit(byte: u8) -> bool
+    ensures { result ≡ is_digit byte }
+{
+    b'0' <= byte && byte <= b'9'
+}
 
-impl RefutationReader {
-    /// No bytes yet, of a refutation over literals below this one.
-    pub fn new(alloc: Global, limit: usize) -> RefutationReader {
-        RefutationReader {
-            awaited: Awaited::First,
+/// Whether numbers stand on both sides of a byte.
+#[inline(always)]
+fn is_blank(byte: u8) -> bool
+    ensures { result ≡ is_blank byte }
+{
+    byte == b' ' || byte == b'\r' || byte == b'\n'
+}
+
+#[inline(always)]
+fn behind_blank(byte: u8) -> Spot
+    ensures { result ≡ behind_blank byte }
+{
+    if byte == b'\n' {
+        Spot::LineStart
+    } else {
+        Spot::Blank
+    }
+}
+
+/// A number with a digit more. No literal has a number that 32 bits do not hold.
+#[inline(always)]
+fn with_digit(number: u64, byte: u8) -> u64
+    requires { is_digit byte ≡ true }
+    ensures { result ≡ with_digit number byte }
+{
+    if number <= u64::from(u32::MAX) {
+        10 * number + u64::from(byte - b'0')
+    } else {
+        number
+    }
+}
+
+/// Seven bits more, above so many, as far as 64 bits reach.
+#[inline(always)]
+fn with_group(number: u64, shift: u32, byte: u8) -> u64
+    requires { shift ≤ 28 }
+    ensures { result ≡ with_group number shift byte }
+{
+    number.saturating_add(u64::from(byte % 128) << shift)
+}
+
+impl Reader {
+    /// Before the first byte.
+    fn new(limit: u64) -> Reader
+        ensures { result ≡ first_reader limit }
+    {
+        Reader {
+            spot: Spot::First,
             number: 0,
-            shift: 0,
             is_negative: false,
+            shift: 0,
             is_deletion: false,
-            limit: limit as u64,
-            clause: Vec::new(alloc),
+            has_literals: false,
+            limit,
             line: 0,
-            is_line_over: true,
-            held: [0; MOST_HELD],
-            count: 0,
         }
     }
 
-    /// The clause in the line.
-    pub(crate) fn clause(&self) -> &[u32] {
-        self.clause.as_slice()
-    }
-
-    /// The number of the line, counted from 1.
-    pub(crate) fn line(&self) -> u64 {
-        self.line
-    }
-
-    /// Begins the next clause.
+    /// A line begins.
     #[inline(always)]
-    pub(crate) fn clear(&mut self) {
-        self.clause.clear();
-        self.is_deletion = false;
-    }
-
-    /// What ends the last number of a text, where nothing stands after it.
-    pub(crate) fn missing_end(&self) -> &'static [u8] {
-        match self.awaited {
-            Awaited::Number => b"\n",
-            _ => b"",
+    fn begin_line(&mut self)
+        ensures { self.new ≡ in_line self.old }
+    {
+        if self.line < u64::MAX {
+            self.line += 1;
         }
     }
 
+    /// The byte is in no line.
     #[inline(always)]
-    fn end_clause(&mut self) -> LineEnd {
+    fn refuse(&mut self) -> LineEnd
+        ensures { refused self.old ≡ record { reader = self.new; literal = None; end = result } }
+    {
+        self.spot = Spot::Wrong;
+        LineEnd::Bad
+    }
+
+    /// What the end of a clause is.
+    #[inline(always)]
+    fn end(&self) -> LineEnd
+        ensures { ended self.now ≡ record { reader = self.now; literal = None; end = result } }
+    {
         if self.is_deletion {
             LineEnd::Deleted
         } else {
@@ -116,50 +172,44 @@ impl RefutationReader {
         }
     }
 
+    /// Whether a literal that may stand in this line has this code: twice the number of the
+    /// variable, and one more if it is negated.
     #[inline(always)]
-    fn refuse(&mut self) -> LineEnd {
-        self.awaited = Awaited::Nothing;
-        LineEnd::Bad
+    fn is_code(&self, code: u64) -> bool
+        ensures { result ≡ is_code self.now code }
+    {
+        let above = self.limit.saturating_add(self.line.saturating_mul(2));
+        code >= 2 && code - 2 < above && code - 2 < u64::from(END)
     }
 
-    /// A literal by its code: twice the number of the variable, and one more if it is negated.
+    /// The code of the number, which 32 bits hold.
     #[inline(always)]
-    fn push_code(&mut self, code: u64) -> Result<LineEnd, AllocError> {
-        if code < 2 || code - 2 >= self.limit.saturating_add(self.line.saturating_mul(2)) {
-            return Ok(self.refuse());
+    fn code(&self) -> u64
+        requires { self.now.number < 2 ^ 32 }
+        ensures { result ≡ code_of self.now.is_negative self.now.number }
+    {
+        if self.is_negative {
+            2 * self.number + 1
+        } else {
+            2 * self.number
         }
-        if let Ok(literal) = u32::try_from(code - 2) {
-            self.clause.push(literal)?;
-        }
-        Ok(LineEnd::Within)
     }
 
-    #[inline(always)]
-    fn end_number(&mut self) -> Result<LineEnd, AllocError> {
-        let number = self.number;
-        self.number = 0;
-        self.awaited = Awaited::Blank;
-        if number == 0 {
-            return Ok(self.end_clause());
-        }
-        let sign = u64::from(self.is_negative);
-        self.is_negative = false;
-        self.push_code(number.saturating_mul(2).saturating_add(sign))
-    }
-
-    /// A letter that begins a line of a text.
-    fn take_letter(&mut self, byte: u8) -> LineEnd {
-        if self.is_deletion || !self.clause.is_empty() {
+    /// A letter in a text.
+    fn in_letter(&mut self, byte: u8) -> LineEnd
+        ensures { in_letter self.old byte ≡ record { reader = self.new; literal = None; end = result } }
+    {
+        if self.is_deletion || self.has_literals {
             return self.refuse();
         }
         match byte {
             b'd' => {
                 self.is_deletion = true;
-                self.awaited = Awaited::Blank;
+                self.spot = Spot::Blank;
                 LineEnd::Within
             }
             b'c' => {
-                self.awaited = Awaited::Comment;
+                self.spot = Spot::Comment;
                 LineEnd::Within
             }
             _ => self.refuse(),
@@ -167,174 +217,332 @@ impl RefutationReader {
     }
 
     #[inline(always)]
-    fn take_blank(&mut self, byte: u8) -> LineEnd {
-        match byte {
-            b' ' | b'\r' => self.awaited = Awaited::Blank,
-            b'\n' => {
-                self.awaited = Awaited::Blank;
-                self.is_line_over = true;
-            }
-            b'-' => {
-                self.is_negative = true;
-                self.awaited = Awaited::Digit;
-            }
-            b'0'..=b'9' => {
-                self.number = u64::from(byte - b'0');
-                self.awaited = Awaited::Number;
-            }
-            _ => return self.take_letter(byte),
+    fn in_blank(&mut self, byte: u8) -> LineEnd
+        ensures { in_blank self.old byte ≡ record { reader = self.new; literal = None; end = result } }
+    {
+        if is_digit(byte) {
+            self.spot = Spot::Number;
+            self.is_negative = false;
+            self.number = u64::from(byte - b'0');
+            return LineEnd::Within;
         }
-        LineEnd::Within
+        if byte == b'-' {
+            self.spot = Spot::Minus;
+            return LineEnd::Within;
+        }
+        if is_blank(byte) {
+            self.spot = behind_blank(byte);
+            return LineEnd::Within;
+        }
+        self.in_letter(byte)
     }
 
     #[inline(always)]
-    fn take_in_number(&mut self, byte: u8) -> Result<LineEnd, AllocError> {
-        match byte {
-            b'0'..=b'9' => {
-                let digit = u64::from(byte - b'0');
-                self.number = self.number.saturating_mul(10).saturating_add(digit);
-                Ok(LineEnd::Within)
-            }
-            b' ' | b'\n' | b'\r' => {
-                self.is_line_over = byte == b'\n';
-                self.end_number()
-            }
-            _ => Ok(self.refuse()),
-        }
+    fn in_line_start(&mut self, byte: u8) -> LineEnd
+        ensures { in_blank (in_line self.old) byte
+            ≡ record { reader = self.new; literal = None; end = result } }
+    {
+        self.begin_line();
+        self.in_blank(byte)
     }
 
     #[inline(always)]
-    fn take_in_comment(&mut self, byte: u8) -> LineEnd {
+    fn in_comment(&mut self, byte: u8) -> LineEnd
+        ensures { in_comment self.old byte ≡ record { reader = self.new; literal = None; end = result } }
+    {
         if byte == b'\n' {
-            self.awaited = Awaited::Blank;
-            self.is_line_over = true;
+            self.spot = Spot::LineStart;
         }
         LineEnd::Within
     }
 
     #[inline(always)]
-    fn take_digit(&mut self, byte: u8) -> LineEnd {
+    fn in_minus(&mut self, byte: u8) -> LineEnd
+        ensures { in_minus self.old byte ≡ record { reader = self.new; literal = None; end = result } }
+    {
+        if is_digit(byte) && byte != b'0' {
+            self.spot = Spot::Number;
+            self.is_negative = true;
+            self.number = u64::from(byte - b'0');
+            return LineEnd::Within;
+        }
+        self.refuse()
+    }
+
+    #[inline(always)]
+    fn begin_codes(&mut self)
+        ensures { self.new ≡ in_binary self.old }
+    {
+        self.spot = Spot::Code;
+        self.number = 0;
+        self.shift = 0;
+    }
+
+    #[inline(always)]
+    fn in_mark(&mut self, byte: u8) -> LineEnd
+        ensures { in_mark (in_line self.old) byte
+            ≡ record { reader = self.new; literal = None; end = result } }
+    {
+        self.begin_line();
         match byte {
-            b'1'..=b'9' => self.take_blank(byte),
+            b'a' => {
+                self.begin_codes();
+                LineEnd::Within
+            }
+            b'd' => {
+                self.is_deletion = true;
+                self.begin_codes();
+                LineEnd::Within
+            }
             _ => self.refuse(),
         }
     }
 
-    #[inline(always)]
-    fn take_mark(&mut self, byte: u8) -> LineEnd {
+    fn in_first(&mut self, byte: u8) -> LineEnd
+        ensures { in_first (in_line self.old) byte
+            ≡ record { reader = self.new; literal = None; end = result } }
+    {
+        self.begin_line();
         match byte {
-            b'a' => {}
-            b'd' => self.is_deletion = true,
-            _ => return self.refuse(),
+            b'a' => {
+                self.begin_codes();
+                LineEnd::Within
+            }
+            b'd' => {
+                self.is_deletion = true;
+                self.spot = Spot::FirstDeletion;
+                LineEnd::Within
+            }
+            _ => self.in_blank(byte),
         }
-        self.awaited = Awaited::Code;
-        LineEnd::Within
+    }
+}
+
+/// Reads the bytes of a refutation.
+#[derive(Drop)]
+pub struct RefutationReader {
+    reader: Reader,
+    clause: Vec<u32>,
+    /// The bytes of a first number, which may be codes.
+    held: Vec<u8>,
+}
+
+impl RefutationReader {
+    /// No bytes yet, of a refutation over literals below this one.
+    pub fn new(alloc: Global, limit: usize) -> RefutationReader
+        ensures { reading_of result ≡ begun limit }
+    {
+        RefutationReader {
+            reader: Reader::new(limit as u64),
+            clause: Vec::new(alloc),
+            held: Vec::new(alloc),
+        }
+    }
+
+    /// The clause in the line.
+    pub(crate) fn clause(&self) -> &[u32]
+        ensures { result.now ≡ (reading_of self.now).clause }
+    {
+        self.clause.as_slice()
+    }
+
+    /// The number of the line, counted from 1.
+    pub(crate) fn line(&self) -> u64
+        ensures { result ≡ line_of (reading_of self.now) }
+    {
+        self.reader.line
+    }
+
+    /// Begins the next clause.
+    #[inline(always)]
+    pub(crate) fn clear(&mut self)
+        ensures { reading_of self.new ≡ cleared (reading_of self.old) }
+    {
+        self.clause.clear();
+        self.reader.is_deletion = false;
+        self.reader.has_literals = false;
+    }
+
+    /// What ends the last number of a text, where nothing stands after it.
+    pub(crate) fn missing_end(&self) -> &'static [u8]
+        ensures { result.now ≡ missing_end (reading_of self.now) }
+    {
+        match self.reader.spot {
+            Spot::Number => b"\n",
+            _ => b"",
+        }
+    }
+
+    /// A code ends, other than 0.
+    #[inline(always)]
+    fn push_code(&mut self, code: u64) -> Result<LineEnd, AllocError>
+        ensures { IfOk result (λ end. Goes self.old (with_code self.old.reader code) self.new end) }
+    {
+        let is_code = self.reader.is_code(code);
+        if !is_code {
+            return Ok(self.reader.refuse());
+        }
+        self.clause.push((code - 2) as u32)?;
+        self.reader.has_literals = true;
+        Ok(LineEnd::Within)
+    }
+
+    /// A number ends: 0 ends the clause.
+    #[inline(always)]
+    fn end_number(&mut self) -> Result<LineEnd, AllocError>
+        ensures { IfOk result (λ end. Goes self.old (with_number self.old.reader) self.new end) }
+    {
+        if self.reader.number == 0 {
+            let end = self.reader.end();
+            return Ok(end);
+        }
+        if self.reader.number > u64::from(u32::MAX) {
+            return Ok(self.reader.refuse());
+        }
+        let code = self.reader.code();
+        self.push_code(code)
+    }
+
+    #[inline(always)]
+    fn in_number(&mut self, byte: u8) -> Result<LineEnd, AllocError>
+        ensures { IfOk result (λ end. Goes self.old (in_number self.old.reader byte) self.new end) }
+    {
+        if is_digit(byte) {
+            self.reader.number = with_digit(self.reader.number, byte);
+            return Ok(LineEnd::Within);
+        }
+        if is_blank(byte) {
+            self.reader.spot = behind_blank(byte);
+            return self.end_number();
+        }
+        Ok(self.reader.refuse())
+    }
+
+    /// A code ends: 0 ends the clause.
+    #[inline(always)]
+    fn end_code(&mut self, code: u64) -> Result<LineEnd, AllocError>
+        ensures { IfOk result (λ end. Goes self.old (with_whole self.old.reader code) self.new end) }
+    {
+        if code == 0 {
+            self.reader.spot = Spot::Mark;
+            let end = self.reader.end();
+            return Ok(end);
+        }
+        self.reader.begin_codes();
+        self.push_code(code)
     }
 
     /// Seven bits of a code, the lowest first; the last byte is below 128.
     #[inline(always)]
-    fn take_code(&mut self, byte: u8) -> Result<LineEnd, AllocError> {
-        if self.shift > 28 {
-            return Ok(self.refuse());
+    fn in_code(&mut self, byte: u8) -> Result<LineEnd, AllocError>
+        ensures { IfOk result (λ end. Goes self.old (in_code self.old.reader byte) self.new end) }
+    {
+        if self.reader.shift > 28 {
+            return Ok(self.reader.refuse());
         }
-        self.number |= u64::from(byte & 127) << self.shift;
+        let number = with_group(self.reader.number, self.reader.shift, byte);
         if byte >= 128 {
-            self.shift += 7;
+            self.reader.number = number;
+            self.reader.shift += 7;
             return Ok(LineEnd::Within);
         }
-        let code = self.number;
-        self.number = 0;
-        self.shift = 0;
-        if code == 0 {
-            self.awaited = Awaited::Mark;
-            self.is_line_over = true;
-            return Ok(self.end_clause());
-        }
-        self.push_code(code)
+        self.end_code(number)
     }
 
-    fn take_first(&mut self, byte: u8) -> LineEnd {
-        match byte {
-            b'a' => self.take_mark(byte),
-            b'd' => {
-                self.is_deletion = true;
-                self.awaited = Awaited::FirstDeletion;
-                LineEnd::Within
-            }
-            _ => self.take_blank(byte),
-        }
-    }
-
-    fn take_behind_deletion(&mut self, byte: u8) -> Result<LineEnd, AllocError> {
+    fn in_first_deletion(&mut self, byte: u8) -> Result<LineEnd, AllocError>
+        ensures { IfOk result (λ end.
+            Goes self.old (in_first_deletion self.old.reader byte) self.new end) }
+    {
         if byte == b' ' {
-            self.awaited = Awaited::FirstNumber;
+            self.reader.spot = Spot::FirstNumber;
             return Ok(LineEnd::Within);
         }
-        self.awaited = Awaited::Code;
-        self.take_code(byte)
+        self.reader.begin_codes();
+        self.in_code(byte)
+    }
+
+    /// Takes a byte that is not to be held.
+    #[inline(always)]
+    fn take_plain(&mut self, byte: u8) -> Result<LineEnd, AllocError>
+        ensures { IfOk result (λ end. Goes self.old (move self.old.reader byte) self.new end) }
+    {
+        match self.reader.spot {
+            Spot::Code => self.in_code(byte),
+            Spot::Mark => Ok(self.reader.in_mark(byte)),
+            Spot::Number => self.in_number(byte),
+            Spot::Blank => Ok(self.reader.in_blank(byte)),
+            Spot::Minus => Ok(self.reader.in_minus(byte)),
+            Spot::LineStart => Ok(self.reader.in_line_start(byte)),
+            Spot::Comment => Ok(self.reader.in_comment(byte)),
+            Spot::First => Ok(self.reader.in_first(byte)),
+            Spot::FirstDeletion => self.in_first_deletion(byte),
+            Spot::FirstNumber => Ok(LineEnd::Within),
+            Spot::Wrong => Ok(self.reader.refuse()),
+        }
+    }
+
+    /// Takes the bytes that were held.
+    fn take_held(&mut self) -> Result<(), AllocError>
+        ensures { OnOk result (reading_of self.new
+            ≡ fold after (reading_of self.old) (reading_of self.old).held) }
+    {
+        for k in 0..self.held.len() {
+            let byte = self.held[k];
+            self.take_plain(byte)?;
+        }
+        Ok(())
     }
 
     /// The bytes that were held are of a text.
-    fn take_held_text(&mut self) -> Result<(), AllocError> {
-        self.awaited = Awaited::Blank;
-        for byte in self.held.into_iter().take(self.count) {
-            self.take_byte(byte)?;
-        }
-        Ok(())
+    fn take_held_text(&mut self) -> Result<(), AllocError>
+        ensures { OnOk result (reading_of self.new ≡ held_text (reading_of self.old)) }
+    {
+        self.reader.spot = Spot::Blank;
+        self.take_held()
     }
 
     /// The bytes that were held are codes, and so is the space before them.
-    fn take_held_codes(&mut self) -> Result<(), AllocError> {
-        self.awaited = Awaited::Code;
-        self.take_byte(b' ')?;
-        for byte in self.held.into_iter().take(self.count) {
-            self.take_byte(byte)?;
-        }
-        Ok(())
+    fn take_held_codes(&mut self) -> Result<(), AllocError>
+        ensures { OnOk result (reading_of self.new ≡ held_codes (reading_of self.old)) }
+    {
+        self.reader.begin_codes();
+        self.take_plain(b' ')?;
+        self.take_held()
+    }
+
+    fn may_be_held(&self, byte: u8) -> bool
+        ensures { result ≡ may_be_held (reading_of self.now) byte }
+    {
+        (byte == b'-' || is_digit(byte)) && self.held.len() < MOST_HELD
     }
 
     /// A space is a code too, which no clause has twice. So after `d` and a space the next space
     /// shows a text, and any byte that is of no number shows codes.
-    fn take_first_number(&mut self, byte: u8) -> Result<LineEnd, AllocError> {
-        let is_of_number = byte == b'-' || byte.is_ascii_digit();
-        if is_of_number && self.count < MOST_HELD {
-            self.held[self.count] = byte;
-            self.count += 1;
+    fn take_in_first_number(&mut self, byte: u8) -> Result<LineEnd, AllocError>
+        ensures { IfOk result (λ end. in_first_number (reading_of self.old) byte
+            ≡ record { reading = reading_of self.new; end = end }) }
+    {
+        if self.may_be_held(byte) {
+            self.held.push(byte)?;
             return Ok(LineEnd::Within);
         }
         if byte == b' ' {
             self.take_held_text()?;
-        } else {
-            self.take_held_codes()?;
+            return self.take_plain(byte);
         }
-        self.take_byte(byte)
-    }
-
-    #[inline(always)]
-    fn take_byte(&mut self, byte: u8) -> Result<LineEnd, AllocError> {
-        match self.awaited {
-            Awaited::Code => self.take_code(byte),
-            Awaited::Mark => Ok(self.take_mark(byte)),
-            Awaited::Number => self.take_in_number(byte),
-            Awaited::Blank => Ok(self.take_blank(byte)),
-            Awaited::Digit => Ok(self.take_digit(byte)),
-            Awaited::Comment => Ok(self.take_in_comment(byte)),
-            _ => Ok(LineEnd::Bad),
-        }
+        self.take_held_codes()?;
+        self.take_plain(byte)
     }
 
     /// Takes a byte.
     #[inline(always)]
-    pub(crate) fn take(&mut self, byte: u8) -> Result<LineEnd, AllocError> {
-        if self.is_line_over {
-            self.line = self.line.saturating_add(1);
-            self.is_line_over = false;
-        }
-        match self.awaited {
-            Awaited::First => Ok(self.take_first(byte)),
-            Awaited::FirstDeletion => self.take_behind_deletion(byte),
-            Awaited::FirstNumber => self.take_first_number(byte),
-            _ => self.take_byte(byte),
+    pub(crate) fn take(&mut self, byte: u8) -> Result<LineEnd, AllocError>
+        ensures { IfOk result (λ end. next (reading_of self.old) byte
+            ≡ record { reading = reading_of self.new; end = end }) }
+    {
+        match self.reader.spot {
+            Spot::FirstNumber => self.take_in_first_number(byte),
+            _ => self.take_plain(byte),
         }
     }
 }

@@ -3,8 +3,8 @@ use Rattle.std.proofs.Common.{◌≡◌, ◌<◌, ◌∷◌, ◌∙◌, ℕ, Lis
 use Rattle.std.proofs.Common.{Result, Ok, Err, OnErr, OnOk, refl, sym, ap, arith}
 use lib.Seq.{take-length}
 use Rattle.aig_io.specs.Devices.{History, TookBeginning, took, unused}
-use Rattle.aig_io.specs.Files.{End, Files, Left, NotKept, NotMade, NotOpened, ReadFailed, Whole, WriteFailed, Written}
-use Rattle.aig_io.specs.Files.{used}
+use Rattle.aig_io.specs.Files.{End, Files, Left, NotKept, NotMade, NotOpened, ReadFailed, Synced, Whole, WriteFailed}
+use Rattle.aig_io.specs.Files.{Written, end_of_close, used}
 use Rattle.aig_io.specs.Runs.{All, AtEnd, Beginning, Broken, Ending, IsCut, Open, Read, Transferred}
 use Rattle.aig_io.specs.Runs.{Delivery, Sent, came}
 use Rattle.aig_io.proofs.Runs.{read_weaker}
@@ -14,21 +14,20 @@ use Rattle.aig_tools.specs.Worlds.{with_use, world}
 
 -- a file was used once more
 used_is : (name : List ℕ) (lender : ℕ) (files files_now : Files) (history : History) (end : End) → files.current ≡ None
-    → history.origin ≡ named lender name files.uses → files_now ≡ used_as end history
+    → history.origin ≡ named lender name files → files_now ≡ used_as end history
     → files_now ≡ with_use name history.bytes end files
 used_is name lender files files_now history end idle of_it is =
-    is ∙ (rw of_it (ap (λ c. record { uses = used name history.bytes end ∷ files.uses; current = c }) (sym idle)))
+    is ∙ (rw of_it (ap (λ c. record files { uses = used name history.bytes end ∷ files.uses; current = c }) (sym idle)))
 
 module _ (name : List ℕ) (lender : ℕ) (files files_now : Files) (history : History) (idle : files.current ≡ None)
     (shown : IsShown false Left history files_now) where
   -- the files show what came of a file with this name
-  read_as : (bytes : List ℕ) (ending : Ending) → history ≡ came bytes ending (unused (named lender name files.uses))
+  read_as : (bytes : List ℕ) (ending : Ending) → history ≡ came bytes ending (unused (named lender name files))
       → IsReadAs name bytes ending files files_now
   read_as bytes AtEnd is =
       rw is at (used_is name lender files files_now history Whole idle (rw is refl) (shown.whole (rw is (omega arith))))
   read_as [] Open is =
-      rw is at (shown.untouched (rw is refl) (rw is refl) (rw is refl))
-      ∙ ap (λ c. record { uses = files.uses; current = c }) (sym idle)
+      shown.untouched (rw is refl) (rw is refl) (rw is refl) ∙ ap (λ (p : History). p.origin.before) is
   read_as (byte ∷ bytes) Open is =
       rw is at (used_is name lender files files_now history Left idle (rw is refl)
       (shown.used (rw is refl) (rw is refl) (rw is (omega arith))))
@@ -51,7 +50,7 @@ module _ (Says : List ℕ → Ending → Type 0) (source : Option (List ℕ)) (f
   }
 
   pub of_file : (name : List ℕ) (lender : ℕ) (files_now : Files) (opened history : History) → source ≡ Some name
-      → opened ≡ unused (named lender name files.uses) → files.current ≡ None → IsShown false Left history files_now
+      → opened ≡ unused (named lender name files) → files.current ≡ None → IsShown false Left history files_now
       → Read Says opened history
       → ReadIn Says source (world files input output errors) (world files_now input output errors)
   of_file name lender files_now opened history some new idle shown read = record {
@@ -95,7 +94,7 @@ module _ (Says : List ℕ → Ending → List ℕ → Delivery → Type 0) (sour
 
   pub transferred_of_file : (name : List ℕ) (lender : ℕ) (files_now : Files) (opened history : History)
       → source ≡ Some name
-      → opened ≡ unused (named lender name files.uses) → files.current ≡ None → IsShown false Left history files_now
+      → opened ≡ unused (named lender name files) → files.current ≡ None → IsShown false Left history files_now
       → Transferred Says opened history output output_now
       → TransferredBetween Says source None (world files input output errors) (world files_now input output_now errors)
   transferred_of_file name lender files_now opened history some new idle shown transferred = (
@@ -113,6 +112,7 @@ write_end text bytes NotMade failure = failure
 write_end text bytes WriteFailed failure = failure
 write_end text bytes Whole failure = failure
 write_end text bytes Written failure = failure
+write_end text bytes Synced failure = failure
 write_end text bytes NotKept failure = absurd failure
 
 -- a text went to a destination that a request names
@@ -146,17 +146,17 @@ module _ (text : List ℕ) (destination : Option (List ℕ)) (files : Files) (in
   sent_so (Err fault) output_now none all part = sent_in_part output_now none part
 
   module _ (name : List ℕ) (lender : ℕ) (files_now : Files) (opened history : History) (end : End)
-      (some : destination ≡ Some name) (new : opened ≡ unused (named lender name files.uses))
+      (some : destination ≡ Some name) (new : opened ≡ unused (named lender name files))
       (idle : files.current ≡ None) (shown : IsShown true end history files_now) where
     -- all was written, and the file was closed so
     used_whole : history ≡ took text opened → 0 < length text → files_now ≡ with_use name text end files
     used_whole all long =
-        let is : history ≡ took text (unused (named lender name files.uses)) = rw new at all in
+        let is : history ≡ took text (unused (named lender name files)) = rw new at all in
         let bytes : history.bytes ≡ text = ap (λ (p : History). p.bytes) is in
         rw bytes at (used_is name lender files files_now history end idle (rw is refl)
         (shown.used (rw is refl) (rw is refl) (rw bytes long)))
 
-    pub file_whole : history ≡ took text opened → 0 < length text → end ≡ Written
+    pub file_whole : history ≡ took text opened → 0 < length text → end ≡ end_of_close files
         → SentIn (λ t delivery. (t ≡ text) × (delivery ≡ All)) destination (world files input output errors)
         (world files_now input output errors)
     file_whole all long closed = record {

@@ -1,7 +1,8 @@
 -- How a job ends over files and streams, and a call of the program (this project's profile).
-use Rattle.std.specs.Prelude.{◌≡◌, ℕ, List, Option, None, Some, Result, Ok, Err}
+use Rattle.std.specs.Prelude.{◌≡◌, ℕ, Bool, true, false, List, Option, None, Some, Result, Ok, Err}
 use Rattle.aig_circuit.specs.declared.circuit.Circuit.{Circuit}
 use Rattle.aig_command.specs.Answer.{IsCommand, IsUsage, name_of}
+use Rattle.aig_command.specs.Asked.{asks_sync}
 use Rattle.aig_command.specs.declared.request.CommandLine.{CommandLine}
 use Rattle.aig_command.specs.declared.request.Names.{Names}
 use Rattle.aig_command.specs.declared.usage.Usage.{Usage}
@@ -16,6 +17,7 @@ use Rattle.aig_commands.specs.declared.job.Part.TheVariants.{File, Model}
 use Rattle.aig_commands.specs.declared.job.Reading.{Reading}
 use Rattle.aig_commands.specs.declared.task.Task.{Task}
 use Rattle.aig_fault.specs.declared.stopped.Stopped.{Stopped}
+use Rattle.aig_io.specs.Files.{with_sync}
 use Rattle.aig_witness.specs.declared.verdict.Verdict.{Verdict}
 use Rattle.aig_witness.specs.declared.verdict.Verdict.TheVariants.{Confirmed, NotConfirmed}
 use Rattle.aig_tools.specs.Lines.{IsReported, name_at, stop_line, usage_text}
@@ -68,12 +70,19 @@ status_of usage = 2
 
 -- what is answered to the words
 abbrev pub IsAnswered : List (List ℕ) → Result CommandLine Usage → Type 0
-IsAnswered words (Ok line) = IsCommand words line.names line.command
+IsAnswered words (Ok line) = IsCommand words line.names line.command × (line.sync ≡ asks_sync words)
 IsAnswered words (Err usage) = IsUsage words usage
 
--- how the program ends, by that: its job does; or the words are refused, which is reported, and nothing else was done
+-- what a program can reach, where what it writes is synced if that is asked for
+abbrev pub with_sync_if : Bool → World → World
+with_sync_if true before = record before { files = with_sync before.files }
+with_sync_if false before = before
+
+-- How the program ends, by that: its job does, and the destination is synced where the words ask for that; or the words
+-- are refused, which is reported, and nothing else was done.
 abbrev pub EndsAs : Result CommandLine Usage → (before after : World) → ℕ → Type 0
-EndsAs (Ok line) before after status = Ends line.names (job_of line.command) before after status
+EndsAs (Ok line) before after status =
+    Ends line.names (job_of line.command) (with_sync_if line.sync before) after status
 EndsAs (Err usage) before after status = (status ≡ status_of usage) × IsReportedIn (usage_text usage) before after
 
 -- the program answers the words, and ends so

@@ -2,7 +2,7 @@
 -- is a stream, or a file with its name (this project's profile).
 use Rattle.std.specs.Prelude.{◌≡◌, ◌∷◌, ℕ, List, [], take, Option, None, Some, Result, Ok, Err, false, true}
 use Rattle.aig_io.specs.Devices.{History}
-use Rattle.aig_io.specs.Files.{End, Files, Left, NotKept, Whole, Written, used}
+use Rattle.aig_io.specs.Files.{End, Files, Left, NotKept, Whole, end_of_close, used}
 use Rattle.aig_io.specs.Runs.{All, AtEnd, Beginning, Broken, Delivery, Ending, IsCut, NotSent, Open, came, sent}
 use Rattle.aig_files.specs.Named.{IsFailure}
 
@@ -39,10 +39,11 @@ abbrev pub IsWriteEnd : List ℕ → List ℕ → End → Type 0
 IsWriteEnd text bytes NotKept = bytes ≡ text
 IsWriteEnd text bytes end = IsFailure true bytes end
 
--- the file with this name took so much of this text; it is made for the first byte
+-- The file with this name took so much of this text. It is made for the first byte; one that took all is synced if
+-- that was asked of the files.
 abbrev pub IsWrittenAs : List ℕ → List ℕ → Delivery → (files files_now : Files) → Type 0
 IsWrittenAs name text NotSent files files_now = files_now ≡ files
-IsWrittenAs name text All files files_now = files_now ≡ with_use name text Written files
+IsWrittenAs name text All files files_now = files_now ≡ with_use name text (end_of_close files) files
 IsWrittenAs name text (Beginning count) files files_now =
     (end : End) × IsWriteEnd text (take count text) end × (files_now ≡ with_use name (take count text) end files)
 

@@ -2,7 +2,7 @@
 ghost use Rattle.std.specs.Prelude.{◌≡◌, ◌≤◌, None};
 ghost use Rattle.aig_command.specs.Answer.{texts};
 ghost use Rattle.aig_commands.specs.Jobs.{CanDo};
-ghost use Rattle.aig_tools.specs.Ends.{Ends, ProgramEnds, status_of};
+ghost use Rattle.aig_tools.specs.Ends.{Ends, ProgramEnds, status_of, with_sync_if};
 ghost use Rattle.aig_tools.specs.Lines.{IsReported, memory_line, name_at, usage_text, words_line};
 ghost use Rattle.aig_tools.specs.SimulationOutcome.{without_verdict};
 ghost use Rattle.aig_tools.specs.Worlds.{IsIdle};
@@ -71,6 +71,20 @@ fn refuse<E: Sink>(errors: &mut E, usage: &Usage) -> u8
     }
 }
 
+/// What is written from now on is synced, if that is asked for.
+fn ask_for_sync<A: FileAccess, R: Source, W: Sink, E: Sink>(
+    world: &mut World<A, R, W, E>,
+    is_asked: bool,
+)
+    requires { IsIdle world.old }
+    ensures idle { IsIdle world.new }
+    ensures asked { world.new ≡ with_sync_if is_asked world.old }
+{
+    if is_asked {
+        world.files.sync_before_close();
+    }
+}
+
 /// Does what the arguments ask for, the program's name first, over the three streams and the files
 /// that they name, and answers the status: 0 done; 1 refused input, a witness that is not
 /// confirmed, a device that failed or out of memory; 2 refused words. An error is reported on the
@@ -93,9 +107,7 @@ pub fn serve<A: FileAccess, R: Source, W: Sink, E: Sink>(
                 sync,
             },
         ) => {
-            if sync {
-                world.files.sync_before_close();
-            }
+            ask_for_sync(world, sync);
             run(alloc, &names, Job::of_command(command), world)
         }
         Err(usage) => {

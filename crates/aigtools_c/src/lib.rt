@@ -106,7 +106,7 @@ pub extern "C" fn aigtools_refute(
     outcome: &mut Outcome,
 ) -> u32
     ensures status { result ≡ outcome.new.status }
-    ensures answers { RefuteAnswers bad frames max_var model.now outcome.new }
+    ensures answers { RefuteAnswers bad frames max_var model.now refutation.now outcome.new }
 {
     *outcome = refute(alloc, bad, frames, max_var, model, refutation);
     outcome.status
@@ -143,7 +143,8 @@ pub extern "C" fn aigtools_never(
     outcome: &mut Outcome,
 ) -> u32
     ensures status { result ≡ outcome.new.status }
-    ensures answers { NeverAnswers bad max_var model.now invariant.now outcome.new }
+    ensures answers { NeverAnswers bad max_var model.now invariant.now refutation.now
+        outcome.new }
 {
     *outcome = never(alloc, bad, max_var, model, invariant, refutation);
     outcome.status

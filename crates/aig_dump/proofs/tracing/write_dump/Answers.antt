@@ -13,5 +13,5 @@ returns-clause-transferred g c =
     dumped c.args.batch c.args.found.now c.new-wave.result c.trace_into-ran.new.output _ end c.trace_into-ran.result
     c.is_ok.result (c.new-wave.ensures.layout ∙ c.in-Ok.ensures) c.new-wave.ensures.output refl refl
     c.new-wave.ensures.begun c.is_ok.ensures.value c.finish-sent.ensures.put refl sent c.outcome_of_dump.result
-    c.is_err.result _ _ _ refl c.finish-sent.ensures.reported c.is_err.ensures.value c.outcome_of_dump.ensures c.trace_into-ran.ensures
-    (search rules)
+    c.is_err.result _ _ _ refl c.finish-sent.ensures.reported c.is_err.ensures.value c.outcome_of_dump.ensures
+    c.trace_into-ran.ensures (search rules)

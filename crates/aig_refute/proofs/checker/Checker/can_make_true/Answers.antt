@@ -6,5 +6,5 @@ pub returns-in_ok-do_follow-in-Some-clause-made : goal.returns-in_ok-do_follow-i
 returns-in_ok-do_follow-in-Some-clause-made c = λ so a admits none.
     let was : c.resolvents.result ≡ Ok (Some c.in-Some.joined) = cc (c.in_ok-joined.was, c.in-Some.is) in
     let each = rw c.deref.ensures.value at (c.in_ok-do_follow-in-Some.ensures.follow so a admits) in
-    c.in_ok-do_follow-in-Some.ensures.agrees (made_true c.args.pivot a)
+    c.in_ok-do_follow-in-Some.ensures.preserves.admits (made_true c.args.pivot a)
     (c.resolvents.ensures c.in-Some.joined was a none each admits)

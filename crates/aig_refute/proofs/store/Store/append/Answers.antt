@@ -1,8 +1,9 @@
-use Rattle.std.proofs.Common.{rules, ◌≡◌, ◌++◌, [], ◌∷◌, List, ℕ}
+use Rattle.std.proofs.Common.{rules, ◌≡◌, ◌+◌, ◌++◌, [], ◌∷◌, List, ℕ, inl, length}
 use Rattle.std.specs.Result.{is_ok}
 use Rattle.aig_refute.specs.declared.words.TheConstants.{END}
 use Rattle.aig_refute.proofs.Changes.{holds_appended}
 use Rattle.aig_refute.proofs.Spans.{spanned_maybe, spanned_open, spanned_push}
+use Rattle.aig_refute.proofs.Stored.{stands_before, stands_last, stored_from}
 use Rattle.aig_refute.proofs.store.Store.append.Goals as goal
 
 pub invariant_of-self-2 : goal.invariant_of-self-2
@@ -19,8 +20,29 @@ invariant_of-self-2 c =
           c.requires.noted self.spanned);
     }
 
-pub returns : goal.returns
-returns c = λ a holds has.
+pub returns-clause-holds : goal.returns-clause-holds
+returns-clause-holds c = λ a holds has.
     let is : c.push.new.self.items ≡ (c.args.self.now.words.items ++ c.args.clause.now) ++ END ∷ [] = search rules in
     holds_appended a c.args.self.now.words.items c.args.clause.now c.push.new.self.items holds has
     c.requires.literals is
+
+pub returns-clause-stored : goal.returns-clause-stored
+returns-clause-stored c = λ other stored.
+    let words : List ℕ = c.args.self.now.words.items in
+    let is : c.push.new.self.items ≡ (words ++ c.args.clause.now) ++ END ∷ [] = search rules in
+    stored_from words c.push.new.self.items other
+    (λ e stands. inl (
+      e,
+      stands_before words c.args.clause.now c.push.new.self.items
+          c.requires.literals is other e stands,
+    ))
+    stored
+
+pub returns-clause-pushed : goal.returns-clause-pushed
+returns-clause-pushed c =
+    let words : List ℕ = c.args.self.now.words.items in
+    let is : c.push.new.self.items ≡ (words ++ c.args.clause.now) ++ END ∷ [] = search rules in
+    inl (
+      length words + length c.args.clause.now,
+      stands_last words c.args.clause.now c.push.new.self.items c.requires.literals is c.requires.start,
+    )

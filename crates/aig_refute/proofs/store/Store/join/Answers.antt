@@ -11,7 +11,7 @@ pub returns-then-not-contains-clause-safe : goal.returns-then-not-contains-claus
 returns-then-not-contains-clause-safe c = λ a none all e low high ends.
     let words : List ℕ = c.args.self.now.words.items in
     let is : IsClause words c.args.at c.in-Some.end =
-    subst (λ (w : List ℕ). IsClause w c.args.at c.in-Some.end) c.deref.ensures.value c.in-Some.ensures in
+    subst (λ (w : List ℕ). IsClause w c.args.at c.in-Some.end) c.deref.ensures.value c.in-Some.ensures.some in
     let apart = rw (c.deref-2.ensures.value, c.negation.ensures) at (c.contains.ensures c.if-not-contains.true) in
     safe_within a c.args.pivot words c.args.at c.in-Some.end is
     (safe_clause a c.args.pivot words c.args.at c.in-Some.end is apart) e low high ends
@@ -26,7 +26,7 @@ pub returns-clause-safe : goal.returns-clause-safe
 returns-clause-safe c = λ a none all e low high ends.
     let words : List ℕ = c.args.self.now.words.items in
     let is : IsClause words c.args.at c.in-Some.end =
-    subst (λ (w : List ℕ). IsClause w c.args.at c.in-Some.end) c.deref.ensures.value c.in-Some.ensures in
+    subst (λ (w : List ℕ). IsClause w c.args.at c.in-Some.end) c.deref.ensures.value c.in-Some.ensures.some in
     let items : c.push.new.self.items ≡ c.args.joined.now.items ++ c.in_ok-resolvent.field-0 ∷ [] = search rules in
     let last : HasTrue a c.in_ok-resolvent.field-0.items =
     (All-pop (λ (v : Vec ℕ Global). HasTrue a v.items) c.push.new.self.items c.args.joined.now.items

@@ -1,6 +1,8 @@
-use Rattle.std.proofs.Common.{◌≡◌, List, arith, length, subst, sym, ℕ}
+use Rattle.std.proofs.Common.{◌≡◌, List, arith, inl, length, subst, sym, ℕ}
 use Rattle.aig_refute.specs.Extended.{AreSpanned}
+use Rattle.aig_refute.specs.Kept.{IsStored}
 use Rattle.aig_refute.proofs.Spans.{all_written}
+use Rattle.aig_refute.proofs.Stored.{stored_from}
 use Rattle.aig_refute.proofs.store.Store.swap.Goals as goal
 
 pub invariant_of-self : goal.invariant_of-self
@@ -15,3 +17,12 @@ invariant_of-self c =
           (subst (λ (w : List ℕ). AreSpanned self.base w self.firsts.items self.lasts.items)
           (sym c.deref_mut.ensures.value) self.spanned));
     }
+
+pub returns-clause-stored : goal.returns-clause-stored
+returns-clause-stored c = λ clause stored.
+    let self = c.args.self.now in
+    let new : List ℕ = c.swap_literals.new.words in
+    let len : self.words.len ≡ length new = omega (arith, c.swap_literals.ensures.len, c.deref_mut.ensures.len) in
+    subst (λ (w : List ℕ). IsStored w clause) (sym (all_written new self.words.items self.words.len len))
+    (stored_from c.deref_mut.result.now new clause (λ e stands. inl (e, c.swap_literals.ensures.stands clause e stands))
+    (subst (λ (w : List ℕ). IsStored w clause) (sym c.deref_mut.ensures.value) stored))

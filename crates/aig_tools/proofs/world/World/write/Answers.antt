@@ -9,7 +9,8 @@ pub returns-in_err-sent-in-Some-clause-sent : goal.returns-in_err-sent-in-Some-c
 returns-in_err-sent-in-Some-clause-sent g c =
     let h = err_from_is_err_and c.from_residual.result c.from_residual.ensures.1 in
     rw (h.1, ← c.self.view_is) (file_in_part _ _ _ _ _ _ _ _ _ c.new-file.result c.write-sent.new.sink
-    (closing c.finish-closed.result.0) (ap name_of c.in-Some.is) (rw c.as_str.ensures.value at c.new-file.ensures)
+    (closing c.write-sent.new.sink.origin.before c.finish-closed.result.0) (ap name_of c.in-Some.is)
+    (rw c.as_str.ensures.value at c.new-file.ensures)
     (rw (← c.self.view_is) at c.requires.ready) (search rules) c.in_err-sent-in-Some.ensures.err)
 
 pub returns-in_err-closed-in-Some-clause-sent : goal.returns-in_err-closed-in-Some-clause-sent
@@ -17,7 +18,8 @@ returns-in_err-closed-in-Some-clause-sent g c =
     let h =
     err_from_is_err_and c.from_residual-in_err-closed-in-Some.result c.from_residual-in_err-closed-in-Some.ensures.1 in
     rw (h.1, ← c.self.view_is) (file_not_kept _ _ _ _ _ _ _ _ _ c.new-file.result c.write-sent.new.sink
-    (closing c.finish-closed.result.0) (ap name_of c.in-Some.is) (rw c.as_str.ensures.value at c.new-file.ensures)
+    (closing c.write-sent.new.sink.origin.before c.finish-closed.result.0) (ap name_of c.in-Some.is)
+    (rw c.as_str.ensures.value at c.new-file.ensures)
     (rw (← c.self.view_is) at c.requires.ready) (search rules) c.in_ok-sent-in-Some.ensures.ok c.requires.some
     (search rules))
 
