@@ -70,6 +70,7 @@ compressed output is not supported
 --answer excludes --cnf and --ascii
 --refutation excludes --cnf, --ascii and --answer
 --bad needs --cnf, --answer or --refutation
+--lrat needs --refutation
 model and answer are both standard input
 model and refutation are both standard input
 --frames or --invariant is needed

@@ -8,6 +8,9 @@ text or binary, with deletions, and mostly spoiled: cut, with a line left out, m
 turned, a number changed; or it is that of other frames, or of another bad state. Where clauses can be satisfied, what comes of
 the inputs that were tried is given as a forged one. In half of them other lines bring in variables, as in new_variables.py. The
 program must say what the checker says. Where that finds them refuted, trying all inputs must find no assignment.
+
+A third of them is in LRAT: with all clauses as hints, with some of them, with wrong ones or with none, and with numbers as
+solvers give them, or any. What is said must be as without hints and deletions.
 """
 import collections
 import random
@@ -24,6 +27,8 @@ BLANKS = re.compile(rb"[ \r\n]*")
 COMMENT = re.compile(rb"c[^\n]*")
 NUMBER = re.compile(rb"(?:-[1-9][0-9]*|[0-9]+)(?=[ \r\n]|\Z)")
 BAD = "bad"
+# the parts of a line of LRAT: its number, literals, hints, or numbers of clauses that are deleted
+OWN, LITERALS, HINTS, GONE = "own", "literals", "hints", "gone"
 BITS = [1 << at for at in range(8)]
 # a number in a binary refutation, and what begins as one
 CODE, BEGUN = re.compile(rb"[\x80-\xff]{0,4}[\0-\x7f]"), re.compile(rb"[\x80-\xff]{0,4}\Z")
@@ -174,16 +179,47 @@ def lines_of_binary(proof, largest):
             return
 
 
+def lines_of_lrat(proof, largest):
+    """The lines of an LRAT text that add a clause, likewise. Hints and deletions are passed over."""
+    at, clause, part = 0, [], OWN
+    while True:
+        at = BLANKS.match(proof, at).end()
+        line = proof.count(b"\n", 0, at) + 1
+        if at == len(proof) or proof[at:] == b"-":
+            return
+        number, comment = NUMBER.match(proof, at), COMMENT.match(proof, at)
+        digits, is_negative = number[0].lstrip(b"-0") if number else None, proof[at : at + 1] == b"-"
+        if not number and part == OWN and comment:
+            at = comment.end()
+        elif part == LITERALS and not clause and proof[at : at + 1] == b"d":
+            at, part = at + 1, GONE
+        elif not number or is_negative and part in (OWN, GONE) or part == OWN and not digits:
+            yield BAD, [], line
+            return
+        elif part == LITERALS and digits and (len(digits) > 10 or int(digits) > largest + line):
+            yield BAD, [], line
+            return
+        else:
+            at = number.end()
+            if part == LITERALS and digits:
+                clause.append(int(number[0]))
+            elif part == HINTS and not digits:
+                yield ADDED, clause, line
+                clause = []
+            if part == OWN or not digits:
+                part = {OWN: LITERALS, LITERALS: HINTS, HINTS: OWN, GONE: OWN}[part]
+
+
 def lines(proof, largest):
     if re.fullmatch(rb"d [-0-9]{0,11}", proof):
         return iter(())  # cut where a text and codes still look alike
     return (lines_of_text if is_text(proof) else lines_of_binary)(proof, largest)
 
 
-def why_not(clauses, largest, proof):
+def why_not(clauses, largest, proof, is_lrat=False):
     """Why a text does not show that the clauses cannot be satisfied, if it does not."""
     checker = Checker(clauses, largest)
-    found = iter(() if checker.is_refuted else lines(proof, largest))
+    found = iter(() if checker.is_refuted else (lines_of_lrat if is_lrat else lines)(proof, largest))
     for how, clause, line in found:
         if how == BAD:
             return f"line {line}: bad line"
@@ -204,10 +240,10 @@ def read_clauses(text):
     return int(head.split()[2]), [[int(it) for it in line.split()[:-1]] for line in rest]
 
 
-def wanted(made, frames, bad, name, proof):
+def wanted(made, frames, bad, name, proof, is_lrat=False):
     """Standard output, standard error and the status for this refutation, of a model that has clauses."""
     largest, clauses = read_clauses(answers.clauses(answers.asked(made, bad), frames))
-    why = why_not(clauses, largest, proof)
+    why = why_not(clauses, largest, proof, is_lrat)
     return answers.fault(name, why) if why else (f"none within {frames}\n".encode(), b"", 0)
 
 
@@ -331,6 +367,38 @@ def spelled_text(chance, found):
     return text if chance.randrange(4) else text.removesuffix(b"\n")
 
 
+def hints(chance, count, newest):
+    """Numbers of clauses: all of them, in order or not, some, or such as no clause has."""
+    which, numbers = chance.randrange(5), range(1, newest + 1)
+    if which < 2:
+        return [*numbers, *numbers, *numbers] if which else chance.sample(numbers, len(numbers))
+    if which == 2:
+        return []
+    found = [chance.choice(numbers) for _ in range(chance.randrange(9))]
+    odd = [0x7FFFFFFF, 1 << 32, 10**18, newest + 1, count + 1, -chance.choice(numbers)]
+    return [*found, chance.choice(odd), *found] if which == 3 else found
+
+
+def spelled_lrat(chance, count, found):
+    """The lines as a text in LRAT, beside so many clauses. Mostly numbers are as solvers give them."""
+    parts, end = [], chance.choice([b"\n", b"\n", b"\r\n"])
+    space, newest, is_odd = chance.choice([b" ", b" ", b"  ", b"\n"]), count, not chance.randrange(6)
+    for how, clause in found:
+        if not chance.randrange(10):
+            parts += [chance.choice([b"c", b"c a 1 0\0\xff", b"", b" "]), b"\n"]
+        numbers = hints(chance, count, newest)
+        if how == ADDED:
+            newest += 1
+            words = [newest, *clause, 0, *numbers]
+        else:
+            words = [newest, "d", *map(abs, numbers)]
+        if is_odd:
+            words[0] = chance.choice([1, count, newest + chance.randrange(9), 0xFFFFFFFF, 10**18, max(1, count - newest + 99)])
+        parts += [space.join(str(it).encode() for it in [*words, 0]), end]
+    text = b"".join(parts)
+    return text if chance.randrange(4) else text.removesuffix(b"\n")
+
+
 def spoiled(chance, largest, found):
     """The lines, with one of them not as it was."""
     if not found:
@@ -362,14 +430,17 @@ def turned(chance, proof):
     return proof[:at] + bytes([proof[at] ^ chance.choice(BITS)]) + proof[at + 1 :]
 
 
-def given(chance, largest, clauses, lemmas):
+def given(chance, largest, clauses, lemmas, is_lrat=False):
     """The text of a refutation, or of what is nearly one."""
     found, which = with_deletions(chance, clauses, lemmas), chance.randrange(8)
     if chance.randrange(2):
         found = with_new_variables(chance, Checker(clauses, largest), clauses, found)
     if which < 3:
         found = spoiled(chance, largest, found)
-    proof = spelled_binary(found) if chance.randrange(2) else spelled_text(chance, found)
+    if is_lrat:
+        proof = spelled_lrat(chance, len(clauses), found)
+    else:
+        proof = spelled_binary(found) if chance.randrange(2) else spelled_text(chance, found)
     if which == 3:
         return turned(chance, proof)
     return proof[: chance.randrange(len(proof) + 1)] if which == 4 else proof
@@ -381,9 +452,10 @@ def judge(program, folder, at):
     made = circuit(chance)
     frames, bad = chance.randrange(1, unrolled.FRAMES + 1), chance.choice([None, chance.randrange(max(1, len(made.bad)))])
     why, is_unsatisfiable, proof = answers.refusal(made, bad), None, chance.choice([b"", b"0\n", b"a\0"])
+    is_lrat = not chance.randrange(3)
     if not why:
         frames, largest, clauses, is_unsatisfiable, lemmas = searched(made, frames, bad)
-        proof = given(chance, largest, clauses, lemmas)
+        proof = given(chance, largest, clauses, lemmas, is_lrat)
         if not chance.randrange(8):
             frames, _, _, is_unsatisfiable, _ = searched(made, chance.randrange(1, unrolled.FRAMES + 1), bad)
     source = images.ascii_text(made)
@@ -391,11 +463,11 @@ def judge(program, folder, at):
     model.write_bytes(traces.converted(program, source, *chance.choice([[], ["--keep-map"]])))
     file.write_bytes(proof)
     named = ("-", file), (model, "-")
-    wants = [answers.fault(name, why) if why else wanted(made, frames, bad, it, proof) for name, it in named]
-    said = None
+    wants = [answers.fault(name, why) if why else wanted(made, frames, bad, it, proof, is_lrat) for name, it in named]
+    said, words = None, [*answers.words_of(frames, bad), *["--lrat"] * is_lrat]
     for asks, to, come in (
-        ([*answers.words_of(frames, bad), "-", "--refutation", str(file)], source, wants[0]),
-        ([*answers.words_of(frames, bad), "--refutation", "-", str(model)], proof, wants[1]),
+        ([*words, "-", "--refutation", str(file)], source, wants[0]),
+        ([*words, "--refutation", "-", str(model)], proof, wants[1]),
     ):
         came = traces.ran(program, to, *asks)
         if came != come:

@@ -128,6 +128,8 @@ rows_never() {
     proves 'an invariant of one latch' '1 1\n' '-8 0\n'
     model "$kept_out"
     proves 'an invariant that a constraint keeps' '1 1\n' '-8 0\n'
+    proves 'an invariant by LRAT' '1 1\n' '99 -8 0 0\n' --lrat
+    unproved 'an invariant by DRAT as LRAT' '1 1\n' '-8 0\n' 'line 1: bad line' --lrat
     model "$four"
     proves 'a model without latches' '' '3 0\n'
     model 'aag 0 0 0 0 0 1\n0\n'

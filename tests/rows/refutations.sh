@@ -17,6 +17,10 @@ rows_refutations() {
     rows_texts_of_refutations
     rows_binary_refutations
     rows_new_variables
+    rows_numbered_refutations
+    rows_forms_of_numbered_refutations
+    rows_bad_numbered_lines
+    rows_ends_of_numbered_refutations
     rows_bad_lines_of_texts
     rows_bad_lines_of_binaries
     rows_what_does_not_follow
@@ -120,6 +124,75 @@ rows_new_variables() {
     does_not_follow 'a new variable behind another number' 1 '-11 12 0\n'
     does_not_follow 'a new variable does not make others true' 2 '12 0\n-11 -12 0\n'
     open 'a new variable, and no more' '12 0\n'
+}
+
+refutes_lrat() { refutes "$1" 1 "$2" --lrat; }
+bad_lrat_at() { unrefuted "$1" 1 "$3" "line $2: bad line" --lrat; }
+
+# the clauses above are 1 to 26: 4 is 4 3 2, 7 is 5 3 -2, 10 is 6 -3 2, and 13 is 7 -3 -2
+rows_numbered_refutations() {
+    model "$four"
+    refutes_lrat 'a refutation in LRAT' '27 3 0 4 7 0\n28 0 27 10 13 0\n'
+    refutes_lrat 'LRAT as a solver writes it' '27 3 2 0 26 23 21 15 4 0\n27 d 4 0\n28 2 0 26 23 21 14 27 7 0\n'
+    refutes_lrat 'LRAT without hints' '27 3 0 0\n28 0 0\n'
+    refutes_lrat 'hints in another order' '27 3 0 7 4 0\n'
+    refutes_lrat 'hints that do not show it' '27 3 0 10 13 0\n'
+    refutes_lrat 'a hint that is missing' '27 3 0 7 0\n'
+    refutes_lrat 'a hint of a line' '27 2 3 0 4 0\n28 3 0 27 7 0\n'
+    refutes_lrat 'a hint of the line itself' '27 3 0 27 0\n'
+    refutes_lrat 'a hint of no clause' '27 3 0 99 4 7 0\n'
+    refutes_lrat 'negative hints' '27 3 0 -4 7 -99 0\n'
+    refutes_lrat 'hints of more than 32 bits' '27 3 0 4294967300 18446744073709551620 4 7 0\n'
+    refutes_lrat 'numbers of more than 32 bits' '4294967300 2 3 0 4 0\n18446744073709551620 3 0 27 7 0\n'
+    refutes_lrat 'the number of another clause' '4 3 0 4 7 0\n'
+    refutes_lrat 'the same number twice' '27 2 3 0 4 0\n27 3 0 27 7 0\n'
+    refutes_lrat 'numbers that go down' '99 2 3 0 4 0\n98 3 2 0 99 0\n1 3 0 98 7 0\n'
+    refutes_lrat 'numbers that are left out' '30 2 3 0 4 0\n40 3 2 0 30 0\n50 3 0 40 7 0\n'
+    refutes_lrat 'deletions in LRAT' '26 d 4 7 0\n27 2 3 0 4 0\n27 d 27 0\n28 3 0 27 7 0\n'
+    refutes_lrat 'a deletion in LRAT of nothing, and of what is not there' '26 d 0\n26 d 99 0\n27 3 0 0\n'
+    refutes_lrat 'a new variable in LRAT' '27 12 -2 -3 0 0\n28 -12 2 0 -27 0\n29 -12 3 0 -27 0\n30 3 0 4 7 0\n'
+    refutes_lrat 'lines in LRAT behind what refutes' '27 3 0 4 7 0\nx'
+    unrefuted 'a line of LRAT that does not follow' 1 '27 -9 0 4 7 0\n' 'line 1: does not follow' --lrat
+    unrefuted 'the end in LRAT that does not follow' 1 'c\n27 2 3 0 4 0\n28 0 4 7 10 13 0\n' 'line 3: does not follow' --lrat
+    unrefuted 'LRAT for two frames' 2 '27 3 0 4 7 0\n' 'line 1: does not follow' --lrat
+    unrefuted 'DRAT as LRAT' 1 '3 0\n0\n' 'line 2: does not follow' --lrat
+    unrefuted 'LRAT as DRAT' 1 '27 3 0 4 7 0\n' 'line 1: bad line'
+    model "$mixed"
+    refutes 'LRAT of one bad state' 1 '27 3 0 4 7 0\n' --bad 1 --lrat
+}
+
+rows_forms_of_numbered_refutations() {
+    model "$four"
+    refutes_lrat 'LRAT with CR LF' '27 2 3 0 4 0\r\n27 d 4 0\r\n28 3 0 4 7 0\r\n'
+    refutes_lrat 'LRAT without LF at its end' '27 3 0 4 7 0'
+    refutes_lrat 'comments and empty lines in LRAT' 'c\nc 27 0 x\0\xff\n\n \n\r\n27 3 0 4 7 0\nc\n'
+    refutes_lrat 'a comment behind a line of LRAT' '27 2 3 0 4 0 c x\n28 3 0 4 7 0 c\n'
+    refutes_lrat 'spaces around numbers of LRAT' '  27  3   0  4  7   0  \n'
+    refutes_lrat 'lines of LRAT in one line' '27 2 3 0 4 0 27 d 4 0 28 3 0 4 7 0'
+    refutes_lrat 'a line of LRAT in many lines' '27\n2\n3\n0\n4\n0\n27\nd\n4\n0\n28\n3\n0\n4\n7\n0\n'
+    refutes_lrat 'leading zeros in LRAT' '0027 03 00 04 007 000\n'
+    refutes_lrat 'd in LRAT without a space behind it' '27 d4 7 0\n27 3 0 4 7 0\n'
+}
+
+rows_bad_numbered_lines() {
+    local text
+    model "$four"
+    for text in 'x' 'p cnf 11 26' '0 3 0 0' '00 3 0 0' '-27 3 0 0' '+27 3 0 0' '-0 3 0 0' '27 +3 0 0' '27 -0 0 0' '27 16 0 0' \
+        '27 3 16 0 0' '27 2147483648 0 0' '27 4294967299 0 0' '27 3 d 4 0' '27 d d 0' '27 d -4 0' '27 d 4 x' '27 d 4 -0' \
+        '27 3 0 x' '27 3 0 -0 0' '27 3 0 - 4 0' '27 3 0 +4 0' '27 3 0 4 c' '27 3 0 d 4 0' '27 3 0 4,7 0' '27 c' '27x' 'd 4 0' \
+        '27 3 c 0 0' 'a' 'a\006\000' '27\t3 0 0' '27 3 0 4\0'; do
+        bad_lrat_at "a bad line of LRAT: $text" 1 "$text\n27 3 0 4 7 0\n"
+        bad_lrat_at "the same behind others: $text" 4 "c\n27 2 3 0 4 0\n27 d 4 0\n$text\n27 3 0 4 7 0\n"
+    done
+}
+
+rows_ends_of_numbered_refutations() {
+    local end
+    model "$four"
+    for end in '' 'c' 'c x\n' '\n' ' ' '-' '27' '27 ' '27 -' '27 d' '27 d 4' '27 d 4 0' '27 d -' '27 3' '27 3 0' '27 3 0 4 7' \
+        '27 3 0 4 -' '27 2 3 0 4 0\n28' '27 2 3 0 4 0\n28 3 0 4 7\n'; do
+        unrefuted "LRAT that ends behind '$end'" 1 "$end" 'no refutation' --lrat
+    done
 }
 
 rows_bad_lines_of_texts() {
@@ -273,4 +346,10 @@ rows_refutation_words() {
     misused 'two refutations' "the argument '--refutation <FILE>' cannot be used multiple times$all" \
         aigunroll --frames 2 --refutation a --refutation b
     unwanted 'a refutation without frames' '--frames or --invariant is needed' aigunroll --refutation a
+    local lrat='--lrat needs --refutation'
+    unwanted 'LRAT without a refutation' "$lrat" aigunroll --frames 2 --lrat - x.gz
+    unwanted 'LRAT of an answer' "$lrat" aigunroll --frames 2 --lrat --answer - -
+    unwanted 'clauses of an invariant in LRAT' "$lrat" aigunroll --invariant - --cnf --lrat
+    misused 'LRAT twice' "the argument '--lrat' cannot be used multiple times$all" \
+        aigunroll --frames 2 --refutation a --lrat --lrat
 }

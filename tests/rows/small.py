@@ -42,6 +42,7 @@ KEPT_CLAUSES = (
 FOUR = b"aag 9 2 0 0 7 1\n2\n4\n18\n6 5 3\n8 5 2\n10 4 3\n12 4 2\n14 9 7\n16 13 11\n18 16 14\n"
 FOUR_REFUTED = b"c\n2 3 0\nd 3 2 0\r\n3 0\n0\n"
 FOUR_REFUTED_BINARY = b"a\4\6\0d\6\4\0a\x86\0\0a\0"
+FOUR_REFUTED_LRAT = b"c\n27 2 3 0 4 0\n27 d 4 27 0\r\n28 3 0 27 -7 7 0\n29 0 28 10 13 0\n"
 # two latches that exchange their values, of which the first is 1 at first: never are both 1
 TOKENS = b"aag 3 0 2 0 1 1\n2 4 1\n4 2\n6\n6 4 2\n"
 TOKENS_INVARIANT = b"# by hand\n.i 2\n11 1\n\n.e\n"
@@ -177,6 +178,7 @@ ROWS = [
     *answered("an answer for a bad state", "--frames 3 --bad 1", COMB, b"s SATISFIABLE\nv 2 0", b"1\nb1\n\n10\n.\n"),
     *refuted("a refutation", "--frames 1", FOUR, FOUR_REFUTED, b"none within 1\n"),
     *refuted("a binary refutation", "--frames 1", FOUR, FOUR_REFUTED_BINARY, b"none within 1\n"),
+    *refuted("a refutation in LRAT", "--frames 1 --lrat", FOUR, FOUR_REFUTED_LRAT, b"none within 1\n"),
     *strengthened("the clauses of an invariant", TOKENS, TOKENS_INVARIANT, TOKENS_CLAUSES),
     *proved("an invariant", TOKENS, TOKENS_INVARIANT, TOKENS_REFUTED),
     *compared("a miter", "--ascii", STARTED, STARTED_OTHERWISE, STARTED_ALIKE),

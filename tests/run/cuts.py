@@ -70,6 +70,10 @@ REFUTATIONS = {
     "a refutation without its end": (small.FOUR, b"-11 3 10 0\nd 11 0 2 -3 0 c\n-2 3 0 d\n-3 2 0"),
     "a forged refutation": (small.KEPT, b"d 7 9 0\n-7 6 0\n0\n"),
 }
+NUMBERED_REFUTATIONS = {
+    "a refutation in LRAT": (small.FOUR, small.FOUR_REFUTED_LRAT),
+    "a forged one in LRAT": (small.KEPT, b"15 d 7 9 0\nc\n15 -7 6 0 2\n0\n16 0 -15 0"),
+}
 MITERS = {"one of two circuits": (small.NAMED, small.NAMED_OTHERWISE)}
 INVARIANTS = {
     "an invariant": (small.TOKENS, small.TOKENS_INVARIANT),
@@ -177,6 +181,14 @@ class Judge:
             wanted = refutations.wanted(made, frames, None, "-", text)
             self.expect(f"aigunroll --frames {frames} model --refutation -", text, *wanted)
 
+    def numbered(self, text, model):
+        """The same of one in LRAT."""
+        self.runner.put("model", model)
+        made, _ = generators.parsed(self.ask("aigtoaig --ascii", model)[0])
+        for frames in range(1, FRAMES + 1):
+            wanted = refutations.wanted(made, frames, None, "-", text, is_lrat=True)
+            self.expect(f"aigunroll --frames {frames} model --lrat --refutation -", text, *wanted)
+
     def compared(self, text, other):
         """The miter of a circuit and another one, the first or the second of which it is."""
         self.runner.put("other", other)
@@ -215,7 +227,7 @@ def edits(text, place, bits=()):
 def judge(program, under, how, text, beside, place):
     """What came of the edits at this place, and what was wrong."""
     it, wrong = Judge(program, under), []
-    for kind, edited in edits(text, place, refutations.BITS if how == "refutation" else ()):
+    for kind, edited in edits(text, place, refutations.BITS if how in ("refutation", "numbered") else ()):
         it.came[kind] += 1
         try:
             getattr(it, how)(edited, beside)
@@ -229,7 +241,7 @@ def tasks():
     for name, text in CIRCUITS.items():
         yield name, "circuit", text, b""
     beside = {"stimulus": STIMULI, "witness": WITNESSES, "answer": ANSWERS, "refutation": REFUTATIONS, "invariant": INVARIANTS}
-    beside["compared"] = MITERS
+    beside |= {"numbered": NUMBERED_REFUTATIONS, "compared": MITERS}
     for how, files in beside.items():
         for name, (model, text) in files.items():
             yield name, how, text, model

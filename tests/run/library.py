@@ -737,8 +737,8 @@ def check_options(program):
     for command, (functions, chosen) in calls.items():
         said = subprocess.run([program, command, "--help"], stdout=subprocess.PIPE, text=True, check=True).stdout
         words = re.findall(r"^ {2,6}(?:-\w, )?--([a-z-]+)", said, re.M)
-        # (the library names no files, so none is to be on a disk)
-        there = {it.replace("-", "_") for it in words} - {"help", "version", "sync"}
+        # (the library names no files, so none is to be on a disk, and takes refutations in DRAT alone)
+        there = {it.replace("-", "_") for it in words} - {"help", "version", "sync", "lrat"}
         names = {name for it in functions for name in inspect.signature(it).parameters}
         inputs = {"data", "model", "stimulus", "witness", "answer", "refutation", "invariant", "first", "second"}
         here = names - inputs | chosen

@@ -47,7 +47,7 @@ LITERALS, LEMMAS, ROWS, HELD = 1_000_000, 1_000_000, 200_000, 40
 COMPARED, COMPARING, NAMED = 1_000_000, 75_000_000, 200_000
 # pairs of lines by which a hundred thousand words are let go; lemmas or definitions, and how often their time is taken;
 # rounds of lines that are deleted, and kilobytes for that, where all of them would take more than twice as many
-MOVED, CLAUSES, RUNS_OF_TIME, STEADY, LITTLE = 60_000, 25_000, 3, 250_000, 24_000
+MOVED, CLAUSES, RUNS_OF_TIME, STEADY, LITTLE = 60_000, 50_000, 7, 250_000, 24_000
 REFUTES = "aigunroll --frames 1 model --refutation -"
 # bytes of a file that are held at a time
 EDGE = 65_536
@@ -333,6 +333,20 @@ def large_refutations(room):
     room.judge("a long lemma without its end", came == (b"aiger: -: no refutation\n", 1), came)
 
 
+def numbered_refutations(room):
+    """The same in LRAT, where nothing is deleted: by hints, many in one line, and by numbers that grow, or do not."""
+    count = LITERALS + 2
+    write("model", contradiction(count))
+    write("wanted", b"none within 1\n")
+    # clause 13 has 2 and 3 beside what is 0, and clause 10 has 2 and not 3
+    long = b" ".join(b"%d" % at for at in range(4, count + 2)) + b" 2 3 0 13 0\n"
+    many = b"28 2 3 0 " + b"1 " * LEMMAS + b"13 0\n"
+    for grows in (1, -1):
+        few = (f"{LEMMAS + grows * at} 3 2 0 13 0\n29 d 13 0\n" for at in range(LEMMAS // 2))
+        write("proof", b"c" * COMMENTS, b"\n27 ", long, b"27 d 27 0\n", many, few, b"1000000000000000000 2 0 28 10 0\n")
+        room.gives(f"{REFUTES} --lrat", "proof", "wanted")
+
+
 def moved_refutations(room):
     """What was added before the clauses are moved together, between two lines, is there behind them: what follows by
     definitions alone follows, and what two lines do not allow is refused."""
@@ -491,7 +505,7 @@ def window_edges(room):
 
 JUDGES = [large_chains, large_tails, large_sections, many_runs, many_signals, many_latches, long_stimuli, long_dumps]
 JUDGES += [many_frames, many_clauses, large_answers, large_refutations, large_invariants, large_miters, many_names]
-JUDGES += [frames_of_nothing, window_edges, moved_refutations, growing_refutations, steady_refutations]
+JUDGES += [frames_of_nothing, window_edges, moved_refutations, growing_refutations, steady_refutations, numbered_refutations]
 
 
 def main(program, name=""):

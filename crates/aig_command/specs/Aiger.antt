@@ -75,8 +75,8 @@ solver_file name = record (new_rule name) { long = Some name; action = Some Set;
 abbrev pub aigunroll : App
 aigunroll = with_rules (new_app (codes "aigunroll"))
     (frames ∷ flag (codes "ascii") ∷ flag (codes "cnf") ∷ solver_file (codes "answer")
-    ∷ solver_file (codes "refutation") ∷ solver_file (codes "invariant") ∷ bad ∷ flag (codes "sync")
-    ∷ max_var ∷ new_rule (codes "source") ∷ new_rule (codes "destination") ∷ [])
+    ∷ solver_file (codes "refutation") ∷ flag (codes "lrat") ∷ solver_file (codes "invariant") ∷ bad
+    ∷ flag (codes "sync") ∷ max_var ∷ new_rule (codes "source") ∷ new_rule (codes "destination") ∷ [])
 
 -- `aigmiter`: its options in any order, then the names of the two circuits and of the destination, by place
 abbrev pub aigmiter : App

@@ -174,6 +174,7 @@ reaching wrote rows = record {
   bad = bad_number rows;
   max_var = limit rows;
   wrote = wrote;
+  lrat = is_set (codes "lrat") rows;
 }
 
 -- the standard input is one stream, and cannot give a model and what a solver wrote
@@ -192,6 +193,7 @@ proving rows = record {
   bad = bad_number rows;
   max_var = limit rows;
   refuted = is_given (codes "refutation") rows;
+  lrat = is_set (codes "lrat") rows;
 }
 
 -- the first reason to refuse the files of a model, of its invariant and of a refutation: the standard input is one
@@ -205,7 +207,7 @@ proving_refusal files p =
 
 -- the first reason to refuse options of `aigunroll` together: there are frames or an invariant, clauses are neither
 -- ASCII nor binary, an answer or a refutation is read in place of writing them, an invariant is shown by clauses alone,
--- and only these know of one bad state
+-- only these know of one bad state, and only a refutation is LRAT
 abbrev pub options_refusal : List Row → Option Usage
 options_refusal rows =
     let framed = is_given (codes "frames") rows in
@@ -221,6 +223,7 @@ options_refusal rows =
     else if invariant && (framed || ascii || answer) then Some usage.InvariantAlone
     else if invariant && not (clauses || refutation) then Some usage.InvariantNeedsClauses
     else if is_given (codes "bad") rows && not (clauses || answer || refutation) then Some usage.BadNeedsClauses
+    else if is_set (codes "lrat") rows && not refutation then Some usage.LratNeedsRefutation
     else None
 
 -- the miter to this destination that the arguments of `aigmiter` name

@@ -126,7 +126,8 @@ written as a witness, which aigsim --witness confirms whatever the solver said.
 With --refutation a solver's proof that those clauses cannot be satisfied is
 checked, by the same K and --bad: DRAT, in text or binary, with RAT lines on new
 variables alone. If it is right, 'none within K' is written: no run of at
-most K steps reaches a bad state with all constraints kept.
+most K steps reaches a bad state with all constraints kept. With --lrat it is
+LRAT in text: its hints are not believed, but save most of the search.
 
 With --invariant the clauses are those in which an invariant is to be shown, for
 runs of any length: a PLA with a column for each latch, as ABC writes one by
@@ -221,6 +222,10 @@ const REFUTATION_HELP: &str = "\
 Check a SAT solver's refutation of these clauses, and
 say that no bad state is reached; - is the standard
 input. Not with --cnf, --ascii or --answer";
+
+const LRAT_HELP: &str = "\
+The refutation is LRAT in text, with hints, which is
+checked faster; with --refutation";
 
 const INVARIANT_HELP: &str = "\
 In place of frames: take the clauses in which the
@@ -427,6 +432,7 @@ fn aigunroll<'a>(alloc: Global) -> Result<Command<'a>, AllocError>
     let command = with_argument(command, flag(alloc, "cnf", CNF_HELP));
     let command = with_argument(command, solver_file(alloc, "answer", ANSWER_HELP));
     let command = with_argument(command, solver_file(alloc, "refutation", REFUTATION_HELP));
+    let command = with_argument(command, flag(alloc, "lrat", LRAT_HELP));
     let command = with_argument(command, solver_file(alloc, "invariant", INVARIANT_HELP));
     let command = with_argument(command, bad(alloc));
     let command = with_argument(command, flag(alloc, "sync", SYNC_HELP));

@@ -6,7 +6,9 @@ ghost use Rattle.aig_command.specs.Answer.{IsReason, IsRefutationApart};
 ghost use Rattle.aig_command.specs.Asked.{asked_proving, proving, proving_refusal};
 
 use crate::destination::check_destination;
-use crate::options::{bad_number, has_one_stream_for_two, is_given, limit, named_file, names_with};
+use crate::options::{
+    bad_number, has_one_stream_for_two, is_given, is_set, limit, named_file, names_with,
+};
 use crate::request::{Command, Invariant, Names};
 use crate::usage::Usage;
 use clap::ArgMatches;
@@ -19,6 +21,7 @@ fn proving(matches: &ArgMatches<'_>) -> Invariant
         bad: bad_number(matches),
         max_var: limit(matches),
         refuted: is_given(matches, "refutation"),
+        lrat: is_set(matches, "lrat"),
     }
 }
 

@@ -65,7 +65,7 @@ pub struct Unroll {
 pub enum SolverFile {
     /// Its answer, in which there is a run that reaches a bad state.
     Answer,
-    /// Its refutation (a DRAT proof), by which no run reaches one.
+    /// Its refutation (a DRAT or LRAT proof), by which no run reaches one.
     Refutation,
 }
 
@@ -81,6 +81,8 @@ pub struct Reach {
     pub max_var: u32,
     /// What is read beside the model.
     pub wrote: SolverFile,
+    /// Whether a refutation is LRAT, with hints; else it is DRAT.
+    pub lrat: bool,
 }
 
 /// An invariant of a model: the clauses in which it is to be shown, or that a solver's refutation
@@ -93,6 +95,8 @@ pub struct Invariant {
     pub max_var: u32,
     /// Whether a refutation is checked; else the clauses are written.
     pub refuted: bool,
+    /// Whether that is LRAT, with hints; else it is DRAT.
+    pub lrat: bool,
 }
 
 /// A miter of two circuits, which says where they differ.

@@ -71,6 +71,9 @@ fn check_options(matches: &ArgMatches<'_>) -> Result<(), Usage>
     if is_given(matches, "bad") && !(clauses || answer || refutation) {
         return Err(Usage::BadNeedsClauses);
     }
+    if is_set(matches, "lrat") && !refutation {
+        return Err(Usage::LratNeedsRefutation);
+    }
     Ok(())
 }
 

@@ -38,6 +38,8 @@ pub enum Usage {
     RefutationAlone,
     /// A bad state is chosen, and there are no clauses that need it.
     BadNeedsClauses,
+    /// A refutation is said to be LRAT, and none is read.
+    LratNeedsRefutation,
     /// Both a model and an answer on it are read from the standard input.
     BothAreStandardInput,
     /// Both a model and a refutation of it are read from the standard input.
@@ -80,6 +82,7 @@ impl Usage {
             Usage::AnswerAlone => "--answer excludes --cnf and --ascii",
             Usage::RefutationAlone => "--refutation excludes --cnf, --ascii and --answer",
             Usage::BadNeedsClauses => "--bad needs --cnf, --answer or --refutation",
+            Usage::LratNeedsRefutation => "--lrat needs --refutation",
             Usage::BothAreStandardInput => "model and answer are both standard input",
             Usage::RefutationIsModel => "model and refutation are both standard input",
             Usage::FramesNeeded => "--frames or --invariant is needed",

@@ -112,9 +112,9 @@ pub never_reached : (request : Invariant) (strengthened : Circuit) (r : Result (
     (before after : History)
     → IsWellFormed strengthened
     → Read (ReadSays {A = Unit {0}} (λ _ _. IsUnsatisfiable strengthened 1)
-    (IsRefutationRefused strengthened 1) r) before after
+    (IsRefutationRefused request.lrat strengthened 1) r) before after
     → Read (ReadSays {A = Unit {0}} (λ _ _. IsNeverText request strengthened never_text)
-    (IsRefutationRefused strengthened 1) r) before
+    (IsRefutationRefused request.lrat strengthened 1) r) before
     after
 never_reached request strengthened (Ok done) before after good read =
     read_weaker _ _ before after (λ _ _ says. (says.0, is_never request strengthened good says.1)) read

@@ -1,5 +1,5 @@
 -- Where the clauses of an unrolled circuit are refuted, nothing is confirmed.
-use Rattle.std.proofs.Common.{◌≡◌, ℕ, List, Result, Ok, Err, refl, subst}
+use Rattle.std.proofs.Common.{◌≡◌, ℕ, Bool, List, Result, Ok, Err, refl, subst}
 use Rattle.aig_circuit.specs.declared.circuit.Circuit.{Circuit}
 use Rattle.aig_circuit.specs.Wellformed.{IsWellFormed}
 use Rattle.aig_fault.specs.declared.stopped.Stopped.{Stopped}
@@ -17,27 +17,28 @@ use Rattle.aig_command.specs.declared.request.Reach.{Reach}
 use Rattle.aig_commands.specs.File.{IsFileOf}
 use Rattle.aig_commands.specs.Laws.{RefutationsMeanNone}
 use Rattle.aig_commands.specs.Reading.{ReadSays}
-use Rattle.aig_commands.specs.Refuting.{IsNoneText, IsRefutationRefused, IsUnsatisfiable, none_text}
+use Rattle.aig_commands.specs.Refuting.{IsNoneText, IsRefutationRefused, IsUnsatisfiable, format_of, none_text}
 use Rattle.aig_commands.proofs.Readings.{CameWhole, made_after}
 use Rattle.aig_commands.proofs.TripsExist.{well_formed_file}
 
 -- a refutation was read: it is right, or is refused
-refutation_says : (selected d : Circuit) (frames : ℕ) (r : Result (Unit {0}) Stopped) (bytes : List ℕ) (ending : Ending)
-    → IsWellFormed d → IsUnrolled selected frames d → RefutationSays d r bytes ending
-    → ReadSays {A = Unit {0}} (λ _ _. IsUnsatisfiable selected frames)
-    (IsRefutationRefused selected frames) r bytes ending
-refutation_says selected d frames (Ok done) bytes ending formed is says = (says.0, (d, formed, is, says.1))
-refutation_says selected d frames (Err stops.OutOfMemory) bytes ending formed is says = says
-refutation_says selected d frames (Err stops.ReadFailed) bytes ending formed is says = says
-refutation_says selected d frames (Err stops.WriteFailed) bytes ending formed is says = says
-refutation_says selected d frames (Err (stops.Refused fault)) bytes ending formed is says = (d, formed, is, says)
+module _ (lrat : Bool) (selected d : Circuit) (frames : ℕ) (formed : IsWellFormed d) (is : IsUnrolled selected frames d)
+  where
+    refutation_says : (r : Result (Unit {0}) Stopped) (bytes : List ℕ) (ending : Ending)
+        → RefutationSays (format_of lrat) d r bytes ending
+        → ReadSays {A = Unit {0}} (λ _ _. IsUnsatisfiable selected frames)
+        (IsRefutationRefused lrat selected frames) r bytes ending
+    refutation_says (Ok done) bytes ending says = (says.0, (d, formed, is, says.1))
+    refutation_says (Err stops.OutOfMemory) bytes ending says = says
+    refutation_says (Err stops.ReadFailed) bytes ending says = says
+    refutation_says (Err stops.WriteFailed) bytes ending says = says
+    refutation_says (Err (stops.Refused fault)) bytes ending says = (d, formed, is, says)
 
-pub refutation_read : (selected d : Circuit) (frames : ℕ) (r : Result (Unit {0}) Stopped) (before after : History)
-    → IsWellFormed d → IsUnrolled selected frames d → Read (RefutationSays d r) before after
-    → Read (ReadSays {A = Unit {0}} (λ _ _. IsUnsatisfiable selected frames)
-    (IsRefutationRefused selected frames) r) before after
-refutation_read selected d frames r before after formed is =
-    read_weaker _ _ before after (λ bytes ending. refutation_says selected d frames r bytes ending formed is)
+    pub refutation_read : (r : Result (Unit {0}) Stopped) (before after : History)
+        → Read (RefutationSays (format_of lrat) d r) before after
+        → Read (ReadSays {A = Unit {0}} (λ _ _. IsUnsatisfiable selected frames)
+        (IsRefutationRefused lrat selected frames) r) before after
+    refutation_read r before after = read_weaker _ _ before after (refutation_says r)
 
 -- where no assignment lets a bad state be 1, no claim is confirmed
 is_none : (request : Reach) (selected : Circuit) → IsUnsatisfiable selected request.frames

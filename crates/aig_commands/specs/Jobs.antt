@@ -81,7 +81,7 @@ IsSolvedText wrote.Refutation request selected bytes text = IsNoneText request s
 -- why there is none
 abbrev pub IsSolvedRefused : SolverFile → Reach → Circuit → Fault → List ℕ → Ending → Type 0
 IsSolvedRefused wrote.Answer request selected = AtAnyTime (IsReachRefused request selected)
-IsSolvedRefused wrote.Refutation request selected = IsRefutationRefused selected request.frames
+IsSolvedRefused wrote.Refutation request selected = IsRefutationRefused request.lrat selected request.frames
 
 -- what an invariant of this circuit is read for: its clauses are refuted, or written
 abbrev pub read_for : Bool → Invariant → Circuit → Reading
@@ -120,7 +120,7 @@ Refuses (readings.Solved request selected) = IsSolvedRefused request.wrote reque
 Refuses (readings.Invariant request) = AtItsEnd (NotInvariantModel request)
 Refuses (readings.Clauses selected) = AtItsEnd (NotStrengthened selected)
 Refuses (readings.Strengthen request selected) = AtItsEnd (NotStrengthened selected)
-Refuses (readings.Never request strengthened) = IsRefutationRefused strengthened 1
+Refuses (readings.Never request strengthened) = IsRefutationRefused request.lrat strengthened 1
 Refuses (readings.First request) = AtItsEnd (NotFirst request)
 Refuses (readings.Second request first) = AtItsEnd (NotMiter request first)
 Refuses (readings.Sim request) = AtItsEnd (IsUnreadable request.max_var)

@@ -24,6 +24,7 @@ over_one_frame request = record {
   bad = request.bad;
   max_var = request.max_var;
   wrote = Refutation;
+  lrat = request.lrat;
 }
 
 -- The model is the file of a circuit that has clauses over one frame, and this is the circuit, with the selected bad

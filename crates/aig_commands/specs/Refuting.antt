@@ -1,6 +1,6 @@
 -- Which text is written for a solver's refutation (this project's profile): a model is read, the clauses of its
 -- unrolled circuit are refuted, and so no run of so many steps reaches a bad state.
-use Rattle.std.specs.Prelude.{◌≡◌, ◌++◌, ◌<◌, ◌≤◌, ℕ, List, Bool, Option, codes, decimal}
+use Rattle.std.specs.Prelude.{◌≡◌, ◌++◌, ◌<◌, ◌≤◌, ℕ, List, Bool, true, false, Option, codes, decimal}
 use Rattle.aig_circuit.specs.declared.circuit.Circuit.{Circuit}
 use Rattle.aig_circuit.specs.Wellformed.{IsWellFormed}
 use Rattle.aig_cnf.specs.Clauses.{Satisfies, bad_clauses}
@@ -14,6 +14,8 @@ use Rattle.aig_witness.specs.Witness.{Claim, IsVerdict}
 use Rattle.aig_fault.specs.declared.fault.Fault.{Fault}
 use Rattle.aig_io.specs.Runs.{AtEnd, Ending}
 use Rattle.aig_refute.specs.Refuted.{IsRefusedWhere, literals_of}
+use Rattle.aig_refute.specs.declared.reader.RefutationFormat.{RefutationFormat}
+use Rattle.aig_refute.specs.declared.reader.RefutationFormat.TheVariants.{Drat, Lrat}
 
 -- the circuit can be unrolled over so many frames
 pub record CanUnroll (c : Circuit) (frames : ℕ) : Type 0 where
@@ -43,13 +45,17 @@ pub record IsNoneText (request : Reach) (selected : Circuit) (text : List ℕ) :
       → IsNoneWithin c request.bad request.frames
   pub written_as : text ≡ none_text request.frames
 
+-- how a refutation is written: LRAT where that is asked for
+abbrev pub format_of : Bool → RefutationFormat
+format_of true = Lrat
+format_of false = Drat
+
 -- A refutation of the circuit's clauses, unrolled over so many frames, is refused for this reason, where its bytes
--- ended
--- so.
-abbrev pub IsRefutationRefused : Circuit → ℕ → Fault → List ℕ → Ending → Type 0
-IsRefutationRefused c frames fault bytes ending = (d : Circuit) × IsWellFormed d × IsUnrolled c frames d
-    × IsRefusedWhere (bad_clauses d) (literals_of d) fault bytes ending
+-- ended so.
+abbrev pub IsRefutationRefused : (lrat : Bool) → Circuit → ℕ → Fault → List ℕ → Ending → Type 0
+IsRefutationRefused lrat c frames fault bytes ending = (d : Circuit) × IsWellFormed d × IsUnrolled c frames d
+    × IsRefusedWhere (format_of lrat) (bad_clauses d) (literals_of d) fault bytes ending
 
 -- It is not known that the clauses are refuted, for this reason.
-abbrev pub NotRefuted : Circuit → ℕ → (refutation : List ℕ) → Fault → Type 0
-NotRefuted c frames refutation fault = IsRefutationRefused c frames fault refutation AtEnd
+abbrev pub NotRefuted : (lrat : Bool) → Circuit → ℕ → (refutation : List ℕ) → Fault → Type 0
+NotRefuted lrat c frames refutation fault = IsRefutationRefused lrat c frames fault refutation AtEnd

@@ -74,16 +74,17 @@ pub(crate) fn read_clauses<R: Source>(
 /// run ever reaches a bad state.
 pub(crate) fn read_never<R: Source>(
     alloc: Global,
-    _request: &Invariant,
+    request: &Invariant,
     strengthened: Checked,
     source: &mut R,
 ) -> Result<(), Stopped>
     requires can_unroll { CanUnroll strengthened 1 }
-    ensures { Read (ReadSays (λ _ _. IsNeverText _request.now strengthened never_text)
-        (IsRefutationRefused strengthened 1) result) (R.history source.old) (R.history source.new) }
+    ensures { Read (ReadSays (λ _ _. IsNeverText request.now strengthened never_text)
+        (IsRefutationRefused request.now.lrat strengthened 1) result)
+        (R.history source.old) (R.history source.new) }
 {
     let _circuit = strengthened.circuit(); // for the proof
-    let checked = read_refutation(alloc, &strengthened, 1, source);
+    let checked = read_refutation(alloc, &strengthened, 1, request.lrat, source);
     drop(strengthened); // for the proof
     checked
 }

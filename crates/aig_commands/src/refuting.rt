@@ -6,13 +6,13 @@ ghost use Rattle.aig_unroll.specs.Unrolled.{IsUnrolled};
 ghost use Rattle.aig_commands.specs.Jobs.{text_of};
 ghost use Rattle.aig_commands.specs.Reading.{ReadSays};
 ghost use Rattle.aig_commands.specs.Refuting.{CanUnroll, IsNoneText, IsRefutationRefused};
-ghost use Rattle.aig_commands.specs.Refuting.{IsUnsatisfiable};
+ghost use Rattle.aig_commands.specs.Refuting.{IsUnsatisfiable, format_of};
 
 use crate::answer::Answer;
 use aig_command::Reach;
 use aig_core::{Checked, Ordered, Source};
 use aig_fault::Stopped;
-use aig_refute::check_refutation;
+use aig_refute::{RefutationFormat, check_refutation};
 use aig_unroll::unroll;
 use std::alloc::Global;
 
@@ -28,20 +28,33 @@ fn unrolled_of(alloc: Global, selected: &Checked, frames: u32) -> Result<Ordered
     }
 }
 
+/// How a refutation is written.
+fn format_of(lrat: bool) -> RefutationFormat
+    ensures { result ≡ format_of lrat }
+{
+    if lrat {
+        RefutationFormat::Lrat
+    } else {
+        RefutationFormat::Drat
+    }
+}
+
 /// Reads a solver's refutation of the clauses of this circuit over so many frames, and checks it.
 pub(crate) fn read_refutation<R: Source>(
     alloc: Global,
     selected: &Checked,
     frames: u32,
+    lrat: bool,
     source: &mut R,
 ) -> Result<(), Stopped>
     requires can_unroll { CanUnroll selected.now frames }
     ensures { Read (ReadSays (λ _ _. IsUnsatisfiable selected.now frames)
-        (IsRefutationRefused selected.now frames) result)
+        (IsRefutationRefused lrat selected.now frames) result)
         (R.history source.old) (R.history source.new) }
 {
     let unrolled = unrolled_of(alloc, selected, frames)?;
-    let checked = check_refutation(alloc, unrolled.as_checked().circuit(), source);
+    let format = format_of(lrat);
+    let checked = check_refutation(alloc, format, unrolled.as_checked().circuit(), source);
     drop(unrolled); // for the proof
     checked
 }
@@ -56,9 +69,10 @@ pub(crate) fn read_none_within<R: Source>(
 ) -> Result<Answer, Stopped>
     requires can_unroll { CanUnroll selected.now request.now.frames }
     ensures read { Read (ReadSays (λ answer _. IsNoneText request.now selected.now (text_of answer))
-        (IsRefutationRefused selected.now request.now.frames) result) (R.history source.old) (R.history source.new) }
+        (IsRefutationRefused request.now.lrat selected.now request.now.frames) result)
+        (R.history source.old) (R.history source.new) }
     ensures some { IfOk result (λ answer. 0 < length (text_of answer)) }
 {
-    read_refutation(alloc, selected, request.frames, source)?;
+    read_refutation(alloc, selected, request.frames, request.lrat, source)?;
     Ok(Answer::NoneWithin(request.frames))
 }

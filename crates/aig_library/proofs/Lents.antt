@@ -1,5 +1,5 @@
 -- What came of the bytes of a caller, once a call is over.
-use Rattle.std.proofs.Common.{◌≡◌, ◌∙◌, ◌++◌, ℕ, List, None, ap, drop, length, refl, subst, true}
+use Rattle.std.proofs.Common.{◌≡◌, ◌∙◌, ◌++◌, ℕ, Bool, List, None, ap, drop, length, refl, subst, true}
 use Rattle.std.proofs.Common.{Err, IfErr, IfOk, Ok, OnOk, Result, inl, inr}
 use Rattle.std.proofs.lemmas.List.{take-append-drop}
 use Rattle.aig_io.specs.Devices.{History, Origin, unused}
@@ -21,7 +21,7 @@ use Rattle.aig_refute.proofs.Followed.{never_broken, refused_behind}
 use Rattle.aig_commands.specs.Jobs.{IsSolvedRefused, Refuses}
 use Rattle.aig_commands.specs.Reaching.{IsReachRefused}
 use Rattle.aig_commands.specs.Reading.{AtAnyTime, AtItsEnd, ReadSays}
-use Rattle.aig_commands.specs.Refuting.{IsRefutationRefused}
+use Rattle.aig_commands.specs.Refuting.{IsRefutationRefused, format_of}
 use Rattle.aig_commands.specs.declared.job.Reading.{Reading}
 use Rattle.aig_commands.specs.declared.job.Reading.TheVariants as readings
 use Rattle.aig_fault.specs.declared.fault.Fault.{Fault}
@@ -70,23 +70,24 @@ module _ (input : List ℕ) (now : History) (given : HasGiven now) where
   at_any_time IsRefused fault bytes Broken is says = absurd says
 
   -- what a refutation is refused for, it is refused for at its end
-  refutation : (c : Circuit) (frames : ℕ) (fault : Fault) (bytes : List ℕ) (ending : Ending)
-      → now ≡ came bytes ending (unused (lent input)) → IsRefutationRefused c frames fault bytes ending
-      → IsRefutationRefused c frames fault input AtEnd
-  refutation c frames fault bytes AtEnd is says =
-      subst (λ (bs : List ℕ). IsRefutationRefused c frames fault bs AtEnd)
+  refutation : (lrat : Bool) (c : Circuit) (frames : ℕ) (fault : Fault) (bytes : List ℕ) (ending : Ending)
+      → now ≡ came bytes ending (unused (lent input)) → IsRefutationRefused lrat c frames fault bytes ending
+      → IsRefutationRefused lrat c frames fault input AtEnd
+  refutation lrat c frames fault bytes AtEnd is says =
+      subst (λ (bs : List ℕ). IsRefutationRefused lrat c frames fault bs AtEnd)
       (lents.all_read input now given bytes is) says
-  refutation c frames fault bytes Open is (d, formed, unrolled, why) =
+  refutation lrat c frames fault bytes Open is (d, formed, unrolled, why) =
       let front = lents.part_read input now given bytes is in (
         d,
         formed,
         unrolled,
-        subst (λ (bs : List ℕ). IsRefusedWhere (bad_clauses d) (literals_of d) fault bs AtEnd)
+        subst (λ (bs : List ℕ). IsRefusedWhere (format_of lrat) (bad_clauses d) (literals_of d) fault bs AtEnd)
             (ap (λ (bs : List ℕ). bs ++ drop (length bytes) input) front ∙ take-append-drop (length bytes) input)
-            (refused_behind (bad_clauses d) (literals_of d) fault bytes (drop (length bytes) input) why),
+            (refused_behind (format_of lrat) (bad_clauses d) (literals_of d) fault bytes (drop (length bytes) input)
+            why),
       )
-  refutation c frames fault bytes Broken is (d, formed, unrolled, inl why) = absurd why.0
-  refutation c frames fault bytes Broken is (d, formed, unrolled, inr why) = absurd (never_broken why.1)
+  refutation lrat c frames fault bytes Broken is (d, formed, unrolled, inl why) = absurd why.0
+  refutation lrat c frames fault bytes Broken is (d, formed, unrolled, inr why) = absurd (never_broken why.1)
 
   solved : (by : SolverFile) (request : Reach) (selected : Circuit) (fault : Fault) (bytes : List ℕ) (ending : Ending)
       → now ≡ came bytes ending (unused (lent input)) → IsSolvedRefused by request selected fault bytes ending
@@ -94,7 +95,7 @@ module _ (input : List ℕ) (now : History) (given : HasGiven now) where
   solved wrote.Answer request selected fault bytes ending is says =
       at_any_time (IsReachRefused request selected) fault bytes ending is says
   solved wrote.Refutation request selected fault bytes ending is says =
-      refutation selected request.frames fault bytes ending is says
+      refutation request.lrat selected request.frames fault bytes ending is says
 
   all_refused : (reading : Reading) (fault : Fault) (bytes : List ℕ) (ending : Ending)
       → now ≡ came bytes ending (unused (lent input)) → ending ≡ AtEnd → Refuses reading fault bytes ending
@@ -110,7 +111,7 @@ module _ (input : List ℕ) (now : History) (given : HasGiven now) where
   refused (readings.Solved request selected) fault bytes ending is says =
       solved request.wrote request selected fault bytes ending is says
   refused (readings.Never request strengthened) fault bytes ending is says =
-      refutation strengthened 1 fault bytes ending is says
+      refutation request.lrat strengthened 1 fault bytes ending is says
   refused (readings.ToAig request) fault bytes ending is says =
       all_refused (readings.ToAig request) fault bytes ending is says.0 says
   refused (readings.Unroll request) fault bytes ending is says =

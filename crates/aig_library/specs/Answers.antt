@@ -107,7 +107,7 @@ abbrev pub IsNoneRefused : Reach → (model refutation : List ℕ) → Fault →
 IsNoneRefused request model refutation fault =
     IsModelRefused request fault model
     ⊎ ((selected : Circuit) × IsSelectedModel request model selected
-    × NotRefuted selected request.frames refutation fault)
+    × NotRefuted request.lrat selected request.frames refutation fault)
 
 abbrev pub RefuteAnswers : (bad frames max_var : ℕ) (model refutation : List ℕ) → Outcome → Type 0
 RefuteAnswers bad frames max_var model refutation =
@@ -146,7 +146,7 @@ abbrev pub IsNeverRefused : Invariant → (model invariant refutation : List ℕ
 IsNeverRefused request model invariant refutation fault =
     IsProvingRefused request model invariant fault
     ⊎ ((selected strengthened : Circuit) × IsInvariantModel request model selected
-    × IsStrengthened selected invariant strengthened × NotRefuted strengthened 1 refutation fault)
+    × IsStrengthened selected invariant strengthened × NotRefuted request.lrat strengthened 1 refutation fault)
 
 abbrev pub NeverAnswers : (bad max_var : ℕ) (model invariant refutation : List ℕ) → Outcome → Type 0
 NeverAnswers bad max_var model invariant refutation =

@@ -55,6 +55,7 @@ reaching wrote bad frames max_var = record {
   bad = selected_bad bad;
   max_var = max_var;
   wrote = wrote;
+  lrat = false;
 }
 
 -- an invariant: its clauses, or that a refutation of them is right
@@ -63,6 +64,7 @@ proving refuted bad max_var = record {
   bad = selected_bad bad;
   max_var = max_var;
   refuted = refuted;
+  lrat = false;
 }
 
 abbrev pub comparison : (options max_var : ℕ) → Miter

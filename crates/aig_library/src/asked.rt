@@ -108,6 +108,7 @@ pub(crate) fn reaching(wrote: SolverFile, bad: u32, frames: u32, max_var: u32) -
         bad: selected_bad(bad),
         max_var,
         wrote,
+        lrat: false,
     }
 }
 
@@ -120,6 +121,7 @@ pub(crate) fn proving(refuted: bool, bad: u32, max_var: u32) -> Invariant
         bad: selected_bad(bad),
         max_var,
         refuted,
+        lrat: false,
     }
 }
 

@@ -14,6 +14,7 @@ use Rattle.aig_refute.specs.Lines.{Step, missing_end, next}
 use Rattle.aig_refute.specs.Refuted.{AreInLines, Followed, IsLineFault, IsStepFault, ShowsNothing, followed}
 use Rattle.aig_refute.specs.Refuted.{IsRefusedWhere, followed_to, step_at, unread}
 use Rattle.aig_refute.specs.declared.reader.LineEnd.TheVariants as ends
+use Rattle.aig_refute.specs.declared.reader.RefutationFormat.{RefutationFormat}
 use Rattle.aig_refute.proofs.Resting.{rests_stored}
 
 -- what propagation leaves of the clauses of a store, it leaves of those that are kept
@@ -124,14 +125,15 @@ in_lines_more from bytes k byte lines good more =
     subst (AreInLines from) (sym more) (in_lines_both from (take k bytes) (byte ∷ []) lines last)
 
 -- what is refused at the end of some bytes is refused where others come behind them
-pub refused_behind : (given : List (List ℕ)) (limit : ℕ) (fault : Fault) (bytes behind : List ℕ)
-    → IsRefusedWhere given limit fault bytes Open → IsRefusedWhere given limit fault (bytes ++ behind) AtEnd
-refused_behind given limit fault bytes behind (inl why) =
-    let from : Followed = unread limit in
+pub refused_behind : (format : RefutationFormat) (given : List (List ℕ)) (limit : ℕ) (fault : Fault)
+    (bytes behind : List ℕ) → IsRefusedWhere format given limit fault bytes Open
+    → IsRefusedWhere format given limit fault (bytes ++ behind) AtEnd
+refused_behind format given limit fault bytes behind (inl why) =
+    let from : Followed = unread format limit in
     let last : List ℕ = missing_end (fold followed from (bytes ++ behind)).reading in
     inl (
       tt,
       subst (λ (text : List ℕ). IsLineFault given from text fault) (sym (append_assoc bytes behind last))
           (fault_longer from bytes (behind ++ last) given fault why.1),
     )
-refused_behind given limit fault bytes behind (inr why) = absurd (never_open why.1)
+refused_behind format given limit fault bytes behind (inr why) = absurd (never_open why.1)

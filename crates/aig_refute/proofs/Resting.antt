@@ -6,9 +6,8 @@ use Rattle.std.proofs.lemmas.Bool.{cases_lt}
 use Rattle.aig_circuit.specs.Literal.{negation_of}
 use Rattle.aig_refute.specs.Kept.{ComesToRest, IsAtRest, IsIn, IsLeft, IsStored}
 use Rattle.aig_refute.specs.Kept.{IsConsistent, IsTautology, RestsAt, Stands}
-use Rattle.aig_refute.specs.Store.{IsClause}
+use Rattle.aig_refute.specs.Store.{IsClause, IsRead}
 use Rattle.aig_refute.specs.declared.words.TheConstants.{END}
-use Rattle.aig_refute.proofs.Readings.{IsRead}
 
 -- a literal was found that is not false
 abbrev pub IsFree : List ℕ → List Bool → ℕ → ℕ → ℕ → Type 0

@@ -1,4 +1,4 @@
--- Lines of a refutation, read byte by byte: this project's profile of DRAT.
+-- Lines of a refutation, read byte by byte: this project's profile of DRAT, and of LRAT as text.
 --
 --     text    = (blank | comment | line)*
 --     line    = ("d" blank*)? (number blank+)* "0"+ blank
@@ -10,9 +10,14 @@
 --     code    = a number other than 0 in groups of seven bits, the lowest first, each in a byte: at most five of them,
 --               all but the last of which are 128 or more
 --
+--     LRAT    = (blank | comment | numbered)*
+--     numbered = id blank+ ((number blank+)* "0"+ blank+ (number blank+)* | "d" blank* (id blank+)*) "0"+ blank
+--     id      = [0-9]+                          other than 0
+--
 -- A line adds its clause, or deletes it if it begins with `d`. The codes of the numbers v and -v are 2v and 2v + 1. A
 -- code less 2 is the literal: number 1, the constant, has 0 and 1. In line N literals are below a limit plus 2N, and
--- below the word that ends a clause. A byte that cannot go on so is in no line, and neither is what follows it. A
+-- below the word that ends a clause. In LRAT each line begins with a number, the clause's own, and behind the clause
+-- stand hints, the numbers of clauses. They change nothing that it says, and nothing is deleted. A byte that cannot go on so is in no line, and neither is what follows it. A
 -- number at the end of a text ends as before a line feed.
 --
 -- The first bytes tell text and binary apart. Binary begins with `a` or with `d`. But `d`, a space, at most eleven
@@ -24,17 +29,33 @@ use Rattle.std.specs.Prelude.{◌≡◌, ◌+◌, ◌-◌, ◌*◌, ◌%◌, ◌
 use Rattle.std.specs.Prelude.{false, not, Option, None, Some, codes, fold, if◌then◌else◌, length, min, nat_le, nat_lt}
 use Rattle.aig_refute.specs.declared.reader.LineEnd.{LineEnd}
 use Rattle.aig_refute.specs.declared.reader.LineEnd.TheVariants.{Added, Bad, Deleted, Within}
+use Rattle.aig_refute.specs.declared.reader.LinePart.{LinePart}
+use Rattle.aig_refute.specs.declared.reader.LinePart.TheVariants as parts
 use Rattle.aig_refute.specs.declared.reader.Reader.{Reader}
+use Rattle.aig_refute.specs.declared.reader.RefutationFormat.{RefutationFormat}
+use Rattle.aig_refute.specs.declared.reader.RefutationFormat.TheVariants.{Drat, Lrat}
 use Rattle.aig_refute.specs.declared.reader.RefutationReader.{RefutationReader}
 use Rattle.aig_refute.specs.declared.reader.Spot.{Spot}
 use Rattle.aig_refute.specs.declared.reader.Spot.TheVariants as spots
 use Rattle.aig_refute.specs.declared.reader.TheConstants.{MOST_HELD}
 use Rattle.aig_refute.specs.declared.words.TheConstants.{END}
 
+-- where the first byte stands
+abbrev pub first_spot : RefutationFormat → Spot
+first_spot Drat = spots.First
+first_spot Lrat = spots.LineStart
+
+-- how a line begins
+abbrev pub first_part : RefutationFormat → LinePart
+first_part Drat = parts.Literals
+first_part Lrat = parts.Number
+
 -- before the first byte, where literals are below this one
-abbrev pub first_reader : ℕ → Reader
-first_reader limit = record {
-  spot = spots.First;
+abbrev pub first_reader : RefutationFormat → ℕ → Reader
+first_reader format limit = record {
+  format = format;
+  spot = first_spot format;
+  part = first_part format;
   number = 0;
   is_negative = false;
   shift = 0;
@@ -46,6 +67,10 @@ first_reader limit = record {
 
 abbrev pub standing_at : Reader → Spot → Reader
 standing_at r spot = record r { spot = spot }
+
+-- numbers of that part follow
+abbrev pub in_part : Reader → LinePart → Reader
+in_part r part = record r { part = part }
 
 -- in a number of a text, which comes to this so far
 abbrev pub in_text : Reader → Bool → ℕ → Reader
@@ -106,13 +131,31 @@ behind_blank byte = if byte == 10 then spots.LineStart else spots.Blank
 abbrev pub is_digit : ℕ → Bool
 is_digit byte = nat_le 48 byte && nat_le byte 57
 
--- a letter in a text: `d` or `c`, where no clause has begun
-abbrev pub in_letter : Reader → ℕ → Move
-in_letter r byte =
+-- a letter in a text of DRAT: `d` or `c`, where no clause has begun
+abbrev pub in_drat_letter : Reader → ℕ → Move
+in_drat_letter r byte =
     if r.is_deletion || r.has_literals then refused r
     else if byte == 100 then moved (standing_at (deleting r) spots.Blank)
     else if byte == 99 then moved (standing_at r spots.Comment)
     else refused r
+
+-- in LRAT `c` stands where no line has begun, and `d` behind its number
+abbrev pub in_lrat_letter_of : Reader → ℕ → LinePart → Move
+in_lrat_letter_of r byte parts.Number = if byte == 99 then moved (standing_at r spots.Comment) else refused r
+in_lrat_letter_of r byte parts.Literals =
+    if (byte == 100) && not r.has_literals then moved (standing_at (in_part r parts.Deletion) spots.Blank)
+    else refused r
+in_lrat_letter_of r byte part = refused r
+
+abbrev pub in_lrat_letter : Reader → ℕ → Move
+in_lrat_letter r byte = in_lrat_letter_of r byte r.part
+
+abbrev pub in_letter_of : Reader → ℕ → RefutationFormat → Move
+in_letter_of r byte Drat = in_drat_letter r byte
+in_letter_of r byte Lrat = in_lrat_letter r byte
+
+abbrev pub in_letter : Reader → ℕ → Move
+in_letter r byte = in_letter_of r byte r.format
 
 -- in a text, between numbers
 abbrev pub in_blank : Reader → ℕ → Move
@@ -137,12 +180,45 @@ with_digit number byte = if nat_lt number (2 ^ 32) then 10 * number + (byte - 48
 abbrev pub code_of : Bool → ℕ → ℕ
 code_of is_negative number = if is_negative then 2 * number + 1 else 2 * number
 
--- a number ends: 0 ends the clause
-abbrev pub with_number : Reader → Move
-with_number r =
-    if r.number == 0 then ended r
+-- the literals end: in LRAT hints follow
+abbrev pub with_literals_of : Reader → RefutationFormat → Move
+with_literals_of r Drat = ended r
+with_literals_of r Lrat = moved (in_part r parts.Hints)
+
+abbrev pub with_literals : Reader → Move
+with_literals r = with_literals_of r r.format
+
+-- the number of a literal ends: 0 ends them
+abbrev pub with_literal_number : Reader → Move
+with_literal_number r =
+    if r.number == 0 then with_literals r
     else if nat_lt r.number (2 ^ 32) then with_code r (code_of r.is_negative r.number)
     else refused r
+
+-- a hint ends: 0 ends the line
+abbrev pub with_hint : Reader → Move
+with_hint r = if r.number == 0 then ended r else moved r
+
+-- the number of a clause ends
+abbrev pub with_own_number : Reader → Move
+with_own_number r = if r.is_negative || (r.number == 0) then refused r else moved (in_part r parts.Literals)
+
+-- that of one that is deleted: 0 ends the line, and nothing is
+abbrev pub with_deleted : Reader → Move
+with_deleted r =
+    if r.is_negative then refused r
+    else if r.number == 0 then moved (in_part r parts.Number)
+    else moved r
+
+-- a number ends
+abbrev pub with_number_of : Reader → LinePart → Move
+with_number_of r parts.Number = with_own_number r
+with_number_of r parts.Literals = with_literal_number r
+with_number_of r parts.Hints = with_hint r
+with_number_of r parts.Deletion = with_deleted r
+
+abbrev pub with_number : Reader → Move
+with_number r = with_number_of r r.part
 
 abbrev pub in_number : Reader → ℕ → Move
 in_number r byte =
@@ -214,12 +290,15 @@ pub record Step : Type 0 where
   pub reading : Reading
   pub end : LineEnd
 
-abbrev pub begun : ℕ → Reading
-begun limit = record { reader = first_reader limit; clause = []; held = [] }
+abbrev pub begun : RefutationFormat → ℕ → Reading
+begun format limit = record { reader = first_reader format limit; clause = []; held = [] }
 
 -- the next clause begins
 abbrev pub cleared : Reading → Reading
-cleared r = record r { reader = record r.reader { is_deletion = false; has_literals = false }; clause = [] }
+cleared r = record r {
+  reader = record r.reader { part = first_part r.reader.format; is_deletion = false; has_literals = false };
+  clause = [];
+}
 
 abbrev pub with_literal : List ℕ → Option ℕ → List ℕ
 with_literal clause None = clause

@@ -14,6 +14,7 @@ use Rattle.aig_refute.specs.Agree.{Agrees}
 use Rattle.aig_refute.specs.Kept.{Adds, Change, Deletes, DoesNotFollow, IsAmong, IsKept, IsStored}
 use Rattle.aig_refute.specs.Lines.{Reading, Step, begun, cleared, line_of, missing_end, next, reading_of}
 use Rattle.aig_refute.specs.declared.reader.LineEnd.{LineEnd}
+use Rattle.aig_refute.specs.declared.reader.RefutationFormat.{RefutationFormat}
 use Rattle.aig_refute.specs.declared.reader.RefutationReader.{RefutationReader}
 use Rattle.aig_refute.specs.declared.reader.LineEnd.TheVariants as ends
 use Rattle.aig_refute.specs.declared.checker.Checker.{Checker}
@@ -90,8 +91,8 @@ followed f byte = record {
 }
 
 -- no bytes yet, of a refutation whose literals are below this one
-abbrev pub unread : ℕ → Followed
-unread limit = record { reading = begun limit; changes = [] }
+abbrev pub unread : RefutationFormat → ℕ → Followed
+unread format limit = record { reading = begun format limit; changes = [] }
 
 -- this is wrong with what a byte ended: it is in no line; or a line adds a clause that does not follow by unit
 -- propagation from those that are kept
@@ -156,31 +157,32 @@ pub record ShowsNothing (given : List (List ℕ)) (from : Followed) (bytes : Lis
   pub unfollowed : DoesNotFollow (IsKept given (fold followed from bytes).changes) []
 
 -- a refutation of these clauses is refused with this fault, where its bytes ended so
-abbrev pub IsRefusedWhere : List (List ℕ) → ℕ → Fault → List ℕ → Ending → Type 0
-IsRefusedWhere given limit fault bytes ending =
-    (IsUnbroken ending × IsLineFault given (unread limit) (text_of (unread limit) bytes ending) fault)
+abbrev pub IsRefusedWhere : RefutationFormat → List (List ℕ) → ℕ → Fault → List ℕ → Ending → Type 0
+IsRefusedWhere format given limit fault bytes ending =
+    (IsUnbroken ending × IsLineFault given (unread format limit) (text_of (unread format limit) bytes ending) fault)
     ⊎ ((fault ≡ fault_at kinds.NoRefutation Whole 0) × (ending ≡ AtEnd)
-    × ShowsNothing given (unread limit) (text_of (unread limit) bytes ending))
+    × ShowsNothing given (unread format limit) (text_of (unread format limit) bytes ending))
 
 -- how the bytes ended, where this stopped it
-abbrev pub EndsFor : List (List ℕ) → ℕ → Stopped → List ℕ → Ending → Type 0
-EndsFor given limit OutOfMemory bytes ending = IsUnbroken ending
-EndsFor given limit ReadFailed bytes ending = ending ≡ Broken
-EndsFor given limit WriteFailed bytes ending = ⊥
-EndsFor given limit (Refused fault) bytes ending = IsRefusedWhere given limit fault bytes ending
+abbrev pub EndsFor : RefutationFormat → List (List ℕ) → ℕ → Stopped → List ℕ → Ending → Type 0
+EndsFor format given limit OutOfMemory bytes ending = IsUnbroken ending
+EndsFor format given limit ReadFailed bytes ending = ending ≡ Broken
+EndsFor format given limit WriteFailed bytes ending = ⊥
+EndsFor format given limit (Refused fault) bytes ending = IsRefusedWhere format given limit fault bytes ending
 
 -- All came, and a checker admits no assignment; or this is why that is not known, whichever clauses it was given.
-abbrev pub ReadingSays : ℕ → Checker → Result ⊤ Stopped → List ℕ → Ending → Type 0
-ReadingSays limit checker (Ok done) bytes ending = (ending ≡ AtEnd) × ((a : ℕ → Bool) → ¬ Admits checker a)
-ReadingSays limit checker (Err stopped) bytes ending =
-    (given : List (List ℕ)) → AreStored given [] checker → EndsFor given limit stopped bytes ending
+abbrev pub ReadingSays : RefutationFormat → ℕ → Checker → Result ⊤ Stopped → List ℕ → Ending → Type 0
+ReadingSays format limit checker (Ok done) bytes ending = (ending ≡ AtEnd) × ((a : ℕ → Bool) → ¬ Admits checker a)
+ReadingSays format limit checker (Err stopped) bytes ending =
+    (given : List (List ℕ)) → AreStored given [] checker → EndsFor format given limit stopped bytes ending
 
 -- literals of a circuit are below this one
 abbrev pub literals_of : Circuit → ℕ
 literals_of c = 2 * c.max_var + 2
 
 -- All came, and no assignment lets a bad state of the circuit be 1; or this is why that is not known.
-abbrev pub RefutationSays : Circuit → Result ⊤ Stopped → List ℕ → Ending → Type 0
-RefutationSays c (Ok done) bytes ending =
+abbrev pub RefutationSays : RefutationFormat → Circuit → Result ⊤ Stopped → List ℕ → Ending → Type 0
+RefutationSays format c (Ok done) bytes ending =
     (ending ≡ AtEnd) × ((a : ℕ → Bool) → ¬ Satisfies a (bad_clauses c))
-RefutationSays c (Err stopped) bytes ending = EndsFor (bad_clauses c) (literals_of c) stopped bytes ending
+RefutationSays format c (Err stopped) bytes ending =
+    EndsFor format (bad_clauses c) (literals_of c) stopped bytes ending

@@ -12,9 +12,11 @@ ghost use Rattle.aig_refute.specs.Refuted.{Preserves};
 ghost use Rattle.aig_refute.specs.Refuted.{base_of, changed, followed, is_refuted, words_of};
 ghost use Rattle.aig_refute.specs.Store.{IsFalse};
 
+use crate::clause_numbers::ClauseNumbers;
 use crate::clause_table::ClauseTable;
+use crate::kernel::Derived;
 use crate::propagation::Propagation;
-use crate::reader::{LineEnd, RefutationReader};
+use crate::reader::{LineEnd, RefutationFormat, RefutationReader};
 use crate::words::{largest, negation};
 use aig_core::Gate;
 use aig_fault::{Kind, Stopped, refused_at};
@@ -29,22 +31,41 @@ pub struct Checker {
     alloc: Global,
     pub(crate) propagation: Propagation,
     pub(crate) table: ClauseTable,
+    numbers: ClauseNumbers,
     /// About how many words of the store belong to clauses that were let go.
     garbage: usize,
 }
 
+/// Keeps where a clause will be, by its literals if not by its number.
+fn list_clause(
+    table: &mut ClauseTable,
+    numbers: &ClauseNumbers,
+    clause: &[u32],
+    at: usize,
+) -> Result<(), AllocError> {
+    if numbers.are_kept() {
+        return Ok(());
+    }
+    table.list(clause, at)
+}
+
 impl Checker {
-    /// No clauses, over literals below this one.
-    pub fn new(alloc: Global, literals: usize) -> Result<Checker, AllocError>
+    /// No clauses, over literals below this one, for a refutation of this format.
+    pub fn new(
+        alloc: Global,
+        format: RefutationFormat,
+        literals: usize,
+    ) -> Result<Checker, AllocError>
         ensures admits { IfOk result (λ checker. (a : ℕ → Bool) → Admits checker a) }
         ensures base { IfOk result (λ checker. base_of checker ≡ literals) }
     {
-        Checker::with_room(alloc, literals, &[])
+        Checker::with_room(alloc, format, literals, &[])
     }
 
     /// The same, with room for the clauses of gates.
     pub(crate) fn with_room(
         alloc: Global,
+        format: RefutationFormat,
         literals: usize,
         gates: &[Gate],
     ) -> Result<Checker, AllocError>
@@ -55,6 +76,7 @@ impl Checker {
             alloc,
             propagation: Propagation::new(alloc, literals, gates)?,
             table: ClauseTable::new(alloc, literals)?,
+            numbers: ClauseNumbers::new(alloc, format),
             garbage: 0,
         })
     }
@@ -72,12 +94,13 @@ impl Checker {
         self.propagation.kernel.is_refuted()
     }
 
-    /// Adds a clause that holds, and that the table need not find. Where the store has more than
-    /// 2^32 words, no literal watches it.
+    /// Adds a clause that holds, and that the table need not find. Its number is the next. Where
+    /// the store has more than 2^32 words, no literal watches it.
     pub(crate) fn add_unlisted(&mut self, clause: &[u32]) -> Result<(), AllocError>
         ensures { OnOk result (Gains clause.now self.old self.new) }
     {
         let at = self.propagation.kernel.end();
+        self.numbers.put(at)?;
         self.propagation.kernel.push_clause(clause)?;
         if let Ok(place) = u32::try_from(at) {
             self.attach(place)?;
@@ -89,7 +112,12 @@ impl Checker {
     pub(crate) fn add_given(&mut self, clause: &[u32]) -> Result<(), AllocError>
         ensures { OnOk result (Gains clause.now self.old self.new) }
     {
-        self.table.list(clause, self.propagation.kernel.end())?;
+        list_clause(
+            &mut self.table,
+            &self.numbers,
+            clause,
+            self.propagation.kernel.end(),
+        )?;
         self.add_unlisted(clause)?;
         Ok(())
     }
@@ -129,9 +157,26 @@ impl Checker {
         Ok(false)
     }
 
-    /// Whether unit propagation finds that not all literals of a clause can be false.
+    /// Looks at the clauses of these numbers, one after the other, and answers whether one is false.
+    #[tactic(auto, using(crate::proofs::Later::grows_both, crate::proofs::Later::grows_same))]
+    fn follow_hints(&mut self, hints: &[u32]) -> Result<bool, AllocError>
+        ensures grows { Grows self.old.propagation.kernel self.new.propagation.kernel }
+        ensures clash { IfOk result (λ c. c ≡ true → (a : ℕ → Bool) → ¬ Admits self.old a) }
+    {
+        for k in 0..hints.len() {
+            let Some(place) = self.numbers.place_of(hints[k]) else {
+                return Ok(false);
+            };
+            if self.propagation.kernel.derive(place as usize)? == Derived::Conflict {
+                return Ok(true);
+            }
+        }
+        Ok(false)
+    }
+
+    /// Whether hints, or else unit propagation, find that not all literals of a clause can be false.
     #[tactic(auto, using(crate::proofs::Later::supposes_grown))]
-    fn contradicts(&mut self, clause: &[u32]) -> Result<bool, AllocError>
+    fn contradicts(&mut self, clause: &[u32], hints: &[u32]) -> Result<bool, AllocError>
         ensures supposes { Supposes clause.now self.old.propagation.kernel
             self.new.propagation.kernel }
         ensures clash { IfOk result (λ c. c ≡ true
@@ -140,17 +185,20 @@ impl Checker {
         if self.assume_false(clause)? {
             return Ok(true);
         }
+        if self.follow_hints(hints)? {
+            return Ok(true);
+        }
         self.propagation.propagate()
     }
 
-    /// Whether a clause follows by unit propagation.
-    fn follows(&mut self, clause: &[u32]) -> Result<bool, AllocError>
+    /// Whether a clause follows by hints, or else by unit propagation.
+    fn follows(&mut self, clause: &[u32], hints: &[u32]) -> Result<bool, AllocError>
         ensures preserves { OnOk result (Preserves self.old self.new) }
         ensures follows { IfOk result (λ yes. yes ≡ true → (a : ℕ → Bool)
             → Admits self.old a → HasTrue a clause.now) }
     {
         let base = self.propagation.kernel.known_count();
-        let conflict = self.contradicts(clause)?;
+        let conflict = self.contradicts(clause, hints)?;
         self.propagation.forget(base);
         Ok(conflict)
     }
@@ -162,7 +210,7 @@ impl Checker {
             → Admits self.old a → All (λ c. HasTrue a c.items) clauses.now) }
     {
         for k in 0..clauses.len() {
-            let follows = self.follows(&clauses[k])?;
+            let follows = self.follows(&clauses[k], &[])?;
             if !follows {
                 return Ok(false);
             }
@@ -271,14 +319,14 @@ impl Checker {
     }
 
     /// Whether a clause may be added: it follows, or brings in a new variable.
-    fn is_right(&mut self, clause: &[u32]) -> Result<bool, AllocError>
+    fn is_right(&mut self, clause: &[u32], hints: &[u32]) -> Result<bool, AllocError>
         ensures preserves { OnOk result (Preserves self.old self.new) }
         ensures extends { IfOk result (λ yes. yes ≡ true → (a : ℕ → Bool)
             → Admits self.old a → CanExtend clause.now self.new a) }
         ensures rests { IfOk result (λ yes. yes ≡ false
             → ComesToRest (words_of self.new) clause.now) }
     {
-        let follows = self.follows(clause)?;
+        let follows = self.follows(clause, hints)?;
         if follows {
             return Ok(true);
         }
@@ -291,7 +339,7 @@ impl Checker {
     }
 
     /// Adds a clause if it follows, or brings in a new variable, and answers whether it does.
-    fn add(&mut self, clause: &[u32]) -> Result<bool, AllocError>
+    fn add(&mut self, clause: &[u32], hints: &[u32]) -> Result<bool, AllocError>
         ensures keeps { OnOk result (Keeps self.old self.new) }
         ensures stored { OnOk result ((other : List ℕ) → IsStored (words_of self.old) other
             → IsStored (words_of self.new) other) }
@@ -301,7 +349,7 @@ impl Checker {
             → ComesToRest (words_of self.new) clause.now) }
     {
         self.make_room(clause)?;
-        let is_right = self.is_right(clause)?;
+        let is_right = self.is_right(clause, hints)?;
         if is_right {
             self.add_given(clause)?;
         }
@@ -367,7 +415,8 @@ impl Checker {
                 Ok(())
             }
             LineEnd::Added => {
-                let is_right = self.add(reader.clause())?;
+                self.numbers.set_next(reader.number());
+                let is_right = self.add(reader.clause(), reader.hints())?;
                 if is_right {
                     Ok(())
                 } else {

@@ -2,7 +2,7 @@
 ghost use Rattle.std.specs.Prelude.{◌≡◌, ◌⊎◌, ℕ, Bool, false, slice_index_or, true};
 ghost use Rattle.aig_refute.specs.Kept.{HasLiteral, HaveSameLiterals};
 
-use crate::words::is_marked;
+use crate::words::{is_marked, unmark};
 use std::alloc::{AllocError, Global};
 
 /// Compares clauses.
@@ -11,19 +11,6 @@ pub(crate) struct Comparer {
     /// By literal, whether the clause has it that is compared with: of the literals that were
     /// cleared before.
     marks: Vec<bool>,
-}
-
-/// No literal of a clause is marked.
-fn clear_all(marks: &mut [bool], clause: &[u32])
-    ensures { (literal : ℕ) → HasLiteral clause.now literal
-        → slice_index_or marks.new literal false ≡ false }
-{
-    for k in 0..clause.len() {
-        let at = clause[k] as usize;
-        if at < marks.len() {
-            marks[at] = false;
-        }
-    }
 }
 
 /// Each literal of a clause is marked, if there is a mark for it.
@@ -74,7 +61,7 @@ impl Comparer {
             → HasLiteral other.now literal }
     {
         let marks = self.marks.as_mut_slice();
-        clear_all(marks, clause);
+        unmark(marks, clause);
         mark_all(marks, other);
         are_marked(marks, clause)
     }

@@ -3,58 +3,37 @@
 ghost use Rattle.std.specs.Prelude.{◌≡◌, ◌+◌, ◌<◌, ◌≤◌, ℕ, Bool, true, false, length, IfOk};
 ghost use Rattle.aig_refute.specs.Agree.{Agrees, Extends, Grows};
 
-use crate::kernel::{Derived, Kernel};
-use crate::scan::{Progress, Watch, put_watch};
-use crate::words::negation;
+use crate::gate_places::WORDS_OF_A_GATE;
+use crate::kernel::{Derived, Kernel, Visit};
+use crate::watches::{Watch, Watches};
+use crate::words::{END, negation};
 use aig_core::Gate;
 use std::alloc::{AllocError, Global};
-use std::mem;
 
 /// The clauses, by the literals that watch them.
 #[derive(Drop)]
 pub(crate) struct Propagation {
     alloc: Global,
     pub(crate) kernel: Kernel,
-    watches: Vec<Vec<Watch>>,
+    watches: Watches,
     /// How many of the literals that are known have been looked at.
     next: usize,
 }
 
-/// Takes out what stands from the one place up to the other, if anything does.
-fn take_out(list: &mut Vec<Watch>, from: usize, to: usize) {
-    if from >= to || to > list.len() {
-        return;
-    }
-    for at in to..list.len() {
-        list[at - to + from] = list[at];
-    }
-    list.truncate(list.len() - (to - from));
-}
-
-/// How many words the clauses of a gate take.
-const WORDS_OF_A_GATE: usize = 10;
-
-/// Counts one more of a literal.
-fn count(counts: &mut [u32], literal: u32) {
-    let at = literal as usize;
-    if at < counts.len() {
-        counts[at] = counts[at].saturating_add(1);
-    }
-}
-
-/// By literal, how many clauses of gates it will watch.
-fn watch_counts(alloc: Global, literals: usize, gates: &[Gate]) -> Result<Vec<u32>, AllocError> {
-    let mut counts = vec![in alloc; 0u32; literals]?;
+/// No clause is watched, by literals below this one, with room for the watches of gates.
+fn watches_for(alloc: Global, literals: usize, gates: &[Gate]) -> Result<Watches, AllocError> {
+    let mut watches = Watches::new(alloc, literals)?;
     for gate in gates {
         let own = gate.var.0.wrapping_mul(2);
         for literal in [negation(own), negation(own), own] {
-            count(&mut counts, literal);
+            watches.expect(literal);
         }
         for literal in [gate.left.0, negation(gate.left.0), gate.right.0] {
-            count(&mut counts, literal);
+            watches.expect(literal);
         }
     }
-    Ok(counts)
+    watches.make_expected_room()?;
+    Ok(watches)
 }
 
 impl Propagation {
@@ -67,11 +46,7 @@ impl Propagation {
         ensures agrees { IfOk result (λ propagation. (a : ℕ → Bool) → Agrees a propagation.kernel) }
         ensures base { IfOk result (λ propagation. propagation.kernel.store.base ≡ literals) }
     {
-        let counts = watch_counts(alloc, literals, gates)?;
-        let mut watches = Vec::with_capacity(alloc, literals)?;
-        for count in &counts {
-            watches.push(Vec::with_capacity(alloc, *count as usize)?)?;
-        }
+        let watches = watches_for(alloc, literals, gates)?;
         let words = gates.len().saturating_mul(WORDS_OF_A_GATE);
         Ok(Propagation {
             alloc,
@@ -81,22 +56,12 @@ impl Propagation {
         })
     }
 
-    /// No clause is watched by one more literal.
-    fn add_room(&mut self) -> Result<(), AllocError>
-        ensures { self.new.kernel ≡ self.old.kernel }
-    {
-        self.watches.push(Vec::new(self.alloc))?;
-        Ok(())
-    }
-
     /// There is room for the literals below this one.
     #[tactic(auto, using(crate::proofs::Later::grows_both, crate::proofs::Later::grows_same))]
     pub(crate) fn make_room(&mut self, literals: usize) -> Result<(), AllocError>
         ensures { Grows self.old.kernel self.new.kernel }
     {
-        for _literal in self.watches.len()..literals {
-            self.add_room()?;
-        }
+        self.watches.make_room(literals)?;
         self.kernel.make_room(literals)
     }
 
@@ -110,66 +75,47 @@ impl Propagation {
     ) -> Result<(), AllocError>
         ensures { self.new.kernel ≡ self.old.kernel }
     {
-        put_watch(&mut self.watches, literal, Watch { blocking, clause })
-    }
-
-    /// What follows from a clause that is watched.
-    #[inline(always)]
-    fn derive(&mut self, watch: Watch) -> Result<Derived, AllocError>
-        ensures grows { Grows self.old.kernel self.new.kernel }
-        ensures conflict { IfOk result (λ derived. derived ≡ Derived.Conflict
-            → (a : ℕ → Bool) → ¬ Agrees a self.old.kernel) }
-    {
-        self.kernel.derive(watch.clause as usize)
-    }
-
-    /// Looks at the clauses of a list, and answers whether one is false: then the rest stays.
-    #[tactic(auto, using(crate::proofs::Later::grows_both, crate::proofs::Later::grows_same))]
-    fn pass_list(&mut self, literal: u32, list: &mut Vec<Watch>) -> Result<bool, AllocError>
-        ensures grows { Grows self.old.kernel self.new.kernel }
-        ensures conflict { IfOk result (λ c. c ≡ true
-            → (a : ℕ → Bool) → ¬ Agrees a self.old.kernel) }
-    {
-        let mut progress = Progress { at: 0, kept: 0 };
-        loop {
-            progress = self
-                .kernel
-                .scan(&mut self.watches, list, literal, progress)?;
-            if progress.at >= list.len() {
-                list.truncate(progress.kept);
-                return Ok(false);
-            }
-            let watch = list[progress.at];
-            if self.derive(watch)? == Derived::Conflict {
-                take_out(list, progress.kept, progress.at);
-                return Ok(true);
-            }
-            list[progress.kept] = watch;
-            progress = Progress {
-                at: progress.at + 1,
-                kept: progress.kept + 1,
-            };
-        }
+        self.watches.push(literal, Watch::new(blocking, clause))
     }
 
     /// Looks at the clauses that a literal watches which has become false, and answers whether one
-    /// is false.
+    /// is false: then the rest stays.
+    #[inline(always)]
     #[tactic(auto, using(crate::proofs::Later::grows_both, crate::proofs::Later::grows_same))]
     fn pass(&mut self, literal: u32) -> Result<bool, AllocError>
         ensures grows { Grows self.old.kernel self.new.kernel }
         ensures conflict { IfOk result (λ c. c ≡ true
             → (a : ℕ → Bool) → ¬ Agrees a self.old.kernel) }
     {
-        let at = literal as usize;
-        if at >= self.watches.len() {
+        if literal == END {
             return Ok(false);
         }
-        let mut list = mem::replace(&mut self.watches[at], Vec::new(self.alloc));
-        let conflict = self.pass_list(literal, &mut list)?;
-        if at < self.watches.len() {
-            self.watches[at] = list;
+        let (start, end) = self.watches.span(literal);
+        let mut kept = start;
+        for at in start..end {
+            let watch = self.watches.at(at);
+            if self.kernel.is_known(watch.blocking()) {
+                kept = self.watches.put(kept, watch);
+                continue;
+            }
+            match self.kernel.visit(watch.clause(), literal)? {
+                Visit::Stayed(blocking) => {
+                    kept = self.watches.put(kept, Watch::new(blocking, watch.clause()));
+                }
+                Visit::Moved(free, blocking) => {
+                    self.watches
+                        .push(free, Watch::new(blocking, watch.clause()))?;
+                }
+                Visit::Gone => {}
+                Visit::Conflict => {
+                    kept = self.watches.put_all(at, end, kept);
+                    self.watches.set_end(literal, kept, end);
+                    return Ok(true);
+                }
+            }
         }
-        Ok(conflict)
+        self.watches.set_end(literal, kept, end);
+        Ok(false)
     }
 
     /// Follows what is known to its end, or to a clause that is false: then the answer is yes.
@@ -209,22 +155,13 @@ impl Propagation {
         }
     }
 
-    /// No clause is watched any more.
-    fn unwatch(&mut self)
-        ensures { self.new.kernel ≡ self.old.kernel }
-    {
-        for k in 0..self.watches.len() {
-            self.watches[k].clear();
-        }
-    }
-
     /// Gives the memory of clauses that were let go back, and tells where each of the others begins:
     /// no literal watches it.
     pub(crate) fn compact(&mut self) -> Result<Vec<u32>, AllocError>
         ensures { Grows self.old.kernel self.new.kernel }
     {
         let places = self.kernel.compact(self.alloc)?;
-        self.unwatch();
+        self.watches.clear();
         Ok(places)
     }
 

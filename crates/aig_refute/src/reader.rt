@@ -1,20 +1,44 @@
-//! The lines of a refutation, read byte by byte: as text or binary, which the first bytes tell
-//! apart.
-ghost use Rattle.std.specs.Prelude.{◌≡◌, ◌<◌, ◌≤◌, ◌^◌, IfOk, None, OnOk, fold, true};
+//! The lines of a refutation, read byte by byte: those of DRAT as text or binary, which the first
+//! bytes tell apart, and those of LRAT as text.
+ghost use Rattle.std.specs.Prelude.{◌≡◌, ◌<◌, ◌≤◌, ◌^◌, IfOk, None, OnOk, false, fold, true};
 ghost use Rattle.aig_refute.specs.Lines.{Goes, after, begun, behind_blank, cleared, code_of};
-ghost use Rattle.aig_refute.specs.Lines.{ended, first_reader, held_codes, held_text, in_binary, in_blank};
-ghost use Rattle.aig_refute.specs.Lines.{in_code, in_comment, in_first, in_first_deletion};
-ghost use Rattle.aig_refute.specs.Lines.{in_first_number, in_letter, in_line, in_mark, in_minus};
-ghost use Rattle.aig_refute.specs.Lines.{in_number, is_blank, is_code, is_digit, line_of};
-ghost use Rattle.aig_refute.specs.Lines.{may_be_held, missing_end, move, next, reading_of};
-ghost use Rattle.aig_refute.specs.Lines.{refused, with_code, with_digit, with_group, with_number};
-ghost use Rattle.aig_refute.specs.Lines.{with_whole};
+ghost use Rattle.aig_refute.specs.Lines.{ended, first_part, first_reader, first_spot, held_codes};
+ghost use Rattle.aig_refute.specs.Lines.{held_text, in_binary, in_blank, in_code, in_comment};
+ghost use Rattle.aig_refute.specs.Lines.{in_drat_letter, in_first, in_first_deletion};
+ghost use Rattle.aig_refute.specs.Lines.{in_first_number, in_letter, in_line, in_lrat_letter, in_mark};
+ghost use Rattle.aig_refute.specs.Lines.{in_minus, in_number, in_part, is_blank, is_code, is_digit};
+ghost use Rattle.aig_refute.specs.Lines.{line_of, may_be_held, missing_end, move, moved, next};
+ghost use Rattle.aig_refute.specs.Lines.{reading_of, refused, with_code, with_deleted, with_digit};
+ghost use Rattle.aig_refute.specs.Lines.{with_group, with_hint, with_literal_number, with_literals};
+ghost use Rattle.aig_refute.specs.Lines.{with_number, with_own_number, with_whole};
 
 use crate::words::END;
 use std::alloc::{AllocError, Global};
 
 /// The most bytes of the first number of a text: a sign and ten digits.
 pub(crate) const MOST_HELD: usize = 11;
+
+/// How a refutation is written.
+#[derive(Clone, Copy, Debug, PartialEq, Eq)]
+pub enum RefutationFormat {
+    /// DRAT: clauses that are added and deleted, as text or binary.
+    Drat,
+    /// LRAT as text: a clause that is added has a number, and the numbers of clauses that show it.
+    Lrat,
+}
+
+/// In which part of a line the numbers of a text stand. Lines of DRAT have literals alone.
+#[derive(Clone, Copy, Debug, PartialEq, Eq)]
+pub enum LinePart {
+    /// The number of the clause.
+    Number,
+    /// Its literals.
+    Literals,
+    /// The numbers of the clauses that show it.
+    Hints,
+    /// The numbers of clauses that are deleted.
+    Deletion,
+}
 
 /// What a byte ended.
 #[derive(Clone, Copy, Debug, PartialEq, Eq)]
@@ -59,7 +83,9 @@ pub enum Spot {
 /// How far a refutation was read.
 #[derive(Clone, Copy, Debug, PartialEq, Eq)]
 pub struct Reader {
+    pub format: RefutationFormat,
     pub spot: Spot,
+    pub part: LinePart,
     /// What the number comes to so far, or the code.
     pub number: u64,
     /// Whether the number is negative.
@@ -124,13 +150,36 @@ fn with_group(number: u64, shift: u32, byte: u8) -> u64
     number.saturating_add(u64::from(byte % 128) << shift)
 }
 
+/// Where the first byte stands.
+fn first_spot(format: RefutationFormat) -> Spot
+    ensures { result ≡ first_spot format }
+{
+    match format {
+        RefutationFormat::Drat => Spot::First,
+        RefutationFormat::Lrat => Spot::LineStart,
+    }
+}
+
+/// How a line begins.
+#[inline(always)]
+fn first_part(format: RefutationFormat) -> LinePart
+    ensures { result ≡ first_part format }
+{
+    match format {
+        RefutationFormat::Drat => LinePart::Literals,
+        RefutationFormat::Lrat => LinePart::Number,
+    }
+}
+
 impl Reader {
     /// Before the first byte.
-    fn new(limit: u64) -> Reader
-        ensures { result ≡ first_reader limit }
+    fn new(format: RefutationFormat, limit: u64) -> Reader
+        ensures { result ≡ first_reader format limit }
     {
         Reader {
-            spot: Spot::First,
+            format,
+            spot: first_spot(format),
+            part: first_part(format),
             number: 0,
             is_negative: false,
             shift: 0,
@@ -158,6 +207,65 @@ impl Reader {
     {
         self.spot = Spot::Wrong;
         LineEnd::Bad
+    }
+
+    /// Numbers of that part follow.
+    #[inline(always)]
+    fn begin_part(&mut self, part: LinePart) -> LineEnd
+        ensures { moved (in_part self.old part)
+            ≡ record { reader = self.new; literal = None; end = result } }
+    {
+        self.part = part;
+        LineEnd::Within
+    }
+
+    /// The literals end.
+    #[inline(always)]
+    fn end_literals(&mut self) -> LineEnd
+        ensures { with_literals self.old
+            ≡ record { reader = self.new; literal = None; end = result } }
+    {
+        match self.format {
+            RefutationFormat::Drat => self.end(),
+            RefutationFormat::Lrat => self.begin_part(LinePart::Hints),
+        }
+    }
+
+    /// The number of a clause ends.
+    #[inline(always)]
+    fn end_own_number(&mut self) -> LineEnd
+        ensures { with_own_number self.old
+            ≡ record { reader = self.new; literal = None; end = result } }
+    {
+        if self.is_negative || self.number == 0 {
+            return self.refuse();
+        }
+        self.begin_part(LinePart::Literals)
+    }
+
+    /// The number of a clause ends that is deleted: 0 ends the line.
+    #[inline(always)]
+    fn end_deleted(&mut self) -> LineEnd
+        ensures { with_deleted self.old
+            ≡ record { reader = self.new; literal = None; end = result } }
+    {
+        if self.is_negative {
+            return self.refuse();
+        }
+        if self.number == 0 {
+            return self.begin_part(LinePart::Number);
+        }
+        LineEnd::Within
+    }
+
+    /// Which clause the number names. No clause has the number 0, a negative one or one of more
+    /// than 32 bits.
+    #[inline(always)]
+    fn clause_number(&self) -> u32 {
+        if self.is_negative {
+            return 0;
+        }
+        u32::try_from(self.number).unwrap_or(0)
     }
 
     /// What the end of a clause is.
@@ -195,9 +303,10 @@ impl Reader {
         }
     }
 
-    /// A letter in a text.
-    fn in_letter(&mut self, byte: u8) -> LineEnd
-        ensures { in_letter self.old byte ≡ record { reader = self.new; literal = None; end = result } }
+    /// A letter in a text of DRAT.
+    fn in_drat_letter(&mut self, byte: u8) -> LineEnd
+        ensures { in_drat_letter self.old byte
+            ≡ record { reader = self.new; literal = None; end = result } }
     {
         if self.is_deletion || self.has_literals {
             return self.refuse();
@@ -213,6 +322,32 @@ impl Reader {
                 LineEnd::Within
             }
             _ => self.refuse(),
+        }
+    }
+
+    /// A letter in a text of LRAT.
+    fn in_lrat_letter(&mut self, byte: u8) -> LineEnd
+        ensures { in_lrat_letter self.old byte
+            ≡ record { reader = self.new; literal = None; end = result } }
+    {
+        if byte == b'd' && self.part == LinePart::Literals && !self.has_literals {
+            self.part = LinePart::Deletion;
+            self.spot = Spot::Blank;
+            return LineEnd::Within;
+        }
+        if byte == b'c' && self.part == LinePart::Number {
+            self.spot = Spot::Comment;
+            return LineEnd::Within;
+        }
+        self.refuse()
+    }
+
+    fn in_letter(&mut self, byte: u8) -> LineEnd
+        ensures { in_letter self.old byte ≡ record { reader = self.new; literal = None; end = result } }
+    {
+        match self.format {
+            RefutationFormat::Drat => self.in_drat_letter(byte),
+            RefutationFormat::Lrat => self.in_lrat_letter(byte),
         }
     }
 
@@ -325,17 +460,22 @@ pub struct RefutationReader {
     clause: Vec<u32>,
     /// The bytes of a first number, which may be codes.
     held: Vec<u8>,
+    /// Which number the clause has. This and the hints change nothing that a refutation says.
+    number: u32,
+    hints: Vec<u32>,
 }
 
 impl RefutationReader {
     /// No bytes yet, of a refutation over literals below this one.
-    pub fn new(alloc: Global, limit: usize) -> RefutationReader
-        ensures { reading_of result ≡ begun limit }
+    pub fn new(alloc: Global, format: RefutationFormat, limit: usize) -> RefutationReader
+        ensures { reading_of result ≡ begun format limit }
     {
         RefutationReader {
-            reader: Reader::new(limit as u64),
+            reader: Reader::new(format, limit as u64),
             clause: Vec::new(alloc),
             held: Vec::new(alloc),
+            number: 0,
+            hints: Vec::new(alloc),
         }
     }
 
@@ -344,6 +484,16 @@ impl RefutationReader {
         ensures { result.now ≡ (reading_of self.now).clause }
     {
         self.clause.as_slice()
+    }
+
+    /// The number that the clause has by a line of LRAT.
+    pub(crate) fn number(&self) -> u32 {
+        self.number
+    }
+
+    /// The numbers of the clauses that show it, if it is right.
+    pub(crate) fn hints(&self) -> &[u32] {
+        self.hints.as_slice()
     }
 
     /// The number of the line, counted from 1.
@@ -359,6 +509,8 @@ impl RefutationReader {
         ensures { reading_of self.new ≡ cleared (reading_of self.old) }
     {
         self.clause.clear();
+        self.hints.clear();
+        self.reader.part = first_part(self.reader.format);
         self.reader.is_deletion = false;
         self.reader.has_literals = false;
     }
@@ -387,20 +539,48 @@ impl RefutationReader {
         Ok(LineEnd::Within)
     }
 
-    /// A number ends: 0 ends the clause.
+    /// A number of a literal ends: 0 ends them.
     #[inline(always)]
-    fn end_number(&mut self) -> Result<LineEnd, AllocError>
-        ensures { IfOk result (λ end. Goes self.old (with_number self.old.reader) self.new end) }
+    fn end_literal(&mut self) -> Result<LineEnd, AllocError>
+        ensures { IfOk result (λ end. Goes self.old (with_literal_number self.old.reader) self.new end) }
     {
         if self.reader.number == 0 {
-            let end = self.reader.end();
-            return Ok(end);
+            return Ok(self.reader.end_literals());
         }
         if self.reader.number > u64::from(u32::MAX) {
             return Ok(self.reader.refuse());
         }
         let code = self.reader.code();
         self.push_code(code)
+    }
+
+    /// A hint ends: 0 ends the line.
+    #[inline(always)]
+    fn end_hint(&mut self) -> Result<LineEnd, AllocError>
+        ensures { IfOk result (λ end. Goes self.old (with_hint self.old.reader) self.new end) }
+    {
+        if self.reader.number == 0 {
+            let end = self.reader.end();
+            return Ok(end);
+        }
+        self.hints.push(self.reader.clause_number())?;
+        Ok(LineEnd::Within)
+    }
+
+    /// A number ends.
+    #[inline(always)]
+    fn end_number(&mut self) -> Result<LineEnd, AllocError>
+        ensures { IfOk result (λ end. Goes self.old (with_number self.old.reader) self.new end) }
+    {
+        match self.reader.part {
+            LinePart::Literals => self.end_literal(),
+            LinePart::Hints => self.end_hint(),
+            LinePart::Number => {
+                self.number = self.reader.clause_number();
+                Ok(self.reader.end_own_number())
+            }
+            LinePart::Deletion => Ok(self.reader.end_deleted()),
+        }
     }
 
     #[inline(always)]

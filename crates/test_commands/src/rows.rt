@@ -123,6 +123,9 @@ aigunroll --frames 1 --refutation p m => 1 any 2147483647 m refutation p -;\
 aigunroll --refutation=p --frames 1000000 m r => 1000000 any 2147483647 m refutation p r;\
 aigunroll --refutation - --frames 2 m => 2 any 2147483647 m refutation - -;\
 aigunroll --frames 2 --refutation p => 2 any 2147483647 - refutation p -;\
+aigunroll --frames 2 --lrat --refutation p => 2 any 2147483647 - lrat p -;\
+aigunroll --refutation - --frames 2 m --lrat => 2 any 2147483647 m lrat - -;\
+aigunroll --frames 2 --refutation p m -- --lrat => 2 any 2147483647 m refutation p --lrat;\
 aigunroll --frames 2 - r --refutation p => 2 any 2147483647 - refutation p r;\
 aigunroll --frames 2 --refutation p.gz m.gz r.aag => 2 any 2147483647 m.gz refutation p.gz r.aag;\
 aigunroll --frames 2 --bad 0 --refutation p m => 2 0 2147483647 m refutation p -;\
@@ -151,6 +154,7 @@ aigunroll --refutation=p --invariant=i m d => any 2147483647 m i refutation p d;
 aigunroll --invariant - --refutation p m => any 2147483647 m - refutation p -;\
 aigunroll --refutation - --invariant i m => any 2147483647 m i refutation - -;\
 aigunroll --invariant i --refutation p => any 2147483647 - i refutation p -;\
+aigunroll --lrat --invariant i --refutation p m => any 2147483647 m i lrat p -;\
 aigunroll - d --refutation p --invariant i => any 2147483647 - i refutation p d;\
 aigunroll --invariant i.gz --refutation p.gz m.gz d.aag \
 => any 2147483647 m.gz i.gz refutation p.gz d.aag;\
@@ -239,6 +243,13 @@ aigunroll --refutation a --frames 2 --answer a m x.gz \
 => --refutation excludes --cnf, --ascii and --answer;\
 aigunroll --frames 2 --bad 0 => --bad needs --cnf, --answer or --refutation;\
 aigunroll --bad 7 --ascii --frames 2 - x.gz => --bad needs --cnf, --answer or --refutation;\
+aigunroll --frames 2 --lrat => --lrat needs --refutation;\
+aigunroll --frames 2 --lrat --cnf m => --lrat needs --refutation;\
+aigunroll --frames 2 --lrat --answer - => --lrat needs --refutation;\
+aigunroll --invariant - --cnf --lrat - x.gz => --lrat needs --refutation;\
+aigunroll --frames 2 --lrat -- --refutation p => --lrat needs --refutation;\
+aigunroll --frames 2 --lrat --bad 0 => --bad needs --cnf, --answer or --refutation;\
+aigunroll --frames 2 --lrat --sync => --lrat needs --refutation;\
 aigunroll --frames 2 --sync => --sync needs the name of a destination;\
 aigunroll --frames 2 --sync --answer - => --sync needs the name of a destination;\
 aigunroll --frames 2 --sync --bad 0 => --bad needs --cnf, --answer or --refutation;\
@@ -431,6 +442,8 @@ aigunroll --frames 2 --refutation p --refutation q m => words;\
 aigunroll --frames 2 --refutation p b c d => words;\
 aigunroll --frames 2 --refute p m => words;\
 aigunroll --frames 2 --refutation p --bad => words;\
+aigunroll --frames 2 --refutation p --lrat --lrat m => words;\
+aigunroll --frames 2 --refutation p --lrat=l m => words;\
 aigunroll --invariant => words;\
 aigunroll --cnf --invariant => words;\
 aigunroll --invariant i --invariant j --cnf m => words;\
@@ -459,6 +472,7 @@ aigsim --cnf m => words;\
 aigsim --bad 1 m => words;\
 aigsim --answer a m => words;\
 aigsim --refutation p m => words;\
+aigsim --lrat m => words;\
 aigsim --invariant i m => words;\
 aigunroll --frames 2 a b c => words;\
 aigunroll --frames 2 - - - => words;\
@@ -563,13 +577,17 @@ fn shown_unrolling(alloc: Global, names: &Names, request: Unroll) -> Result<Stri
     format!(in alloc; "{frames} {form}{limit} {source} {destination}")
 }
 
+fn refutation_word(lrat: bool) -> &'static str {
+    if lrat { "lrat" } else { "refutation" }
+}
+
 fn shown_reaching(alloc: Global, names: &Names, request: Reach) -> Result<String, AllocError> {
     let frames = request.frames;
     let bad = shown_bad(alloc, request.bad)?;
     let model = show_file(&names.model);
     let wrote = match request.wrote {
         SolverFile::Answer => "answer",
-        SolverFile::Refutation => "refutation",
+        SolverFile::Refutation => refutation_word(request.lrat),
     };
     let file = show_file(&names.file);
     let destination = show_file(&names.destination);
@@ -581,7 +599,8 @@ fn shown_reaching(alloc: Global, names: &Names, request: Reach) -> Result<String
 fn shown_work(alloc: Global, names: &Names, request: Invariant) -> Result<String, AllocError> {
     let file = show_file(&names.refutation);
     if request.refuted {
-        format!(in alloc; "refutation {file}")
+        let wrote = refutation_word(request.lrat);
+        format!(in alloc; "{wrote} {file}")
     } else {
         String::from_str(alloc, "clauses")
     }

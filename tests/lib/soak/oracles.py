@@ -211,16 +211,16 @@ def same_invariant(here, models, made, bad):
 
 def same_refutation(here, models, made, frames, bad):
     """Of all models a refutation shows what the plain checker says, and where it shows that there is no run, there is none."""
-    chance = here.chance
+    chance, is_lrat = here.chance, not here.chance.randrange(3)
     frames, largest, clauses, is_unsatisfiable, lemmas = refutations.searched(made, frames, bad)
-    proof = refutations.given(chance, largest, clauses, lemmas)
+    proof = refutations.given(chance, largest, clauses, lemmas, is_lrat)
     proof = edited(chance, proof, proof) if chance.randrange(2) else proof
-    words = answers.words_of(frames, bad)
+    words = [*answers.words_of(frames, bad), *["--lrat"] * is_lrat]
     for model in models:
         call, name = Call([*words, "--refutation", "-", "model"], proof, {"model": model}), "-"
         if chance.randrange(2):
             call, name = Call([*words, "-", "--refutation", "proof"], model, {"proof": proof}), "proof"
-        wanted = refutations.wanted(made, frames, bad, name, proof)
+        wanted = refutations.wanted(made, frames, bad, name, proof, is_lrat)
         here.expect("what a refutation shows", call, *wanted)
         if is_unsatisfiable is False and wanted[2] == 0:
             raise Failed("what is shown is so", call, "a run", wanted)

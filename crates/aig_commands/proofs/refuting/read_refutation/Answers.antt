@@ -9,5 +9,6 @@ returns-in_err-unrolled g c = search (rules, read_none)
 pub returns : goal.returns
 returns g c =
     let same = c.as_checked.ensures.value in
-    refutation_read _ _ _ c.check_refutation-checked.result _ _ (rw same at c.circuit.ensures.well_formed)
-    c.in_ok-unrolled.ensures.ok (rw (c.circuit.ensures.value, same) at c.check_refutation-checked.ensures)
+    refutation_read c.args.lrat _ _ _ (rw same at c.circuit.ensures.well_formed) c.in_ok-unrolled.ensures.ok
+    c.check_refutation-checked.result _ _
+    (rw (c.circuit.ensures.value, same, c.format_of-format.ensures) at c.check_refutation-checked.ensures)

@@ -7,7 +7,7 @@ use Rattle.aig_refute.proofs.comparer.Comparer.has_all.Goals as goal
 pub returns : goal.returns
 returns c = λ yes literal has.
     ⊎_elim
-    (λ (old : slice_index_or c.clear_all.new.marks literal false ≡ true).
-    absurd (not_both _ (c.clear_all.ensures literal has) old))
+    (λ (old : slice_index_or c.unmark.new.marks literal false ≡ true).
+    absurd (not_both _ (c.unmark.ensures.gone literal has) old))
     (λ (found : HasLiteral c.args.other.now literal). found)
     (c.mark_all.ensures literal (c.are_marked.ensures yes literal has))

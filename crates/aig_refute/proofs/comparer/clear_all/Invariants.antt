@@ -1,6 +1,0 @@
-use Rattle.std.proofs.Common.{◌≡◌, ◌<◌, ℕ, false}
-use Rattle.std.specs.Prelude.{slice_index, slice_index_or}
-use Rattle.aig_refute.proofs.comparer.clear_all.Given as goal
-
-abbrev pub invariant-loop-k : goal.invariant-loop-k
-invariant-loop-k l = (m : ℕ) → m < l.k → slice_index_or l.marks (slice_index l.clause m) false ≡ false
