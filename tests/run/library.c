@@ -310,6 +310,9 @@ static void check_refused_options(void) {
         IS_BAD(aigtools_miter(no_miter[i], 1, text, 0, text, 0, output, 1, &x));
     IS_BAD(aigtools_miter(0, above, text, 0, text, 0, output, 1, &x));
     IS_BAD(aigtools_convert(0, above, text, 0, output, 1, &x));
+    IS_BAD(aigtools_justice_as_bad(AIGTOOLS_KEEP_MAP, 0, 1, text, 0, output, 1, &x));
+    IS_BAD(aigtools_justice_as_bad(AIGTOOLS_OUTPUTS_AS_BAD, 0, 1, text, 0, output, 1, &x));
+    IS_BAD(aigtools_justice_as_bad(0, 0, above, text, 0, output, 1, &x));
     IS_BAD(aigtools_unroll(AIGTOOLS_STRIP, 1, 1, text, 0, output, 1, &x));
     IS_BAD(aigtools_unroll(0, 0, 1, text, 0, output, 1, &x));
     IS_BAD(aigtools_unroll(0, 1000001, 1, text, 0, output, 1, &x));
@@ -348,6 +351,31 @@ static void check_verdicts_with_runs(void) {
           "too short", (long)too_short.length);
     run_of(claim, 4, output, ROOM, &x);
     check(x.status == AIGTOOLS_REFUSED && x.kind == AIGTOOLS_BAD_WITNESS, "run", "refused", x.status);
+}
+
+static void check_justice(void) {
+    static const char model[] = "aag 1 0 1 0 0 0 0 1\n2 3\n1\n2\n", none[] = "aag 0 0 0 0 0 0 0 1\n0\n";
+    static const char large[] = "aag 2147483642 0 0 0 0 0 0 1\n0\n", live[] = "aag 6 1 1 0 4 1\n2\n4 9\n12\n";
+    static const struct { uint32_t property, kind; const char *model; } refused[] = {
+        {1, AIGTOOLS_NO_SUCH_JUSTICE, model},
+        {AIGTOOLS_ALL_BAD, AIGTOOLS_NO_SUCH_JUSTICE, model},
+        {0, AIGTOOLS_TOO_LARGE_JUSTICE, large},
+    };
+    uint8_t output[ROOM];
+    aigtools_outcome x;
+    size_t i;
+    memset(output, UNTOUCHED, sizeof output);
+    for (i = 0; i < sizeof refused / sizeof *refused; i++) {
+        aigtools_justice_as_bad(0, refused[i].property, AIGTOOLS_LARGEST, (const uint8_t *)refused[i].model,
+                                strlen(refused[i].model), output, ROOM, &x);
+        check(x.status == AIGTOOLS_REFUSED && x.kind == refused[i].kind && x.place == AIGTOOLS_WHOLE &&
+                  x.subject == (i < 2 ? refused[i].property : 0) && is_untouched(output, ROOM),
+              "justice", "refused", (long)i);
+    }
+    aigtools_justice_as_bad(AIGTOOLS_ASCII, 0, AIGTOOLS_LARGEST, TEXT(none), output, ROOM, &x);
+    check(x.status == AIGTOOLS_DONE && memcmp(output, live, sizeof live - 1) == 0 &&
+              is_untouched(output + x.length, ROOM - x.length),
+          "justice", "as a bad state", x.status);
 }
 
 static void check_answers(void) {
@@ -495,6 +523,7 @@ int main(int count, char **words) {
         check_refusals(calls[i].name, calls[i].of);
     }
     check_verdicts_with_runs();
+    check_justice();
     check_answers();
     check_refutations();
     check_invariants();

@@ -109,19 +109,28 @@ def check_rows():
         judge("most rows are there", count > 500, count)
 
 
+def has_justice(text):
+    """Whether the header counts justice properties."""
+    return text.split(b"\n", 1)[0].split()[8:9] not in ([], [b"0"])
+
+
 def mutants(folder, program):
-    """Inputs changed by chance, with words for the program and for the library."""
+    """Inputs, most of them changed by chance, with words for the program and for the library."""
     chance = random.Random(SEED)
     seeds = [path.read_bytes() for path in sorted((TOP / "examples").glob("*.a[ai]g"))]
     seeds += [row[3][0] for row in rows(folder) if row[4][2] == 0 and len(row[3][0]) < 2000][::7]
     seeds += [aigtools.convert(it, keep_map=True) for it in seeds]
     for number in range(MUTANTS):
         seed, kind = chance.choice(seeds), chance.randrange(14)
-        text = mutated(chance, seed)
+        text = mutated(chance, seed) if chance.randrange(12) else seed
         if kind < 6:
             flags = [(), ("ascii",), ("keep_map",), ("undo_map",), ("undo_map", "ascii"), ("strip",)]
-            flags = chance.choice([*flags, ("outputs_as_bad",)])
-            yield "aigtoaig", [f"--{it.replace('_', '-')}" for it in flags], dict.fromkeys(flags, True), text, b""
+            options = dict.fromkeys(chance.choice([*flags, ("outputs_as_bad",)]), True)
+            words = [f"--{it.replace('_', '-')}" for it in options]
+            if has_justice(seed) and not options.keys() & {"keep_map", "undo_map", "outputs_as_bad"}:
+                options["justice_as_bad"] = chance.randrange(2)
+                words += ["--justice-as-bad", str(options["justice_as_bad"])]
+            yield "aigtoaig", words, options, text, b""
         elif kind < 8:
             frames = chance.randrange(1, 4)
             yield "aigunroll", ["--frames", str(frames)], {"frames": frames}, text, b""

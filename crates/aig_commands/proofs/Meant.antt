@@ -1,5 +1,5 @@
 -- What is converted means what it was converted from.
-use Rattle.std.proofs.Common.{◌≡◌, if◌then◌else◌, refl, rules, ℕ, List, Bool, true, false, inl}
+use Rattle.std.proofs.Common.{◌≡◌, if◌then◌else◌, refl, rules, subst, ℕ, List, Bool, true, false, inl}
 use Rattle.aig_circuit.specs.declared.circuit.Circuit.{Circuit}
 use Rattle.aig_circuit.specs.declared.circuit.TheConstants.{LARGEST}
 use Rattle.aig_circuit.specs.Wellformed.{IsWellFormed}
@@ -9,9 +9,11 @@ use Rattle.aig_image.proofs.Imaging.Ordered.{image_is_ordered}
 use Rattle.aig_image.proofs.Meaning.{image_means_the_same}
 use Rattle.aig_map.proofs.Mapping.{mapped_image_is_ordered}
 use Rattle.aig_convert.proofs.Meaning.{mapped_image_means_the_same, undone_means_the_same}
+use Rattle.aig_command.specs.declared.request.BadStates.{BadStates}
+use Rattle.aig_command.specs.declared.request.BadStates.TheVariants.{Kept}
 use Rattle.aig_command.specs.declared.request.ToAig.{ToAig}
 use Rattle.aig_commands.specs.File.{IsFileOf}
-use Rattle.aig_commands.specs.Conversion.{IsConversionText, IsSource, IsTextAs, stripped, stripped_if_asked}
+use Rattle.aig_commands.specs.Conversion.{IsConversionText, IsSource, IsTextAs, stripped, stripped_if_asked, turned}
 use Rattle.aig_commands.proofs.Trips.{ascii_file, binary_file}
 use Rattle.aig_commands.proofs.TripsExist.{well_formed_file}
 
@@ -46,16 +48,23 @@ file_as false false c text good (image, is_image, is) =
     let ordered = image_is_ordered c image good is_image in
     (image, binary_file image text ordered.0 ordered.1 is, image_means_the_same c image good is_image)
 
+-- a conversion text is the file of a circuit that means what the source means with the bad states that are asked for
+pub turned_file : (request : ToAig) (file converted : List ℕ) (p : IsConversionText request file converted)
+    → IsWellFormed (turned request.bad_states p.source)
+    → (d : Circuit) × IsFileOf converted LARGEST d × MeansTheSame (turned request.bad_states p.source) d
+turned_file request file converted p good =
+    let made = turned request.bad_states p.source in
+    let written = changed_by request.strip made good in
+    let held = file_as request.ascii request.keep_map (stripped_if_asked request made) converted written.0 p.written_as in
+    (held.0, held.1, same_through made (stripped_if_asked request made) held.0 written.1 held.2)
+
 -- a conversion text is the file of a circuit that means what the circuit means that was read
-pub converted_file : (request : ToAig) (file converted : List ℕ) → request.outputs_as_bad ≡ false
+pub converted_file : (request : ToAig) (file converted : List ℕ) → request.bad_states ≡ Kept
     → (p : IsConversionText request file converted)
     → (d : Circuit) × IsFileOf converted LARGEST d × MeansTheSame p.found d
 converted_file request file converted still p =
     let good = well_formed_file file request.max_var p.found p.read in
     let source = source_by request.undo_map p.found p.source good p.is_source in
-    let written = changed_by request.strip p.source source.0 in
-    let made =
-    file_as request.ascii request.keep_map (stripped_if_asked request p.source) converted written.0
-    (rw still at p.written_as) in
-    let there = same_through p.source (stripped_if_asked request p.source) made.0 written.1 made.2 in
-    (made.0, made.1, same_through p.found p.source made.0 source.1 there)
+    let made = turned_file request file converted p (rw still source.0) in
+    let means = subst (λ (b : BadStates). MeansTheSame (turned b p.source) made.0) still made.2 in
+    (made.0, made.1, same_through p.found p.source made.0 source.1 means)

@@ -55,6 +55,7 @@ kind_short kinds.Undefined subject fits =
 kind_short kinds.Cyclic subject fits =
     around_short (codes "gate ") (codes " depends on a cycle") subject 48 fits (lit≤ tt)
 kind_short kinds.NoSuchBadState subject fits = around_short (codes "no bad state ") [] subject 48 fits (lit≤ tt)
+kind_short kinds.NoSuchJustice subject fits = around_short (codes "no justice property ") [] subject 48 fits (lit≤ tt)
 kind_short kinds.NotAiger subject fits = lit≤ tt
 kind_short kind subject fits = lit≤ tt
 

@@ -17,8 +17,8 @@
 -- A line adds its clause, or deletes it if it begins with `d`. The codes of the numbers v and -v are 2v and 2v + 1. A
 -- code less 2 is the literal: number 1, the constant, has 0 and 1. In line N literals are below a limit plus 2N, and
 -- below the word that ends a clause. In LRAT each line begins with a number, the clause's own, and behind the clause
--- stand hints, the numbers of clauses. They change nothing that it says, and nothing is deleted. A byte that cannot go on so is in no line, and neither is what follows it. A
--- number at the end of a text ends as before a line feed.
+-- stand hints, the numbers of clauses. They change nothing that it says, and nothing is deleted. A byte that cannot go
+-- on so is in no line, and neither is what follows it. A number at the end of a text ends as before a line feed.
 --
 -- The first bytes tell text and binary apart. Binary begins with `a` or with `d`. But `d`, a space, at most eleven
 -- digits and minuses and a space begin a text, since no clause has the code 32 twice. So those bytes are held until

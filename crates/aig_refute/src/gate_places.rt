@@ -1,7 +1,13 @@
 //! Where the clauses of gates begin. They need no entries of a table: a gate's variable tells them.
 
-/// How many words the clauses of a gate take.
+/// How many words the clauses of a gate take: two of two literals, and one of three.
 pub(crate) const WORDS_OF_A_GATE: usize = 10;
+
+/// Where the second of them begins, behind the first.
+pub(crate) const SECOND_CLAUSE: u32 = 3;
+
+/// And the third.
+pub(crate) const THIRD_CLAUSE: u32 = 6;
 
 /// Gates whose variables follow one another, and whose clauses do.
 #[derive(Clone, Copy, Debug, PartialEq, Eq)]

@@ -1,6 +1,6 @@
 //! The lines of a refutation, read byte by byte: those of DRAT as text or binary, which the first
 //! bytes tell apart, and those of LRAT as text.
-ghost use Rattle.std.specs.Prelude.{◌≡◌, ◌<◌, ◌≤◌, ◌^◌, IfOk, None, OnOk, false, fold, true};
+ghost use Rattle.std.specs.Prelude.{◌≡◌, ◌<◌, ◌≤◌, ◌^◌, IfOk, None, OnOk, fold, true};
 ghost use Rattle.aig_refute.specs.Lines.{Goes, after, begun, behind_blank, cleared, code_of};
 ghost use Rattle.aig_refute.specs.Lines.{ended, first_part, first_reader, first_spot, held_codes};
 ghost use Rattle.aig_refute.specs.Lines.{held_text, in_binary, in_blank, in_code, in_comment};

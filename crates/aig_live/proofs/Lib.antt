@@ -1,0 +1,6 @@
+pub mod Sizes
+pub mod Shown
+pub mod Made
+pub mod Back
+pub mod Formed
+pub mod Never
