@@ -953,7 +953,7 @@ rows_outputs_as_bad() {
 
 rows_justice_as_bad() {
     turns() { row "$2" "$3" "$4" '' 0 aigtoaig --ascii --justice-as-bad "$1"; }
-    refuses() { row "$2" "$3" '' "aiger: -: $4\n" 1 aigtoaig "${@:5}" --justice-as-bad "$1"; }
+    turns_none() { row "$2" "$3" '' "aiger: -: $4\n" 1 aigtoaig "${@:5}" --justice-as-bad "$1"; }
     turns 0 'a toggle that is to be 1 again and again' 'aag 1 0 1 0 0 0 0 1\n2 3\n1\n2\n' \
         'aag 19 1 4 0 14 1\n4\n2 3\n6 29\n8 19\n10 33\n38\n12 7 4\n14 12 2\n16 13 8\n18 17 15\n20 8 2\n22 9 3\n24 23 21\n26 25 1\n28 7 5\n30 29 2\n32 31 11\n34 6 1\n36 34 26\n38 36 10\n'
     turns 0 'no goals and no latches: any run without end' 'aag 0 0 0 0 0 0 0 1\n0\n' \
@@ -965,12 +965,12 @@ rows_justice_as_bad() {
         'aig 11 2 2 0 7 1\n13\n17\n22\n\x03\x03\x05\x02\x01\x0b\x01\x06\x0c\x05\x02\x11\x02\x0c' '' 0 aigtoaig --justice-as-bad 0
     turns 0 'the largest variable that a loop leaves room for' 'aag 2147483641 0 0 0 0 0 0 1\n0\n' \
         'aag 2147483647 1 1 0 4 1\n4294967284\n4294967286 4294967291\n4294967294\n4294967288 4294967287 4294967284\n4294967290 4294967287 4294967285\n4294967292 4294967286 1\n4294967294 4294967292 1\n'
-    refuses 0 'a variable more than a loop leaves room for' 'aag 2147483642 0 0 0 0 0 0 1\n0\n' 'too large'
-    refuses 0 'no justice properties' 'aag 1 1 0 0 0 0 0 0 1\n2\n2\n' 'no justice property 0'
-    refuses 1 'one justice property, and the next asked for' 'aag 1 1 0 0 0 0 0 1\n2\n1\n2\n' 'no justice property 1' --ascii
-    refuses 2147483647 'a justice property that no file has' 'aag 2147483647 1 0 0 0 0 0 1\n2\n1\n2\n' 'no justice property 2147483647' --strip
-    refuses 0 'a fault comes before a justice property' 'aag 1 1 0 0 0 0 0 1\n2\n1\n4\n' 'line 4: literal out of range'
-    refuses 0 'a limit that the source keeps, as a loop need not' 'aag 2 2 0 0 0 0 0 1\n2\n4\n0\n' 'line 1: number above the limit' --max-var 1
+    turns_none 0 'a variable more than a loop leaves room for' 'aag 2147483642 0 0 0 0 0 0 1\n0\n' 'too large'
+    turns_none 0 'no justice properties' 'aag 1 1 0 0 0 0 0 0 1\n2\n2\n' 'no justice property 0'
+    turns_none 1 'one justice property, and the next asked for' 'aag 1 1 0 0 0 0 0 1\n2\n1\n2\n' 'no justice property 1' --ascii
+    turns_none 2147483647 'a justice property that no file has' 'aag 2147483647 1 0 0 0 0 0 1\n2\n1\n2\n' 'no justice property 2147483647' --strip
+    turns_none 0 'a fault comes before a justice property' 'aag 1 1 0 0 0 0 0 1\n2\n1\n4\n' 'line 4: literal out of range'
+    turns_none 0 'a limit that the source keeps, as a loop need not' 'aag 2 2 0 0 0 0 0 1\n2\n4\n0\n' 'line 1: number above the limit' --max-var 1
 }
 
 # options of other programs: what stands here for them
