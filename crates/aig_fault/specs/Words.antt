@@ -72,6 +72,8 @@ kind_row kinds.TooLargeToCompare = (44, plain (codes "too large to compare"))
 kind_row kinds.NoName = (45, plain (codes "no name"))
 kind_row kinds.NameTwice = (46, plain (codes "name given twice"))
 kind_row kinds.NoSuchName = (47, plain (codes "no such name in the other file"))
+kind_row kinds.NoSuchJustice = (48, around (codes "no justice property ") [])
+kind_row kinds.TooLargeJustice = (49, plain (codes "too large"))
 
 abbrev pub kind_number : Kind → ℕ
 kind_number kind = (kind_row kind).0

@@ -102,10 +102,14 @@ pub enum Kind {
     NameTwice = 46,
     /// What is at this place has a name that nothing of the other circuit has.
     NoSuchName = 47,
+    /// The circuit has no justice property of this number.
+    NoSuchJustice = 48,
+    /// With the latches that find a loop the circuit would have more variables than fit.
+    TooLargeJustice = 49,
 }
 
 /// Each kind, by its number.
-pub const KINDS: [Kind; 47] = [
+pub const KINDS: [Kind; 49] = [
     Kind::NotAiger,
     Kind::BadHeader,
     Kind::TooLarge,
@@ -153,6 +157,8 @@ pub const KINDS: [Kind; 47] = [
     Kind::NoName,
     Kind::NameTwice,
     Kind::NoSuchName,
+    Kind::NoSuchJustice,
+    Kind::TooLargeJustice,
 ];
 
 impl Kind {

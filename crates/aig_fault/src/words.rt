@@ -81,6 +81,8 @@ impl Kind {
             Kind::NoName => Message::new("no name"),
             Kind::NameTwice => Message::new("name given twice"),
             Kind::NoSuchName => Message::new("no such name in the other file"),
+            Kind::NoSuchJustice => Message::around("no justice property ", subject, ""),
+            Kind::TooLargeJustice => Message::new("too large"),
         }
     }
 }
