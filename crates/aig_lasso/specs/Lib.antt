@@ -1,0 +1,4 @@
+pub mod Goals
+pub mod Endless
+pub mod Lasso
+pub mod Laws

@@ -1,0 +1,13 @@
+//! Laws: facts about the definitions alone, each the contract of a function with an empty body.
+ghost use Rattle.aig_lasso.specs.Laws.{LassosAreFairRuns, LongestLoopsMeetMost};
+
+/// A lasso is a run without end that is fair.
+#[tactic(auto, using(crate::proofs::Round::lassos_are_fair_runs))]
+pub fn lassos_are_fair_runs()
+    ensures { LassosAreFairRuns }
+{}
+
+/// Of loops that come back to one state, the longest meets all that the others meet.
+pub fn longest_loops_meet_most()
+    ensures { LongestLoopsMeetMost }
+{}

@@ -1,0 +1,9 @@
+//! Justice and fairness: lassos, and the runs without end that they stand for.
+//!
+//! The definitions that matter most are `IsLassoVerdict` and `IsFairRun`.
+#![tactic(auto)]
+
+pub mod laws;
+mod verdict;
+
+pub use crate::verdict::LassoVerdict;

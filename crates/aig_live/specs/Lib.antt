@@ -1,0 +1,3 @@
+pub mod WithLoop
+pub mod Values
+pub mod Laws
