@@ -58,8 +58,8 @@ enum aigtools_status {
 
 /* Options, a bit each. */
 enum aigtools_option {
-    AIGTOOLS_ASCII = 1,     /* convert, unroll, miter, write: write ASCII, and not binary */
-    AIGTOOLS_STRIP = 2,     /* convert: leave out symbols and comment */
+    AIGTOOLS_ASCII = 1,     /* convert, justice_as_bad, unroll, miter, write: write ASCII, and not binary */
+    AIGTOOLS_STRIP = 2,     /* convert, justice_as_bad: leave out symbols and comment */
     AIGTOOLS_KEEP_MAP = 4,  /* convert: begin the comment with a map that undoes the conversion; with no other option */
     AIGTOOLS_UNDO_MAP = 8,  /* convert: undo a conversion by the map of its image */
     AIGTOOLS_PROPERTIES = 16, /* simulate: show bad states and constraints too */
@@ -118,7 +118,9 @@ enum aigtools_kind {
     AIGTOOLS_TOO_LARGE_TO_COMPARE = 44,
     AIGTOOLS_NO_NAME = 45,            /* an input, an output or a bad state has no symbol */
     AIGTOOLS_NAME_TWICE = 46,         /* it has the name of one before it */
-    AIGTOOLS_NO_SUCH_NAME = 47        /* nothing of the first circuit has its name */
+    AIGTOOLS_NO_SUCH_NAME = 47,       /* nothing of the first circuit has its name */
+    AIGTOOLS_NO_SUCH_JUSTICE = 48,    /* outcome.subject is the number of the justice property */
+    AIGTOOLS_TOO_LARGE_JUSTICE = 49   /* with the latches that find a loop there are too many variables */
 };
 
 /* Where it is wrong. */
@@ -177,6 +179,16 @@ typedef struct aigtools_counts {
  */
 uint32_t aigtools_convert(uint32_t options, uint32_t max_var, const uint8_t *input, size_t input_length,
                           uint8_t *output, size_t output_length, aigtools_outcome *outcome);
+
+/*
+ * Makes of the circuit of an AIGER file one with an input and latches more and one bad state, as
+ * `aiger aigtoaig --justice-as-bad`: that is reached exactly where the circuit has a run without end in which each
+ * literal of the justice property of this number, counted from 0, and each fairness constraint is 1 again and again,
+ * and all constraints always hold. So where aigtools_never finds it unreachable, there is no such run.
+ */
+uint32_t aigtools_justice_as_bad(uint32_t options, uint32_t property, uint32_t max_var,
+                                 const uint8_t *input, size_t input_length,
+                                 uint8_t *output, size_t output_length, aigtools_outcome *outcome);
 
 /* Unrolls the circuit of an AIGER file over so many frames, from 1 to 1000000, as `aiger aigunroll`. */
 uint32_t aigtools_unroll(uint32_t options, uint32_t frames, uint32_t max_var,

@@ -36,6 +36,7 @@ b'\\x00'
 
 import ctypes
 import enum
+import functools
 import gzip
 import itertools
 import operator
@@ -109,6 +110,8 @@ class Kind(enum.IntEnum):
     NO_NAME = 45
     NAME_TWICE = 46
     NO_SUCH_NAME = 47
+    NO_SUCH_JUSTICE = 48
+    TOO_LARGE_JUSTICE = 49
 
 
 class Refused(ValueError):
@@ -223,6 +226,7 @@ def _load() -> ctypes.CDLL:
     room, outcome, counts = (ctypes.c_void_p, ctypes.c_size_t), ctypes.POINTER(_Outcome), ctypes.POINTER(_Counts)
     for name, arguments, result in (
         ("aigtools_convert", (number, number, *text, *room, outcome), number),
+        ("aigtools_justice_as_bad", (number, number, number, *text, *room, outcome), number),
         ("aigtools_unroll", (number, number, number, *text, *room, outcome), number),
         ("aigtools_clauses", (number, number, number, *text, *room, outcome), number),
         ("aigtools_answer", (number, number, number, *text, *text, *room, outcome), number),
@@ -337,6 +341,7 @@ def convert(
     keep_map: bool = False,
     undo_map: bool = False,
     outputs_as_bad: bool = False,
+    justice_as_bad: Optional[int] = None,
     max_var: int = LARGEST,
 ) -> bytes:
     """The canonical text of the circuit of an AIGER file, as ``aiger aigtoaig`` writes it.
@@ -346,6 +351,8 @@ def convert(
     keep_map         begin the comment with a map, by which the conversion can be undone; with no other option
     undo_map         undo a conversion by the map of its image
     outputs_as_bad   write outputs as bad states, of which there are none; with no map
+    justice_as_bad   write a circuit whose one bad state is reached exactly where the justice property of this number,
+                     counted from 0, has a fair run; with no map, and without outputs_as_bad
     max_var          refuse a file with a larger index, or with more of a kind
 
     >>> convert(b"aag 1 1 0 1 0\\n2\\n3\\n", ascii=True, outputs_as_bad=True)
@@ -356,6 +363,8 @@ def convert(
         _excludes("keep_map", ascii=ascii, strip=strip, undo_map=undo_map)
     if outputs_as_bad:
         _excludes("outputs_as_bad", keep_map=keep_map, undo_map=undo_map)
+    if justice_as_bad is not None:
+        _excludes("justice_as_bad", outputs_as_bad=outputs_as_bad, keep_map=keep_map, undo_map=undo_map)
     options = _options(
         (ascii, _ASCII),
         (strip, _STRIP),
@@ -364,11 +373,13 @@ def convert(
         (outputs_as_bad, _OUTPUTS_AS_BAD),
     )
     limit = _number("max_var", max_var)
+    if justice_as_bad is None:
+        call = functools.partial(_library.aigtools_convert, options)
+    else:
+        call = functools.partial(_library.aigtools_justice_as_bad, options, _number("justice_as_bad", justice_as_bad))
     return _made(
         (4 if ascii else 2) * len(data) + 64,
-        lambda output, room, outcome: _library.aigtools_convert(
-            options, limit, data, len(data), output, room, outcome
-        ),
+        lambda output, room, outcome: call(limit, data, len(data), output, room, outcome),
     )[0]
 
 

@@ -29,6 +29,7 @@ justice or fairness cannot be unrolled
 too large to unroll
 no bad states
 no bad state N
+no justice property N
 line N: bad stimulus line
 line N: bad witness line
 line N: bad answer line
@@ -62,6 +63,7 @@ OF_ARGUMENTS = """--keep-map needs binary output
 --keep-map excludes --undo-map
 --outputs-as-bad excludes --keep-map
 --outputs-as-bad excludes --undo-map
+--justice-as-bad excludes --outputs-as-bad, --keep-map and --undo-map
 model and stimulus are both standard input
 compressed output is not supported
 --witness stands alone

@@ -38,6 +38,7 @@ rows() {
     rows_blocks
     rows_forged
     rows_outputs_as_bad
+    rows_justice_as_bad
     rows_traces
     rows_waves
     rows_witnesses

@@ -951,6 +951,28 @@ rows_outputs_as_bad() {
         aigtoaig --outputs-as-bad
 }
 
+rows_justice_as_bad() {
+    turns() { row "$2" "$3" "$4" '' 0 aigtoaig --ascii --justice-as-bad "$1"; }
+    refuses() { row "$2" "$3" '' "aiger: -: $4\n" 1 aigtoaig "${@:5}" --justice-as-bad "$1"; }
+    turns 0 'a toggle that is to be 1 again and again' 'aag 1 0 1 0 0 0 0 1\n2 3\n1\n2\n' \
+        'aag 19 1 4 0 14 1\n4\n2 3\n6 29\n8 19\n10 33\n38\n12 7 4\n14 12 2\n16 13 8\n18 17 15\n20 8 2\n22 9 3\n24 23 21\n26 25 1\n28 7 5\n30 29 2\n32 31 11\n34 6 1\n36 34 26\n38 36 10\n'
+    turns 0 'no goals and no latches: any run without end' 'aag 0 0 0 0 0 0 0 1\n0\n' \
+        'aag 6 1 1 0 4 1\n2\n4 9\n12\n6 5 2\n8 5 3\n10 4 1\n12 10 1\n'
+    turns 1 'a latch without initial value, an input, fairness and a constraint' \
+        'aag 3 1 1 1 1 1 1 2 1\n2\n4 6 4\n5\n4\n3\n1\n2\n1\n4\n6\n2\n6 4 2\ni0 a\nj0 b\nc\nsaid\n' \
+        'aag 29 2 6 1 21 1 1\n2\n8\n4 6 4\n10 37\n12 27\n14 41\n16 45\n18 49\n5\n58\n3\n6 4 2\n20 11 8\n22 20 4\n24 21 12\n26 25 23\n28 12 4\n30 13 5\n32 31 29\n34 33 1\n36 11 9\n38 37 4\n40 39 15\n42 37 6\n44 43 17\n46 37 2\n48 47 19\n50 10 1\n52 50 34\n54 52 14\n56 54 16\n58 56 18\n'
+    row 'a justice property as a bad state, to binary' 'aag 9 1 0 0 0 0 0 1\n18\n1\n18\n' \
+        'aig 11 2 2 0 7 1\n13\n17\n22\n\x03\x03\x05\x02\x01\x0b\x01\x06\x0c\x05\x02\x11\x02\x0c' '' 0 aigtoaig --justice-as-bad 0
+    turns 0 'the largest variable that a loop leaves room for' 'aag 2147483641 0 0 0 0 0 0 1\n0\n' \
+        'aag 2147483647 1 1 0 4 1\n4294967284\n4294967286 4294967291\n4294967294\n4294967288 4294967287 4294967284\n4294967290 4294967287 4294967285\n4294967292 4294967286 1\n4294967294 4294967292 1\n'
+    refuses 0 'a variable more than a loop leaves room for' 'aag 2147483642 0 0 0 0 0 0 1\n0\n' 'too large'
+    refuses 0 'no justice properties' 'aag 1 1 0 0 0 0 0 0 1\n2\n2\n' 'no justice property 0'
+    refuses 1 'one justice property, and the next asked for' 'aag 1 1 0 0 0 0 0 1\n2\n1\n2\n' 'no justice property 1' --ascii
+    refuses 2147483647 'a justice property that no file has' 'aag 2147483647 1 0 0 0 0 0 1\n2\n1\n2\n' 'no justice property 2147483647' --strip
+    refuses 0 'a fault comes before a justice property' 'aag 1 1 0 0 0 0 0 1\n2\n1\n4\n' 'line 4: literal out of range'
+    refuses 0 'a limit that the source keeps, as a loop need not' 'aag 2 2 0 0 0 0 0 1\n2\n4\n0\n' 'line 1: number above the limit' --max-var 1
+}
+
 # options of other programs: what stands here for them
 rows_hints() {
     local every='\n\nUsage: aiger aigtoaig [OPTIONS] [source] [destination]' all='\n\nUsage: aiger aigsim [OPTIONS] <model> [stimulus]'
@@ -1048,6 +1070,10 @@ rows_words() {
     unwanted 'a map kept and undone' '--keep-map excludes --undo-map' aigtoaig --keep-map --undo-map
     unwanted 'a map kept of outputs as bad states' '--outputs-as-bad excludes --keep-map' aigtoaig --outputs-as-bad --keep-map
     unwanted 'a map undone to outputs as bad states' '--outputs-as-bad excludes --undo-map' aigtoaig --undo-map --outputs-as-bad
+    local alone='--justice-as-bad excludes --outputs-as-bad, --keep-map and --undo-map'
+    unwanted 'outputs and justice as bad states' "$alone" aigtoaig --outputs-as-bad --justice-as-bad 0
+    unwanted 'a map kept of justice as a bad state' "$alone" aigtoaig --justice-as-bad 0 --keep-map
+    unwanted 'a map undone to justice as a bad state' "$alone" aigtoaig --undo-map --justice-as-bad 0
     unwanted 'standard output on a disk' '--sync needs the name of a destination' aigtoaig --sync none/x
     unwanted 'standard output on a disk, by -' '--sync needs the name of a destination' aigtoaig none/x --sync -
     misused 'a disk twice' "the argument '--sync' cannot be used multiple times$every" aigtoaig --sync none/x none/y --sync

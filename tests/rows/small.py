@@ -29,6 +29,12 @@ BAD = b"aag 1 0 1 0 0 1\n2 3\n2\n"
 EVERY = b"aag 9 1 2 1 1 2 1 2 1\n18\n4 19 1\n14 4 14\n6\n14\n15\n7\n2\n1\n19\n4\n6\n5\n6 19 14\n"
 EVERY_NAMES = b"b1 a\nc0 b\nj0 c\nf0 d\no0 e\nl1 f\ni0 g\nc\n"
 EVERY_IMAGE = b"aig 4 1 2 1 1 2 1 2 1\n3 1\n4 6\n8\n6\n7\n9\n2\n1\n3\n4\n8\n5\n\x02\x03"
+EVERY_LIVE = (
+    b"aag 43 2 8 1 28 1 1\n18\n20\n4 19 1\n14 4 14\n22 65\n24 41\n26 47\n28 69\n30 73\n32 77\n6\n86\n7\n6 19 14\n34 23 20\n"
+    b"36 34 4\n38 35 24\n40 39 37\n42 34 14\n44 35 26\n46 45 43\n48 24 4\n50 25 5\n52 51 49\n54 26 14\n56 27 15\n58 57 55\n"
+    b"60 53 1\n62 60 59\n64 23 21\n66 65 19\n68 67 29\n70 65 4\n72 71 31\n74 65 5\n76 75 33\n78 22 1\n80 78 62\n82 80 28\n"
+    b"84 82 30\n86 84 32\n"
+)
 EVERY_MAPPED = EVERY_IMAGE + EVERY_NAMES + b"aigmap 1 9 1 2 1 1\n9\n2\n7\n3 0 1\naigmap end\nx"
 
 COMB = b"aag 3 2 0 0 1 2\n2\n4\n6\n7\n6 4 2\n"
@@ -169,6 +175,7 @@ ROWS = [
     Row("every section", "aigtoaig --ascii", EVERY + EVERY_NAMES, EVERY + EVERY_NAMES),
     Row("every section with its map", "aigtoaig --keep-map", EVERY + EVERY_NAMES + b"x", EVERY_MAPPED),
     Row("every section by its map", "aigtoaig --undo-map --ascii", EVERY_MAPPED, EVERY + EVERY_NAMES + b"x"),
+    Row("every section with a justice property as a bad state", "aigtoaig --ascii --justice-as-bad 0", EVERY, EVERY_LIVE),
     *simulated("every section simulated", "--properties", EVERY, b"0\n1\n", b"1x 0 x 11 xx x\n11 1 0 01 10 1\n.\n"),
     *simulated("every section in a batch", "--batch --properties", EVERY_MAPPED, b".\n0\n", b".\n1x 0 x 11 xx x\n.\n"),
     *simulated("the dump of every section, in a batch", "--batch --vcd", EVERY_MAPPED, b".\n0\n", EVERY_DUMP),

@@ -18,9 +18,10 @@ from pathlib import Path
 
 sys.dont_write_bytecode = True
 sys.path[0] = str(Path(__file__).resolve().parent.parent)
-from lib import answers, batches, counts, images, invariants, miters, refutations, traces, unrolled, waves, witnesses
+from lib import answers, batches, counts, images, invariants, liveness, miters, refutations, traces, unrolled, waves
+from lib import witnesses
 
-MODULES = images, traces, batches, unrolled, witnesses, waves, answers, refutations, invariants, miters
+MODULES = images, traces, batches, unrolled, witnesses, waves, answers, refutations, invariants, miters, liveness
 KINDS = {it.__name__.rpartition(".")[2]: it for it in MODULES}
 
 

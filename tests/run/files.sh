@@ -120,6 +120,8 @@ refused_by 'map line 1: bad line' 'aig 0 0 0 0 0\nc\naigmap 2\n' --undo-map
 refused_by 'map counts differ' 'aig 0 0 0 0 0\nc\naigmap 1 1 1 0 0 0\n1\naigmap end\n' --undo-map
 refused_by 'map does not belong to this circuit' 'aig 0 0 0 0 0\nc\naigmap 1 0 0 0 0 0\naigmap end\nx' --undo-map
 refused_by 'bad states are there already' 'aag 0 0 0 1 0 1\n0\n0\n' --outputs-as-bad
+refused_by 'no justice property 1' 'aag 0 0 0 0 0 0 0 1\n0\n' --justice-as-bad 1
+refused_by 'too large' 'aag 2147483647 0 0 0 0 0 0 1\n0\n' --justice-as-bad 0
 cd "$top" || exit
 
 # --- files that cannot be read or written ---
@@ -683,6 +685,7 @@ refused 'a map of a stripped circuit' 'aiger: --keep-map excludes --strip' aigto
 refused 'a map kept and undone' 'aiger: --keep-map excludes --undo-map' aigtoaig --keep-map --undo-map
 refused 'a map of outputs as bad states' 'aiger: --outputs-as-bad excludes --keep-map' aigtoaig --outputs-as-bad --keep-map
 refused 'a map undone to outputs as bad states' 'aiger: --outputs-as-bad excludes --undo-map' aigtoaig --undo-map --outputs-as-bad
+refused 'outputs and justice as bad states' 'aiger: --justice-as-bad excludes --outputs-as-bad, --keep-map and --undo-map' aigtoaig --outputs-as-bad --justice-as-bad 0
 refused 'standard output on a disk' 'aiger: --sync needs the name of a destination' aigtoaig --sync a
 refused 'an unrolled standard output on a disk' 'aiger: --sync needs the name of a destination' aigunroll --frames 2 --sync a -
 refused 'one stream for model and stimulus' 'aiger: model and stimulus are both standard input' aigsim -

@@ -310,6 +310,9 @@ static void check_refused_options(void) {
         IS_BAD(aigtools_miter(no_miter[i], 1, text, 0, text, 0, output, 1, &x));
     IS_BAD(aigtools_miter(0, above, text, 0, text, 0, output, 1, &x));
     IS_BAD(aigtools_convert(0, above, text, 0, output, 1, &x));
+    IS_BAD(aigtools_justice_as_bad(AIGTOOLS_KEEP_MAP, 0, 1, text, 0, output, 1, &x));
+    IS_BAD(aigtools_justice_as_bad(AIGTOOLS_OUTPUTS_AS_BAD, 0, 1, text, 0, output, 1, &x));
+    IS_BAD(aigtools_justice_as_bad(0, 0, above, text, 0, output, 1, &x));
     IS_BAD(aigtools_unroll(AIGTOOLS_STRIP, 1, 1, text, 0, output, 1, &x));
     IS_BAD(aigtools_unroll(0, 0, 1, text, 0, output, 1, &x));
     IS_BAD(aigtools_unroll(0, 1000001, 1, text, 0, output, 1, &x));

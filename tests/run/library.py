@@ -120,8 +120,12 @@ def mutants(folder, program):
         text = mutated(chance, seed)
         if kind < 6:
             flags = [(), ("ascii",), ("keep_map",), ("undo_map",), ("undo_map", "ascii"), ("strip",)]
-            flags = chance.choice([*flags, ("outputs_as_bad",)])
-            yield "aigtoaig", [f"--{it.replace('_', '-')}" for it in flags], dict.fromkeys(flags, True), text, b""
+            options = dict.fromkeys(chance.choice([*flags, ("outputs_as_bad",)]), True)
+            words = [f"--{it.replace('_', '-')}" for it in options]
+            if chance.randrange(4) == 0 and not options.keys() & {"keep_map", "undo_map", "outputs_as_bad"}:
+                options["justice_as_bad"] = chance.randrange(3)
+                words += ["--justice-as-bad", str(options["justice_as_bad"])]
+            yield "aigtoaig", words, options, text, b""
         elif kind < 8:
             frames = chance.randrange(1, 4)
             yield "aigunroll", ["--frames", str(frames)], {"frames": frames}, text, b""

@@ -32,12 +32,21 @@ max_var = record (new_rule (codes "max-var")) {
 abbrev pub with_rules : App → List Rule → App
 with_rules = fold with_rule
 
+-- `--bad N` or `--justice-as-bad N`
+abbrev pub property : Text → Rule
+property name = record (new_rule name) {
+  long = Some name;
+  action = Some Set;
+  value_names = 1;
+  parser = Some (parser.Signed (pos 0) (pos largest_index));
+}
+
 -- `aigtoaig`: its options in any order, then the names of the two files, by place
 abbrev pub to_aig : App
 to_aig = with_rules (new_app (codes "aigtoaig"))
     (flag (codes "ascii") ∷ flag (codes "strip") ∷ flag (codes "keep-map") ∷ flag (codes "undo-map")
-    ∷ flag (codes "outputs-as-bad") ∷ flag (codes "sync") ∷ max_var ∷ new_rule (codes "source")
-    ∷ new_rule (codes "destination") ∷ [])
+    ∷ flag (codes "outputs-as-bad") ∷ property (codes "justice-as-bad") ∷ flag (codes "sync") ∷ max_var
+    ∷ new_rule (codes "source") ∷ new_rule (codes "destination") ∷ [])
 
 -- the name of a file that has to be given
 abbrev pub required_file : Text → Rule
@@ -58,15 +67,6 @@ frames = record (new_rule (codes "frames")) {
   parser = Some (parser.Signed (pos 1) (pos most_frames));
 }
 
--- `--bad N`
-abbrev pub bad : Rule
-bad = record (new_rule (codes "bad")) {
-  long = Some (codes "bad");
-  action = Some Set;
-  value_names = 1;
-  parser = Some (parser.Signed (pos 0) (pos largest_index));
-}
-
 -- `--answer FILE`, `--refutation FILE` or `--invariant FILE`
 abbrev pub solver_file : Text → Rule
 solver_file name = record (new_rule name) { long = Some name; action = Some Set; value_names = 1 }
@@ -75,8 +75,9 @@ solver_file name = record (new_rule name) { long = Some name; action = Some Set;
 abbrev pub aigunroll : App
 aigunroll = with_rules (new_app (codes "aigunroll"))
     (frames ∷ flag (codes "ascii") ∷ flag (codes "cnf") ∷ solver_file (codes "answer")
-    ∷ solver_file (codes "refutation") ∷ flag (codes "lrat") ∷ solver_file (codes "invariant") ∷ bad
-    ∷ flag (codes "sync") ∷ max_var ∷ new_rule (codes "source") ∷ new_rule (codes "destination") ∷ [])
+    ∷ solver_file (codes "refutation") ∷ flag (codes "lrat") ∷ solver_file (codes "invariant")
+    ∷ property (codes "bad") ∷ flag (codes "sync") ∷ max_var ∷ new_rule (codes "source")
+    ∷ new_rule (codes "destination") ∷ [])
 
 -- `aigmiter`: its options in any order, then the names of the two circuits and of the destination, by place
 abbrev pub aigmiter : App

@@ -11,6 +11,7 @@ use Rattle.clap.specs.declared.error.kind.ErrorKind.TheVariants.{DisplayHelp, Di
 use Rattle.aig_command.specs.Aiger.{aiger, most_frames}
 use Rattle.aig_command.specs.Asked.{Asked, Files, asks, command_of, faults, refused}
 use Rattle.aig_command.specs.declared.builder.TheConstants.{VERSION}
+use Rattle.aig_command.specs.declared.request.BadStates.TheVariants.{Kept}
 use Rattle.aig_command.specs.declared.request.Invariant.{Invariant}
 use Rattle.aig_command.specs.declared.request.Names.{Names}
 use Rattle.aig_command.specs.declared.request.Reach.{Reach}
@@ -93,9 +94,9 @@ abbrev pub IsKeptAlone : ToAig → Type 0
 IsKeptAlone request =
     request.keep_map ≡ true → (request.ascii ≡ false) × (request.strip ≡ false) × (request.undo_map ≡ false)
 
--- Outputs become bad states without a map, which does not tell that they were outputs.
+-- What is no bad state in the source becomes one without a map, which does not tell what it was.
 abbrev pub IsWithoutMap : ToAig → Type 0
-IsWithoutMap request = request.outputs_as_bad ≡ true → (request.keep_map ≡ false) × (request.undo_map ≡ false)
+IsWithoutMap request = request.bad_states ≢ Kept → (request.keep_map ≡ false) × (request.undo_map ≡ false)
 
 -- The standard input gives the model, or the file after it, or neither, but never both.
 abbrev pub HasOneStandardInput : Names → Type 0

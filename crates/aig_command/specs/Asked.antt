@@ -1,7 +1,7 @@
 -- What a command line asks for that `clap` takes (this project's profile).
 use Rattle.std.specs.Prelude.{ℕ, ◌≤◌, ⊤, List, [], ◌∷◌, ◌==◌, ◌&&◌, ◌||◌, ◌^◌, Bool, false, length, nat_lt, nat_eq}
 use Rattle.std.specs.Prelude.{Option, Some, None, unwrap_or, option_and_then, option_map, find}
-use Rattle.std.specs.Prelude.{codes, if◌then◌else◌, is_some, not}
+use Rattle.std.specs.Prelude.{codes, if◌then◌else◌, is_some, not, true}
 use Rattle.std.specs.List.{ends_with, list_all}
 use Rattle.std.specs.Option.{is_none, option_map_or}
 use Rattle.std.specs.Char.{digit_value}
@@ -9,6 +9,8 @@ use Rattle.std.specs.Str.{bytes_eq}
 use Rattle.std.specs.Str.Parse.{digits_value, without_leading_plus}
 use Rattle.clap.specs.Words.{Kinds, Row, Text, fault_of, first_of, one_of, subcommand_of}
 use Rattle.aig_command.specs.Aiger.{aiger, largest_index, most_frames}
+use Rattle.aig_command.specs.declared.request.BadStates.{BadStates}
+use Rattle.aig_command.specs.declared.request.BadStates.TheVariants as bads
 use Rattle.aig_command.specs.declared.request.Command.{Command}
 use Rattle.aig_command.specs.declared.request.Command.TheVariants as commands
 use Rattle.aig_command.specs.declared.request.Invariant.{Invariant}
@@ -48,9 +50,9 @@ limit = number (codes "max-var") largest_index
 abbrev pub frames : List Row → ℕ
 frames = number (codes "frames") 1
 
--- the number of the bad state that `--bad` chooses
-abbrev pub bad_number : List Row → Option ℕ
-bad_number rows = option_and_then number_in (one_of (codes "bad") rows)
+-- the number of the property that the option chooses
+abbrev pub chosen : Text → List Row → Option ℕ
+chosen name rows = option_and_then number_in (one_of name rows)
 
 -- there is a value at this place, or for this option
 abbrev pub is_given : Text → List Row → Bool
@@ -99,6 +101,12 @@ files_with beside refutation rows = record {
   destination = file (codes "destination") rows;
 }
 
+-- the bad states that `--outputs-as-bad` or `--justice-as-bad` asks for, or else those of the source
+abbrev pub bad_states : List Row → BadStates
+bad_states rows =
+    if is_set (codes "outputs-as-bad") rows then bads.Outputs
+    else option_map_or bads.Justice (chosen (codes "justice-as-bad") rows) bads.Kept
+
 -- the conversion to this destination that the arguments of `aigtoaig` name
 abbrev pub conversion : List Row → Option Text → ToAig
 conversion rows destination = record {
@@ -106,18 +114,32 @@ conversion rows destination = record {
   strip = is_set (codes "strip") rows;
   keep_map = is_set (codes "keep-map") rows;
   undo_map = is_set (codes "undo-map") rows;
-  outputs_as_bad = is_set (codes "outputs-as-bad") rows;
+  bad_states = bad_states rows;
   max_var = limit rows;
 }
 
--- the first reason to refuse a conversion to this destination
-abbrev pub refusal : Option Text → ToAig → Option Usage
-refusal destination c =
+-- both outputs and a justice property are to become bad states
+abbrev pub asks_for_both : List Row → Bool
+asks_for_both rows = is_set (codes "outputs-as-bad") rows && is_given (codes "justice-as-bad") rows
+
+abbrev pub are_outputs : BadStates → Bool
+are_outputs bads.Outputs = true
+are_outputs wanted = false
+
+abbrev pub are_of_justice : BadStates → Bool
+are_of_justice (bads.Justice property) = true
+are_of_justice wanted = false
+
+-- the first reason to refuse a conversion to this destination: no map tells what bad states were in the source
+abbrev pub refusal : List Row → Option Text → ToAig → Option Usage
+refusal rows destination c =
     if c.keep_map && c.ascii then Some usage.KeepMapNeedsBinary
     else if c.keep_map && c.strip then Some usage.KeepMapExcludesStrip
     else if c.keep_map && c.undo_map then Some usage.KeepMapExcludesUndoMap
-    else if c.outputs_as_bad && c.keep_map then Some usage.OutputsAsBadExcludesKeepMap
-    else if c.outputs_as_bad && c.undo_map then Some usage.OutputsAsBadExcludesUndoMap
+    else if are_outputs c.bad_states && c.keep_map then Some usage.OutputsAsBadExcludesKeepMap
+    else if are_outputs c.bad_states && c.undo_map then Some usage.OutputsAsBadExcludesUndoMap
+    else if asks_for_both rows then Some usage.JusticeAsBadAlone
+    else if are_of_justice c.bad_states && (c.keep_map || c.undo_map) then Some usage.JusticeAsBadAlone
     else destination_refusal destination
 
 -- the simulation that the arguments of `aigsim` name
@@ -151,7 +173,7 @@ simulation_refusal files s =
 -- what is written of an unrolled circuit: the clauses where they are asked for, and else the circuit
 abbrev pub unrolled_form : List Row → Option Text → UnrolledForm
 unrolled_form rows destination =
-    if is_set (codes "cnf") rows then forms.Clauses (bad_number rows)
+    if is_set (codes "cnf") rows then forms.Clauses (chosen (codes "bad") rows)
     else if wants_ascii rows destination then forms.Ascii else forms.Binary
 
 -- the unrolling to this destination that the arguments of `aigunroll` name
@@ -171,7 +193,7 @@ option_of written.Refutation = codes "refutation"
 abbrev pub reaching : SolverFile → List Row → Reach
 reaching wrote rows = record {
   frames = frames rows;
-  bad = bad_number rows;
+  bad = chosen (codes "bad") rows;
   max_var = limit rows;
   wrote = wrote;
   lrat = is_set (codes "lrat") rows;
@@ -190,7 +212,7 @@ reaching_refusal wrote files =
 -- what the arguments of `aigunroll` name with `--invariant`
 abbrev pub proving : List Row → Invariant
 proving rows = record {
-  bad = bad_number rows;
+  bad = chosen (codes "bad") rows;
   max_var = limit rows;
   refuted = is_given (codes "refutation") rows;
   lrat = is_set (codes "lrat") rows;
@@ -270,7 +292,7 @@ abbrev pub to_aig : List Row → Asked
 to_aig rows =
     let files = files_with None None rows in
     let request = conversion rows files.destination in
-    option_map_or refused (refusal files.destination request)
+    option_map_or refused (refusal rows files.destination request)
     (option_map_or refused (sync_refusal rows) (asks files (commands.ToAig request)))
 
 -- what the arguments of `aigsim` ask for

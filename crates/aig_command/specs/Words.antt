@@ -10,6 +10,8 @@ usage_words usages.KeepMapExcludesStrip = codes "--keep-map excludes --strip"
 usage_words usages.KeepMapExcludesUndoMap = codes "--keep-map excludes --undo-map"
 usage_words usages.OutputsAsBadExcludesKeepMap = codes "--outputs-as-bad excludes --keep-map"
 usage_words usages.OutputsAsBadExcludesUndoMap = codes "--outputs-as-bad excludes --undo-map"
+usage_words usages.JusticeAsBadAlone =
+    codes "--justice-as-bad excludes --outputs-as-bad, --keep-map and --undo-map"
 usage_words usages.BothStandardInput = codes "model and stimulus are both standard input"
 usage_words usages.CompressedOutput = codes "compressed output is not supported"
 usage_words usages.WitnessAlone = codes "--witness stands alone"

@@ -2,7 +2,7 @@
 ghost use Rattle.std.specs.Prelude.{IfOk, codes};
 ghost use Rattle.clap.specs.Words.{App, Rule, new_app, new_rule, with_rule, with_subcommand};
 ghost use Rattle.aig_command.specs.Aiger.{HasApp, HasRule, above, aiger, aigmiter, aigsim};
-ghost use Rattle.aig_command.specs.Aiger.{aigunroll, bad, flag, frames, max_var};
+ghost use Rattle.aig_command.specs.Aiger.{aigunroll, flag, frames, max_var, property};
 ghost use Rattle.aig_command.specs.Aiger.{required_file, solver_file, to_aig};
 
 use clap::{Arg, ArgAction, Command, value_parser};
@@ -29,6 +29,12 @@ there are no outputs. It is for files before AIGER 1.9, and for those of ABC:
 their properties are outputs, and a witness speaks of bad states alone. A
 circuit that has bad states already is refused.
 
+With --justice-as-bad N the circuit gets an input and latches more, and one bad
+state in the place of its properties: it is reached exactly where the model has
+a run without end that meets each literal of justice property N and each
+fairness constraint again and again, with all constraints kept. So what proves
+that it is never reached, as --invariant of aigunroll does, proves liveness.
+
 Exit status:
   0  done, also for --help
   1  the input was refused, a file or stream failed, or memory ran out
@@ -39,7 +45,8 @@ Examples:
   aiger aigtoaig model.aig model.aag              to ASCII
   aiger aigtoaig --keep-map model.aag image.aig   to binary, with a map
   aiger aigtoaig --undo-map image.aig again.aag   undone by that map
-  aiger aigtoaig --outputs-as-bad model.aag bad.aag   outputs as bad states";
+  aiger aigtoaig --outputs-as-bad model.aag bad.aag   outputs as bad states
+  aiger aigtoaig --justice-as-bad 0 model.aag live.aig   justice as a bad state";
 
 const SIM_ABOUT: &str = "Simulate a circuit, step by step";
 
@@ -264,6 +271,11 @@ const OUTPUTS_AS_BAD_HELP: &str = "\
 Write the outputs as bad states; not with --keep-map or
 --undo-map";
 
+const JUSTICE_AS_BAD_HELP: &str = "\
+Write a circuit that reaches its one bad state where
+justice property N, counted from 0, has a fair run; not
+with --outputs-as-bad, --keep-map or --undo-map";
+
 const SYNC_HELP: &str = "\
 End only once the disk has the destination; not for
 the standard output";
@@ -333,15 +345,15 @@ fn frames<'a>(alloc: Global) -> Arg<'a>
         .help(FRAMES_HELP)
 }
 
-fn bad<'a>(alloc: Global) -> Arg<'a>
-    ensures { HasRule bad result }
+fn property<'a>(alloc: Global, name: &'a str, help: &'a str) -> Arg<'a>
+    ensures { HasRule (property name.now) result }
 {
-    Arg::new(alloc, "bad")
-        .long("bad")
+    Arg::new(alloc, name)
+        .long(name)
         .value_name("N")
         .action(ArgAction::Set)
         .value_parser(value_parser!(u32).range(0..=2_147_483_647))
-        .help(BAD_HELP)
+        .help(help)
 }
 
 fn solver_file<'a>(alloc: Global, name: &'a str, help: &'a str) -> Arg<'a>
@@ -398,6 +410,7 @@ fn to_aig<'a>(alloc: Global) -> Result<Command<'a>, AllocError>
     let command = with_argument(command, flag(alloc, "keep-map", KEEP_MAP_HELP));
     let command = with_argument(command, flag(alloc, "undo-map", UNDO_MAP_HELP));
     let command = with_argument(command, flag(alloc, "outputs-as-bad", OUTPUTS_AS_BAD_HELP));
+    let command = with_argument(command, property(alloc, "justice-as-bad", JUSTICE_AS_BAD_HELP));
     let command = with_argument(command, flag(alloc, "sync", SYNC_HELP));
     let command = with_argument(command, max_var(alloc));
     let command = with_argument(command, file(alloc, "source", SOURCE_HELP));
@@ -434,7 +447,7 @@ fn aigunroll<'a>(alloc: Global) -> Result<Command<'a>, AllocError>
     let command = with_argument(command, solver_file(alloc, "refutation", REFUTATION_HELP));
     let command = with_argument(command, flag(alloc, "lrat", LRAT_HELP));
     let command = with_argument(command, solver_file(alloc, "invariant", INVARIANT_HELP));
-    let command = with_argument(command, bad(alloc));
+    let command = with_argument(command, property(alloc, "bad", BAD_HELP));
     let command = with_argument(command, flag(alloc, "sync", SYNC_HELP));
     let command = with_argument(command, max_var(alloc));
     let command = with_argument(command, file(alloc, "source", SOURCE_HELP));

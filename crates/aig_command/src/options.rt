@@ -2,7 +2,7 @@
 ghost use Rattle.std.specs.Prelude.{◌≡◌, IfOk, is_some};
 ghost use Rattle.clap.specs.Words.{found_of, rows_of};
 ghost use Rattle.aig_command.specs.Answer.{files_of, name_of};
-ghost use Rattle.aig_command.specs.Asked.{bad_number, file, files_with, frames};
+ghost use Rattle.aig_command.specs.Asked.{chosen, file, files_with, frames};
 ghost use Rattle.aig_command.specs.Asked.{has_one_stream_for_two, is_given, is_set, limit, number};
 
 use crate::request::Names;
@@ -37,11 +37,11 @@ pub(crate) fn frame_count(matches: &ArgMatches<'_>) -> u32
     option_number(matches, "frames", 1)
 }
 
-/// The number of the bad state that is chosen.
-pub(crate) fn bad_number(matches: &ArgMatches<'_>) -> Option<u32>
-    ensures { result ≡ bad_number (rows_of (found_of matches.now)) }
+/// The number of the property that the option chooses.
+pub(crate) fn chosen(matches: &ArgMatches<'_>, name: &str) -> Option<u32>
+    ensures { result ≡ chosen name.now (rows_of (found_of matches.now)) }
 {
-    matches.get_one::<u32>("bad")
+    matches.get_one::<u32>(name)
 }
 
 /// Whether there is a value at this place, or for this option.

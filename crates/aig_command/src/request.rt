@@ -1,5 +1,17 @@
 //! What a user asks for.
 
+/// Which bad states a conversion writes.
+#[derive(Clone, Copy)]
+pub enum BadStates {
+    /// Those of the source.
+    Kept,
+    /// The outputs of the source, which are then no outputs. This stands without a map.
+    Outputs,
+    /// One, which closes a loop that is fair to the justice property of this number, counted from
+    /// 0. This stands without a map.
+    Justice(u32),
+}
+
 /// A conversion between AIGER files.
 #[derive(Clone, Copy)]
 pub struct ToAig {
@@ -12,8 +24,8 @@ pub struct ToAig {
     pub keep_map: bool,
     /// Whether a conversion is undone by the map block of its image.
     pub undo_map: bool,
-    /// Whether the outputs become bad states. This stands without `keep_map` and `undo_map`.
-    pub outputs_as_bad: bool,
+    /// Which bad states are written.
+    pub bad_states: BadStates,
     /// The limit on the largest variable index and the counts of the source.
     pub max_var: u32,
 }

@@ -6,7 +6,7 @@ ghost use Rattle.aig_command.specs.Asked.{aigunroll, asked_unrolling, AsksWithin
 ghost use Rattle.aig_command.specs.Asked.{options_refusal, unrolled_form, unrolling};
 
 use crate::destination::{check_destination, check_sync, wants_ascii};
-use crate::options::{bad_number, frame_count, is_given, is_set, limit, names_with};
+use crate::options::{chosen, frame_count, is_given, is_set, limit, names_with};
 use crate::proving::asked_proving;
 use crate::reach::asked_reaching;
 use crate::request::{Command, Names, SolverFile, Unroll, UnrolledForm};
@@ -19,7 +19,7 @@ fn unrolled_form(matches: &ArgMatches<'_>, destination: &Option<String>) -> Unro
 {
     if is_set(matches, "cnf") {
         return UnrolledForm::Clauses {
-            bad: bad_number(matches),
+            bad: chosen(matches, "bad"),
         };
     }
     if wants_ascii(matches, destination) {

@@ -22,6 +22,8 @@ pub enum Usage {
     OutputsAsBadExcludesKeepMap,
     /// Outputs become bad states, and what was converted is to come back as it was.
     OutputsAsBadExcludesUndoMap,
+    /// A justice property becomes a bad state, and so do outputs, or a map is kept or undone.
+    JusticeAsBadAlone,
     /// A simulation reads both its model and its stimulus from the standard input.
     BothStandardInput,
     /// The destination's name is that of a compressed file.
@@ -74,6 +76,9 @@ impl Usage {
             Usage::KeepMapExcludesUndoMap => "--keep-map excludes --undo-map",
             Usage::OutputsAsBadExcludesKeepMap => "--outputs-as-bad excludes --keep-map",
             Usage::OutputsAsBadExcludesUndoMap => "--outputs-as-bad excludes --undo-map",
+            Usage::JusticeAsBadAlone => {
+                "--justice-as-bad excludes --outputs-as-bad, --keep-map and --undo-map"
+            }
             Usage::BothStandardInput => "model and stimulus are both standard input",
             Usage::CompressedOutput => "compressed output is not supported",
             Usage::WitnessAlone => "--witness stands alone",

@@ -1,6 +1,7 @@
 -- Why a conversion stopped.
 use Rattle.std.proofs.Common.{◌≡◌, ◌≢◌, List, [], ℕ, true, refl}
 use Rattle.aig_circuit.specs.declared.circuit.Circuit.{Circuit}
+use Rattle.aig_command.specs.declared.request.BadStates.TheVariants.{Outputs}
 use Rattle.aig_command.specs.declared.request.ToAig.{ToAig}
 use Rattle.aig_fault.specs.Stopping.{StopsFor, fault_at}
 use Rattle.aig_fault.specs.declared.fault.Place.TheVariants.{Whole}
@@ -8,7 +9,7 @@ use Rattle.aig_fault.specs.declared.kind.Kind.TheVariants.{HasBad}
 use Rattle.aig_fault.specs.declared.stopped.Stopped.{Stopped}
 use Rattle.aig_fault.proofs.Stoppings.{stops_weaker}
 use Rattle.aig_map.specs.Undone.{IsMapFault}
-use Rattle.aig_commands.specs.Conversion.{IsConversionRefused, IsSource, has_bad_states, has_no_source}
+use Rattle.aig_commands.specs.Conversion.{CannotTurn, IsConversionRefused, IsSource, cannot_turn, has_no_source}
 use Rattle.aig_commands.specs.File.{IsFileOf}
 
 module _ (request : ToAig) (found : Circuit) (bytes : List ℕ) (file : IsFileOf bytes request.max_var found) where
@@ -19,11 +20,10 @@ module _ (request : ToAig) (found : Circuit) (bytes : List ℕ) (file : IsFileOf
       stops_weaker (IsMapFault found) (λ fault. IsConversionRefused request fault bytes) stopped
       (λ fault is. has_no_source found file why.0 is) why.1
 
-  -- outputs cannot become bad states
+  -- it cannot have the bad states that are asked for
   pub not_turned : (source : Circuit) (stopped : Stopped) → IsSource request.undo_map found source
-      → StopsFor (λ fault. (fault ≡ fault_at HasBad Whole 0) × (request.outputs_as_bad ≡ true) × (source.bad ≢ []))
-      stopped
+      → StopsFor (CannotTurn request.bad_states source) stopped
       → StopsFor (λ fault. IsConversionRefused request fault bytes) stopped
   not_turned source stopped is =
       stops_weaker _ (λ fault. IsConversionRefused request fault bytes) stopped
-      (λ fault why. has_bad_states found source file is why.0 why.1 why.2)
+      (λ fault why. cannot_turn found source file is why)

@@ -6,6 +6,7 @@ use Rattle.aig_circuit.specs.declared.circuit.Circuit.{Circuit}
 use Rattle.aig_circuit.specs.declared.circuit.Latch.{Latch}
 use Rattle.aig_circuit.specs.declared.circuit.TheConstants.{LARGEST}
 use Rattle.aig_circuit.specs.Wellformed.{IsWellFormed}
+use Rattle.aig_command.specs.declared.request.BadStates.TheVariants.{Kept}
 use Rattle.aig_command.specs.declared.request.ToAig.{ToAig}
 use Rattle.aig_image.specs.Image.{image_by}
 use Rattle.aig_image.specs.Relabelled.{relabelled_latch, relabelled_literal}
@@ -101,7 +102,7 @@ file_shown false false c text good (image, is_image, is) =
     )
 
 -- a file and its conversion show the same
-pub shown_alike : (request : ToAig) → request.outputs_as_bad ≡ false → request.strip ≡ false
+pub shown_alike : (request : ToAig) → request.bad_states ≡ Kept → request.strip ≡ false
     → request.max_var ≡ LARGEST → (file converted : List ℕ) → IsConversionText request file converted
     → (c d : Circuit) → IsFileOf file LARGEST c
     → IsFileOf converted LARGEST d → ShowTheSame c d

@@ -9,6 +9,7 @@ use Rattle.aig_image.proofs.Imaging.Ordered.{image_is_ordered}
 use Rattle.aig_image.proofs.Meaning.{image_means_the_same}
 use Rattle.aig_map.proofs.Mapping.{mapped_image_is_ordered}
 use Rattle.aig_convert.proofs.Meaning.{mapped_image_means_the_same, undone_means_the_same}
+use Rattle.aig_command.specs.declared.request.BadStates.TheVariants.{Kept}
 use Rattle.aig_command.specs.declared.request.ToAig.{ToAig}
 use Rattle.aig_commands.specs.File.{IsFileOf}
 use Rattle.aig_commands.specs.Conversion.{IsConversionText, IsSource, IsTextAs, stripped, stripped_if_asked}
@@ -47,7 +48,7 @@ file_as false false c text good (image, is_image, is) =
     (image, binary_file image text ordered.0 ordered.1 is, image_means_the_same c image good is_image)
 
 -- a conversion text is the file of a circuit that means what the circuit means that was read
-pub converted_file : (request : ToAig) (file converted : List ℕ) → request.outputs_as_bad ≡ false
+pub converted_file : (request : ToAig) (file converted : List ℕ) → request.bad_states ≡ Kept
     → (p : IsConversionText request file converted)
     → (d : Circuit) × IsFileOf converted LARGEST d × MeansTheSame p.found d
 converted_file request file converted still p =

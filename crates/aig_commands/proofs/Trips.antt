@@ -17,6 +17,7 @@ use Rattle.aig_image.proofs.Imaging.Ordered.{image_is_one}
 use Rattle.aig_map.proofs.Sources.OneSource.{one_source, undoing_recovers}
 use Rattle.aig_map.proofs.Sources.Refused.{one_mapped}
 use Rattle.aig_image.proofs.Imaging.OwnImage.{own_image}
+use Rattle.aig_command.specs.declared.request.BadStates.TheVariants.{Kept}
 use Rattle.aig_command.specs.declared.request.ToAig.{ToAig}
 use Rattle.aig_commands.specs.File.{IsFileOf}
 use Rattle.aig_commands.specs.Conversion.{IsImageAs, IsSource, IsTextAs, IsConversionText, changed}
@@ -53,7 +54,7 @@ found_is request bytes text c limit file p = one_circuit bytes LARGEST p.found c
 
 -- what is written of a file of a circuit, where nothing is undone
 written : (request : ToAig) (bytes text : List ℕ) (c : Circuit) → request.max_var ≡ LARGEST → request.strip ≡ false
-    → request.undo_map ≡ false → request.outputs_as_bad ≡ false → IsFileOf bytes LARGEST c
+    → request.undo_map ≡ false → request.bad_states ≡ Kept → IsFileOf bytes LARGEST c
     → IsConversionText request bytes text → IsTextAs request.ascii request.keep_map c text
 written request bytes text c limit whole kept still file p =
     let source : p.source ≡ p.found = rw kept at p.is_source in
@@ -64,7 +65,7 @@ plainly : (request : ToAig) (bytes text : List ℕ) (c : Circuit) → IsPlain re
     → IsConversionText request bytes text → IsTextAs request.ascii false c text
 plainly request bytes text c plain file p =
     rw plain.keep_map at
-    (written request bytes text c plain.limit plain.strip plain.undo_map plain.outputs_as_bad file p)
+    (written request bytes text c plain.limit plain.strip plain.undo_map plain.bad_states file p)
 
 pub binary_file : (c : Circuit) (text : List ℕ) → IsWellFormed c → IsInBinaryOrder c → text ≡ binary_text c
     → IsFileOf text LARGEST c
@@ -87,7 +88,7 @@ pub with_map : (request : ToAig) (bytes text : List ℕ) (c : Circuit) → Keeps
     → (image : Circuit) × IsMappedImage c image × (text ≡ binary_text image)
 with_map request bytes text c keeps file p =
     rw (keeps.ascii, keeps.keep_map) at
-    (written request bytes text c keeps.limit keeps.strip keeps.undo_map keeps.outputs_as_bad file p)
+    (written request bytes text c keeps.limit keeps.strip keeps.undo_map keeps.bad_states file p)
 
 -- what is written where the map of a mapped image is undone
 without_map : (request : ToAig) (bytes text : List ℕ) (c image : Circuit) → UndoesMap request → IsWellFormed c
@@ -95,7 +96,7 @@ without_map : (request : ToAig) (bytes text : List ℕ) (c image : Circuit) → 
     → IsConversionText request bytes text → text ≡ ascii_text c
 without_map request bytes text c image undoes good is file p =
     let undone = rw (undoes.undo_map, found_is request bytes text image undoes.limit file p) at p.is_source in
-    rw (undoes.ascii, undoes.strip, undoes.outputs_as_bad, (undoing_recovers c image good is).1 p.source undone) at
+    rw (undoes.ascii, undoes.strip, undoes.bad_states, (undoing_recovers c image good is).1 p.source undone) at
     p.written_as
 
 pub through_binary : UndoingGivesAsciiBack

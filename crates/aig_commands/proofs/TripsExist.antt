@@ -11,6 +11,7 @@ use Rattle.aig_map.proofs.Mapping.{mapped_image_is_one, mapped_image_is_ordered}
 use Rattle.aig_map.proofs.Sources.OneSource.{undoing_recovers}
 use Rattle.aig_image.proofs.Imaging.OwnImage.{own_image}
 use Rattle.aig_map.proofs.Sources.Refused.{no_map_fault}
+use Rattle.aig_command.specs.declared.request.BadStates.TheVariants.{Kept}
 use Rattle.aig_command.specs.declared.request.ToAig.{ToAig}
 use Rattle.aig_commands.specs.File.{IsFileOf}
 use Rattle.aig_commands.specs.Conversion.{IsConversionText, IsSource, IsTextAs}
@@ -20,7 +21,7 @@ use Rattle.aig_commands.proofs.Trips.{ascii_file, binary_file, with_map}
 
 -- what a conversion that leaves nothing out writes
 is_written : (request : ToAig) (bytes text : List ℕ) (found source : Circuit)
-    → request.max_var ≡ LARGEST → request.strip ≡ false → request.outputs_as_bad ≡ false
+    → request.max_var ≡ LARGEST → request.strip ≡ false → request.bad_states ≡ Kept
     → IsFileOf bytes LARGEST found
     → IsSource request.undo_map found source → IsTextAs request.ascii request.keep_map source text
     → IsConversionText request bytes text
@@ -29,7 +30,7 @@ is_written request bytes text found source limit whole still file is as_asked = 
   source = source;
   read = rw limit file;
   is_source = is;
-  can_turn = λ turns. absurd (false≢true (sym still ∙ turns));
+  can_turn = rw still tt;
   written_as = rw (whole, still) as_asked;
 }
 
@@ -44,9 +45,9 @@ there_and_back there back keeps undoes c file accepted =
     let binary = binary_text mapped.0 in (
       binary,
       ascii_text c,
-      is_written there file binary c c keeps.limit keeps.strip keeps.outputs_as_bad accepted (rw keeps.undo_map refl)
+      is_written there file binary c c keeps.limit keeps.strip keeps.bad_states accepted (rw keeps.undo_map refl)
           (rw (keeps.ascii, keeps.keep_map) (mapped.0, mapped.1, refl)),
-      is_written back binary (ascii_text c) mapped.0 c undoes.limit undoes.strip undoes.outputs_as_bad
+      is_written back binary (ascii_text c) mapped.0 c undoes.limit undoes.strip undoes.bad_states
           (binary_file mapped.0 binary mapped.2 mapped.3 refl)
           (rw undoes.undo_map (undoing_recovers c mapped.0 good mapped.1).0) (rw undoes.ascii refl),
     )
@@ -55,9 +56,9 @@ pub binary_there_and_back : BinaryFilesConvertThereAndBack
 binary_there_and_back there back plain to_ascii plain_back to_binary file (c, good, ordered, is) = (
   ascii_text c,
   binary_text c,
-  is_written there file (ascii_text c) c c plain.limit plain.strip plain.outputs_as_bad
+  is_written there file (ascii_text c) c c plain.limit plain.strip plain.bad_states
       (binary_file c file good ordered is) (rw plain.undo_map refl) (rw (plain.keep_map, to_ascii) refl),
-  is_written back (ascii_text c) (binary_text c) c c plain_back.limit plain_back.strip plain_back.outputs_as_bad
+  is_written back (ascii_text c) (binary_text c) c c plain_back.limit plain_back.strip plain_back.bad_states
       (inl (ascii_file c (ascii_text c) good refl)) (rw plain_back.undo_map refl)
       (rw (plain_back.keep_map, to_binary) (c, own_image c good ordered, refl)),
 )

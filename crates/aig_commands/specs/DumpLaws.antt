@@ -3,6 +3,7 @@ use Rattle.std.specs.Prelude.{◌≡◌, ◌↔◌, ◌≤◌, ◌^◌, ℕ, Lis
 use Rattle.aig_circuit.specs.declared.circuit.Circuit.{Circuit}
 use Rattle.aig_circuit.specs.declared.circuit.TheConstants.{LARGEST}
 use Rattle.aig_command.specs.declared.request.Sim.{Sim}
+use Rattle.aig_command.specs.declared.request.BadStates.TheVariants.{Kept}
 use Rattle.aig_command.specs.declared.request.ToAig.{ToAig}
 use Rattle.aig_wave.specs.Wave.{wave_text}
 use Rattle.aig_commands.specs.Conversion.{IsConversionText}
@@ -13,7 +14,7 @@ use Rattle.aig_commands.specs.Simulation.{IsDumpText}
 -- the conversion is, at the default limit, to ASCII or to binary, with the map or without, also one that undoes a map.
 -- It only has to keep the symbols, and the outputs outputs.
 abbrev pub ConversionsAreDumpedAlike : Type 0
-ConversionsAreDumpedAlike = (request : ToAig) → request.outputs_as_bad ≡ false → request.strip ≡ false
+ConversionsAreDumpedAlike = (request : ToAig) → request.bad_states ≡ Kept → request.strip ≡ false
     → request.max_var ≡ LARGEST
     → (file converted : List ℕ) → IsConversionText request file converted
     → (c d : Circuit) → IsFileOf file LARGEST c → IsFileOf converted LARGEST d
@@ -27,7 +28,7 @@ DumpsAreUnambiguous = (request : Sim) (model stimulus dump other : List ℕ)
 -- A file and its conversion have the same dump of every stimulus, where either has one. So the same dump is written for
 -- a file, for what it is converted to, and for what is undone from that.
 abbrev pub DumpsAreKept : Type 0
-DumpsAreKept = (request : ToAig) (before after : Sim) → request.outputs_as_bad ≡ false
+DumpsAreKept = (request : ToAig) (before after : Sim) → request.bad_states ≡ Kept
     → request.strip ≡ false → request.max_var ≡ LARGEST
     → before.max_var ≡ LARGEST → after.max_var ≡ LARGEST
     → (file converted stimulus dump : List ℕ) → IsConversionText request file converted

@@ -15,6 +15,7 @@ use Rattle.aig_circuit.specs.declared.circuit.Circuit.{Circuit}
 use Rattle.aig_fault.specs.declared.fault.Fault.{Fault}
 use Rattle.aig_map.specs.Undone.{IsMapFault}
 use Rattle.aig_command.specs.declared.request.Sim.{Sim}
+use Rattle.aig_command.specs.declared.request.BadStates.TheVariants.{Kept, Outputs}
 use Rattle.aig_command.specs.declared.request.ToAig.{ToAig}
 use Rattle.aig_command.specs.declared.request.Invariant.{Invariant}
 use Rattle.aig_command.specs.declared.request.Reach.{Reach}
@@ -104,7 +105,7 @@ pub record IsPlain (request : ToAig) : Type 0 where
   pub strip : request.strip ≡ false
   pub keep_map : request.keep_map ≡ false
   pub undo_map : request.undo_map ≡ false
-  pub outputs_as_bad : request.outputs_as_bad ≡ false
+  pub bad_states : request.bad_states ≡ Kept
   pub limit : request.max_var ≡ LARGEST
 
 -- every canonical binary file survives the trip through ASCII byte for byte
@@ -119,7 +120,7 @@ pub record KeepsMap (request : ToAig) : Type 0 where
   pub strip : request.strip ≡ false
   pub keep_map : request.keep_map ≡ true
   pub undo_map : request.undo_map ≡ false
-  pub outputs_as_bad : request.outputs_as_bad ≡ false
+  pub bad_states : request.bad_states ≡ Kept
   pub limit : request.max_var ≡ LARGEST
 
 -- a conversion to ASCII at the default limit that leaves nothing out and undoes the map
@@ -128,7 +129,7 @@ pub record UndoesMap (request : ToAig) : Type 0 where
   pub strip : request.strip ≡ false
   pub keep_map : request.keep_map ≡ false
   pub undo_map : request.undo_map ≡ true
-  pub outputs_as_bad : request.outputs_as_bad ≡ false
+  pub bad_states : request.bad_states ≡ Kept
   pub limit : request.max_var ≡ LARGEST
 
 -- Of every ASCII file of a circuit, converted to binary with the map and undone, there is the canonical text of that
@@ -144,7 +145,7 @@ UndoingGivesAsciiBack = (there back : ToAig) → KeepsMap there → UndoesMap ba
 -- leaves symbols and comment out. It only has to keep the outputs outputs. So the same text is written for a file, for
 -- what it is converted to, and for what is undone from that.
 abbrev pub TracesAreKept : Type 0
-TracesAreKept = (request : ToAig) (before after : Sim) → request.outputs_as_bad ≡ false
+TracesAreKept = (request : ToAig) (before after : Sim) → request.bad_states ≡ Kept
     → request.max_var ≡ LARGEST → before.max_var ≡ LARGEST → after.max_var ≡ LARGEST
     → after.properties ≡ before.properties
     → (file converted stimulus text : List ℕ) → IsConversionText request file converted
@@ -155,7 +156,7 @@ TracesAreKept = (request : ToAig) (before after : Sim) → request.outputs_as_ba
 -- A file and its conversion get the same verdict on every witness file, where either gets one: whatever the conversion
 -- is, as for simulation texts.
 abbrev pub VerdictsAreKept : Type 0
-VerdictsAreKept = (request : ToAig) (before after : Sim) → request.outputs_as_bad ≡ false
+VerdictsAreKept = (request : ToAig) (before after : Sim) → request.bad_states ≡ Kept
     → request.max_var ≡ LARGEST → before.max_var ≡ LARGEST → after.max_var ≡ LARGEST
     → (file converted witness : List ℕ) (verdict : Verdict)
     → IsConversionText request file converted
@@ -165,7 +166,7 @@ VerdictsAreKept = (request : ToAig) (before after : Sim) → request.outputs_as_
 -- bad states: of these first states, these inputs and these rows, and of no others. So the bad states show what the
 -- outputs showed.
 abbrev pub OutputsAreShownAsBad : Type 0
-OutputsAreShownAsBad = (request : ToAig) → request.outputs_as_bad ≡ true → request.max_var ≡ LARGEST
+OutputsAreShownAsBad = (request : ToAig) → request.bad_states ≡ Outputs → request.max_var ≡ LARGEST
     → (file converted : List ℕ) → IsConversionText request file converted
     → (c d : Circuit) → IsFileOf file LARGEST c → IsFileOf converted LARGEST d
     → (first : List Val) (steps : List (List Val)) (rows : List Row)

@@ -2,6 +2,7 @@
 use Rattle.std.specs.Prelude.{◌≡◌, ◌↔◌, ℕ, List, false}
 use Rattle.aig_circuit.specs.declared.circuit.TheConstants.{LARGEST}
 use Rattle.aig_command.specs.declared.request.Sim.{Sim}
+use Rattle.aig_command.specs.declared.request.BadStates.TheVariants.{Kept}
 use Rattle.aig_command.specs.declared.request.ToAig.{ToAig}
 use Rattle.aig_witness.specs.declared.verdict.Verdict.{Verdict}
 use Rattle.aig_commands.specs.Conversion.{IsConversionText}
@@ -23,7 +24,7 @@ WitnessDumpsAreUnambiguous = (request : Sim) (model witness : List ℕ) (verdict
 -- A file and its conversion, or what is undone from that, have the same dump of every witness file, where either has
 -- one and the symbols are kept.
 abbrev pub WitnessDumpsAreKept : Type 0
-WitnessDumpsAreKept = (request : ToAig) (before after : Sim) → request.outputs_as_bad ≡ false
+WitnessDumpsAreKept = (request : ToAig) (before after : Sim) → request.bad_states ≡ Kept
     → request.strip ≡ false → request.max_var ≡ LARGEST
     → before.max_var ≡ LARGEST → after.max_var ≡ LARGEST
     → (file converted witness text : List ℕ) (verdict : Verdict) → IsConversionText request file converted

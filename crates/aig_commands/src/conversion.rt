@@ -6,9 +6,10 @@ ghost use Rattle.aig_fault.specs.Stopping.{fault_at, StopsFor};
 ghost use Rattle.aig_io.specs.Runs.{Read, Transferred};
 ghost use Rattle.aig_map.specs.Undone.{IsMapFault};
 ghost use Rattle.aig_command.specs.Answer.{IsKeptAlone};
-ghost use Rattle.aig_commands.specs.Conversion.{CanTurn, IsConversionRefused, IsConversionText};
-ghost use Rattle.aig_commands.specs.Conversion.{IsSource, IsTextAs};
-ghost use Rattle.aig_commands.specs.Conversion.{stripped_if_asked, turned_if_asked};
+ghost use Rattle.aig_commands.specs.Conversion.{CanTurn, CannotTurn, IsConversionRefused};
+ghost use Rattle.aig_commands.specs.Conversion.{IsConversionText, IsSource, IsTextAs};
+ghost use Rattle.aig_commands.specs.Conversion.{stripped_if_asked, turned};
+ghost use Rattle.aig_commands.specs.OutputsAsBad.{with_outputs_as_bad};
 ghost use Rattle.aig_commands.specs.Jobs.{text_of};
 ghost use Rattle.aig_commands.specs.Outcome.{Says};
 ghost use Rattle.aig_commands.specs.Reading.{AtItsEnd, ReadSays};
@@ -16,16 +17,19 @@ ghost use Rattle.aig_commands.specs.Reading.{AtItsEnd, ReadSays};
 use crate::answer::Answer;
 use crate::outputs_as_bad::{symbols_if_free, with_outputs_as_bad};
 use aig_binary::read_source;
-use aig_command::ToAig;
+use aig_command::{BadStates, ToAig};
 use aig_convert::{into_binary, into_binary_with_map, undo};
 use aig_core::{Checked, Circuit, Keep, OutOfMemory, Sink, Source, Steps, Symbols};
 use aig_fault::Stopped;
+use aig_live::live;
 use std::alloc::Global;
 
 /// What is wanted of the check later: a binary image of the circuit that is read needs an order of
-/// its gates. ASCII needs none, and a circuit that is undone comes from gates in order.
+/// its gates. ASCII needs none, a circuit that is undone comes from gates in order, and one that
+/// gets other bad states is another.
 fn what_to_keep(request: &ToAig) -> Keep {
-    if request.ascii || request.undo_map {
+    let turns = !matches!(request.bad_states, BadStates::Kept);
+    if request.ascii || request.undo_map || turns {
         Keep::Circuit
     } else {
         Keep::Order
@@ -47,22 +51,32 @@ fn strip_if_asked(alloc: Global, request: &ToAig, circuit: Checked) -> Checked
     })
 }
 
-/// The circuit with its outputs as bad states, where the request asks for that.
-fn turn_if_asked(alloc: Global, request: &ToAig, circuit: Checked) -> Result<Checked, Stopped>
-    ensures can { OnOk result (CanTurn request.now circuit) }
-    ensures ok { IfOk result (λ turned. turned ≡ turned_if_asked request.now circuit) }
+/// The circuit with its outputs as bad states.
+fn turn_outputs(alloc: Global, circuit: Checked) -> Result<Checked, Stopped>
+    ensures can { OnOk result (circuit.bad ≡ []) }
+    ensures ok { IfOk result (λ turned. turned ≡ with_outputs_as_bad circuit) }
     ensures err { IfErr result (StopsFor (λ fault. (fault ≡ fault_at HasBad Whole 0)
-        × (request.now.outputs_as_bad ≡ true) × (circuit.bad ≢ []))) }
+        × (circuit.bad ≢ []))) }
 {
-    if !request.outputs_as_bad {
-        return Ok(circuit);
-    }
     match symbols_if_free(alloc, circuit.circuit()) {
         Ok(symbols) => Ok(with_outputs_as_bad(circuit, symbols)),
         Err(fault) => {
             drop(circuit);
             Err(fault)
         }
+    }
+}
+
+/// The circuit with the bad states that are asked for.
+fn turn(alloc: Global, bad_states: BadStates, circuit: Checked) -> Result<Checked, Stopped>
+    ensures can { OnOk result (CanTurn bad_states circuit) }
+    ensures ok { IfOk result (λ made. made ≡ turned bad_states circuit) }
+    ensures err { IfErr result (StopsFor (CannotTurn bad_states circuit)) }
+{
+    match bad_states {
+        BadStates::Kept => Ok(circuit),
+        BadStates::Outputs => turn_outputs(alloc, circuit),
+        BadStates::Justice(property) => live(alloc, circuit, property),
     }
 }
 
@@ -115,7 +129,7 @@ pub(crate) fn read_conversion<R: Source>(
 {
     let found = read_source(alloc, source, request.max_var, what_to_keep(request))?;
     let source_circuit = undo_if_asked(alloc, request, found)?;
-    let turned_circuit = turn_if_asked(alloc, request, source_circuit)?;
+    let turned_circuit = turn(alloc, request.bad_states, source_circuit)?;
     let circuit = strip_if_asked(alloc, request, turned_circuit);
     Ok(convert_as(alloc, request.ascii, request.keep_map, circuit)?)
 }

@@ -34,7 +34,7 @@ record IsPlain (request : ToAig) (is_ascii : Bool) : Type 0 where
   pub strip : request.strip ≡ false
   pub keep_map : request.keep_map ≡ false
   pub undo_map : request.undo_map ≡ false
-  pub outputs_as_bad : request.outputs_as_bad ≡ false
+  pub bad_states : request.bad_states ≡ Kept
 
 module _ (request : ToAig) (is_ascii : Bool) (plain : IsPlain request is_ascii) (input text : List ℕ) (found : Circuit)
     (file : IsFileOf input request.max_var found) where
@@ -44,8 +44,8 @@ module _ (request : ToAig) (is_ascii : Bool) (plain : IsPlain request is_ascii) 
     source = found;
     read = file;
     is_source = rw plain.undo_map refl;
-    can_turn = λ turns. absurd (false≢true (sym plain.outputs_as_bad ∙ turns));
-    written_as = rw (plain.form, plain.strip, plain.keep_map, plain.outputs_as_bad) is;
+    can_turn = rw plain.bad_states tt;
+    written_as = rw (plain.form, plain.strip, plain.keep_map, plain.bad_states) is;
   }
 
   converted : IsConversionText request input text → IsTextAs is_ascii false found text
@@ -53,7 +53,7 @@ module _ (request : ToAig) (is_ascii : Bool) (plain : IsPlain request is_ascii) 
       let same = one_circuit input request.max_var h.found found h.read file in
       let source : h.source ≡ found = (rw plain.undo_map at h.is_source) ∙ same in
       subst (λ c. IsTextAs is_ascii false c text) source
-      (rw (plain.form, plain.strip, plain.keep_map, plain.outputs_as_bad) at h.written_as)
+      (rw (plain.form, plain.strip, plain.keep_map, plain.bad_states) at h.written_as)
 
 -- what is decoded from the arrays of a circuit without numbers
 decoded_again : (c : Circuit) → IsWellFormed c
@@ -81,9 +81,9 @@ read_tells max_var input made read =
 plain_conversion : (is_ascii : Bool) (max_var : ℕ)
     → IsPlain (conversion (if is_ascii then numbers.ascii else 0) max_var) is_ascii
 plain_conversion true max_var =
-    record { form = refl; strip = refl; keep_map = refl; undo_map = refl; outputs_as_bad = refl }
+    record { form = refl; strip = refl; keep_map = refl; undo_map = refl; bad_states = refl }
 plain_conversion false max_var =
-    record { form = refl; strip = refl; keep_map = refl; undo_map = refl; outputs_as_bad = refl }
+    record { form = refl; strip = refl; keep_map = refl; undo_map = refl; bad_states = refl }
 
 one_decoded : (first : Result Circuit Stopped) (c d : Circuit) → first ≡ Ok c → first ≡ Ok d → c ≡ d
 one_decoded first c d is is_too = cc

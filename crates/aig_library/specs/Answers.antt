@@ -25,8 +25,8 @@ use Rattle.aig_commands.specs.Simulation.{IsWrittenText}
 use Rattle.aig_commands.specs.Unrolling.{IsUnrollingRefused, IsUnrollingText}
 use Rattle.aig_commands.specs.WitnessDump.{IsWitnessDumpText}
 use Rattle.aig_commands.specs.WitnessOutcome.{IsWitnessAnswer}
-use Rattle.aig_library.specs.Asked.{CanCompare, CanConvert, CanReach, CanSimulate, CanUnroll, clauses, comparison}
-use Rattle.aig_library.specs.Asked.{conversion, proving}
+use Rattle.aig_library.specs.Asked.{CanCompare, CanConvert, CanReach, CanSimulate, CanTurnJustice, CanUnroll, clauses}
+use Rattle.aig_library.specs.Asked.{comparison, conversion, justice_conversion, proving}
 use Rattle.aig_library.specs.Asked.{reaching, simulation, unrolling}
 use Rattle.aig_library.specs.Numbers as numbers
 use Rattle.aig_library.specs.Outcome.{IsPlaced, IsPlacedAs, ending, fault_outcome, out_of_memory, second_outcome}
@@ -65,6 +65,12 @@ abbrev pub ConvertAnswers : (options max_var : ℕ) (input before after : List �
 ConvertAnswers options max_var input =
     let request = conversion options max_var in
     TextAnswers (CanConvert options max_var) (IsConversionText request input)
+    (λ fault. IsConversionRefused request fault input)
+
+abbrev pub JusticeAnswers : (options property max_var : ℕ) (input before after : List ℕ) → Outcome → Type 0
+JusticeAnswers options property max_var input =
+    let request = justice_conversion options property max_var in
+    TextAnswers (CanTurnJustice options max_var) (IsConversionText request input)
     (λ fault. IsConversionRefused request fault input)
 
 abbrev pub UnrollAnswers : (options frames max_var : ℕ) (input before after : List ℕ) → Outcome → Type 0

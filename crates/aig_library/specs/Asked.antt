@@ -3,6 +3,7 @@ use Rattle.std.specs.Prelude.{◌≡◌, ◌≤◌, ◌==◌, ◌+◌, ℕ, Bool
 use Rattle.std.specs.Prelude.{if◌then◌else◌}
 use Rattle.aig_command.specs.Aiger.{largest_index, most_frames}
 use Rattle.aig_command.specs.Answer.{HasFrames, IsDumpAlone, IsKeptAlone, IsWithoutMap}
+use Rattle.aig_command.specs.declared.request.BadStates.TheVariants.{Justice, Kept, Outputs}
 use Rattle.aig_command.specs.declared.request.Invariant.{Invariant}
 use Rattle.aig_command.specs.declared.request.Miter.{Miter}
 use Rattle.aig_command.specs.declared.request.Reach.{Reach}
@@ -27,7 +28,18 @@ conversion options max_var = record {
   strip = has options numbers.strip;
   keep_map = has options numbers.keep_map;
   undo_map = has options numbers.undo_map;
-  outputs_as_bad = has options numbers.outputs_as_bad;
+  bad_states = if has options numbers.outputs_as_bad then Outputs else Kept;
+  max_var = max_var;
+}
+
+-- a conversion in which the justice property of this number becomes a bad state
+abbrev pub justice_conversion : (options property max_var : ℕ) → ToAig
+justice_conversion options property max_var = record {
+  ascii = has options numbers.ascii;
+  strip = has options numbers.strip;
+  keep_map = false;
+  undo_map = false;
+  bad_states = Justice property;
   max_var = max_var;
 }
 
@@ -84,13 +96,16 @@ simulation options max_var = record {
 }
 
 -- Which numbers can be met: only known options are given, the limit is at most the largest index, a map is kept in
--- binary and alone, outputs become bad states without a map, there are as many frames as can be unrolled, also for
+-- binary and alone, outputs and justice properties become bad states without a map, there are as many frames as can be unrolled, also for
 -- clauses and what is written on them, and a dump is asked for without the properties. Arrays are read with one option,
 -- and written with one.
 abbrev pub CanConvert : (options max_var : ℕ) → Type 0
 CanConvert options max_var =
     OnlyHas options (numbers.ascii + numbers.strip + numbers.keep_map + numbers.undo_map + numbers.outputs_as_bad)
     × (max_var ≤ largest_index) × IsKeptAlone (conversion options max_var) × IsWithoutMap (conversion options max_var)
+
+abbrev pub CanTurnJustice : (options max_var : ℕ) → Type 0
+CanTurnJustice options max_var = OnlyHas options (numbers.ascii + numbers.strip) × (max_var ≤ largest_index)
 
 abbrev pub CanUnroll : (options frames max_var : ℕ) → Type 0
 CanUnroll options frames max_var =

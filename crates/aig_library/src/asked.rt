@@ -1,9 +1,9 @@
 //! What is asked for, by numbers: each option is a bit.
 ghost use Rattle.std.specs.Prelude.{◌≡◌, ◌↔◌, IsTrue};
-ghost use Rattle.aig_library.specs.Asked.{clauses, comparison, conversion, has, OnlyHas, proving};
-ghost use Rattle.aig_library.specs.Asked.{reaching, selected_bad, unrolling};
+ghost use Rattle.aig_library.specs.Asked.{clauses, comparison, conversion, has, justice_conversion};
+ghost use Rattle.aig_library.specs.Asked.{OnlyHas, proving, reaching, selected_bad, unrolling};
 
-use aig_command::{Invariant, Miter, Reach, SolverFile, ToAig, Unroll, UnrolledForm};
+use aig_command::{BadStates, Invariant, Miter, Reach, SolverFile, ToAig, Unroll, UnrolledForm};
 
 /// ASCII is written, and not binary.
 pub const ASCII: u32 = 1;
@@ -58,7 +58,25 @@ pub(crate) fn conversion(options: u32, max_var: u32) -> ToAig
         strip: has(options, STRIP),
         keep_map: has(options, KEEP_MAP),
         undo_map: has(options, UNDO_MAP),
-        outputs_as_bad: has(options, OUTPUTS_AS_BAD),
+        bad_states: if has(options, OUTPUTS_AS_BAD) {
+            BadStates::Outputs
+        } else {
+            BadStates::Kept
+        },
+        max_var,
+    }
+}
+
+/// The conversion in which the justice property of this number becomes a bad state.
+pub(crate) fn justice_conversion(options: u32, property: u32, max_var: u32) -> ToAig
+    ensures { result ≡ justice_conversion options property max_var }
+{
+    ToAig {
+        ascii: has(options, ASCII),
+        strip: has(options, STRIP),
+        keep_map: false,
+        undo_map: false,
+        bad_states: BadStates::Justice(property),
         max_var,
     }
 }

@@ -1,7 +1,7 @@
 //! Conversion, unrolling, simulation and witnesses from bytes to bytes, in memory; and circuits as
 //! arrays: read, written, and stepped.
 //!
-//! Others call `convert`, `unroll`, `write_clauses`, `reach`, `refute`, `invariant_clauses`,
+//! Others call `convert`, `justice_as_bad`, `unroll`, `write_clauses`, `reach`, `refute`, `invariant_clauses`,
 //! `never`, `simulate`, `witness`, `dump_witness`, `read`, `write`, `step` and `message`. What is
 //! asked of them is numbers, and so is the `Outcome` that each call answers: a caller may stand in
 //! any language. A call makes its whole text first, and then copies it to the output where there is
@@ -37,7 +37,7 @@ pub use crate::outcome::{
 pub use crate::simulation::simulate;
 pub use crate::solving::{invariant_clauses, never, reach, refute};
 pub use crate::stepping::step;
-pub use crate::texts::{convert, unroll, write_clauses};
+pub use crate::texts::{convert, justice_as_bad, unroll, write_clauses};
 pub use crate::verdicts::witness;
 pub use crate::witness_dump::dump_witness;
 pub use crate::wording::message;

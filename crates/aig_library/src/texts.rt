@@ -1,10 +1,13 @@
 //! Conversion and unrolling from bytes to bytes.
 ghost use Rattle.std.specs.Prelude.{◌≡◌, ◌↔◌, IsTrue};
-ghost use Rattle.aig_library.specs.Answers.{ClausesAnswers, ConvertAnswers, UnrollAnswers};
-ghost use Rattle.aig_library.specs.Asked.{CanConvert, CanReach, CanUnroll, conversion};
+ghost use Rattle.aig_library.specs.Answers.{ClausesAnswers, ConvertAnswers, JusticeAnswers};
+ghost use Rattle.aig_library.specs.Answers.{UnrollAnswers};
+ghost use Rattle.aig_library.specs.Asked.{CanConvert, CanReach, CanTurnJustice, CanUnroll};
+ghost use Rattle.aig_library.specs.Asked.{conversion};
 
 use crate::asked::{
-    ASCII, KEEP_MAP, OUTPUTS_AS_BAD, STRIP, UNDO_MAP, clauses, conversion, only_has, unrolling,
+    ASCII, KEEP_MAP, OUTPUTS_AS_BAD, STRIP, UNDO_MAP, clauses, conversion, has,
+    justice_conversion, only_has, unrolling,
 };
 use crate::memory::{Inputs, run_in_memory};
 use crate::outcome::{BAD_OPTIONS, Outcome, answer, ending};
@@ -23,7 +26,7 @@ fn can_convert(options: u32, max_var: u32, request: &ToAig) -> bool
         ASCII + STRIP + KEEP_MAP + UNDO_MAP + OUTPUTS_AS_BAD,
     ) && max_var <= LARGEST
         && !(request.keep_map && (request.ascii || request.strip || request.undo_map))
-        && !(request.outputs_as_bad && (request.keep_map || request.undo_map))
+        && !(has(options, OUTPUTS_AS_BAD) && (request.keep_map || request.undo_map))
 }
 
 /// Converts the bytes of an AIGER file as the options ask: any of `ASCII`, `STRIP`, `KEEP_MAP`,
@@ -47,6 +50,39 @@ pub fn convert(
         file: b"",
         refutation: b"",
     };
+    let job = Job::Read(Reading::ToAig(request));
+    answer(run_in_memory(alloc, &inputs, job), output)
+}
+
+/// Whether the numbers can be met that ask for a justice property as a bad state.
+fn can_turn_justice(options: u32, max_var: u32) -> bool
+    ensures { IsTrue result ↔ CanTurnJustice options max_var }
+{
+    only_has(options, ASCII + STRIP) && max_var <= LARGEST
+}
+
+/// Converts the bytes of an AIGER file to a circuit with one bad state, which is reached exactly
+/// where the file's circuit has a run that is fair to the justice property of this number, counted
+/// from 0. The options are any of `ASCII` and `STRIP`.
+pub fn justice_as_bad(
+    alloc: Global,
+    options: u32,
+    property: u32,
+    max_var: u32,
+    input: &[u8],
+    output: &mut [u8],
+) -> Outcome
+    ensures { JusticeAnswers options property max_var input.now output.old output.new result }
+{
+    if !can_turn_justice(options, max_var) {
+        return ending(BAD_OPTIONS, 0, 0);
+    }
+    let inputs = Inputs {
+        model: input,
+        file: b"",
+        refutation: b"",
+    };
+    let request = justice_conversion(options, property, max_var);
     let job = Job::Read(Reading::ToAig(request));
     answer(run_in_memory(alloc, &inputs, job), output)
 }

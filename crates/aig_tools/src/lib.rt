@@ -20,7 +20,7 @@ pub use crate::program::{refuse_for_memory, refuse_words, run, serve};
 pub use crate::simulation::run_sim;
 pub use crate::world::World;
 pub use aig_command::{
-    Command, CommandLine, Names, Sim, ToAig, Unroll, UnrolledForm, Usage, command,
+    BadStates, Command, CommandLine, Names, Sim, ToAig, Unroll, UnrolledForm, Usage, command,
 };
 pub use aig_commands::{Answer, Job, Reading, Stopped, Task, run_toaig, run_unroll, run_witness};
 pub use aig_files::HostFiles;

@@ -5,7 +5,7 @@
 ghost use Rattle.std.specs.Prelude.{◌≡◌, ◌≤◌};
 ghost use Rattle.aig_command.specs.declared.builder.TheConstants.{VERSION};
 ghost use Rattle.aig_library.specs.Answers.{ClausesAnswers, ConvertAnswers, DumpAnswers};
-ghost use Rattle.aig_library.specs.Answers.{InvariantAnswers, MiterAnswers, NeverAnswers};
+ghost use Rattle.aig_library.specs.Answers.{InvariantAnswers, JusticeAnswers, MiterAnswers, NeverAnswers};
 ghost use Rattle.aig_library.specs.Answers.{ReachAnswers, RefuteAnswers, SimulateAnswers};
 ghost use Rattle.aig_library.specs.Answers.{UnrollAnswers, WitnessAnswers};
 ghost use Rattle.aig_library.specs.Arrays.{ReadAnswers, StepAnswers, WriteAnswers, arrays};
@@ -14,8 +14,8 @@ ghost use Rattle.aigtools_c.specs.Version.{version_text};
 
 use aig_arrays::Counts;
 use aig_library::{
-    Outcome, convert, dump_witness, invariant_clauses, message, miter, never, reach, read, refute,
-    simulate, step, unroll, witness, write, write_clauses,
+    Outcome, convert, dump_witness, invariant_clauses, justice_as_bad, message, miter, never, reach,
+    read, refute, simulate, step, unroll, witness, write, write_clauses,
 };
 use std::alloc::Global;
 
@@ -33,6 +33,25 @@ pub extern "C" fn aigtools_convert(
     ensures answers { ConvertAnswers options max_var input.now output.old output.new outcome.new }
 {
     *outcome = convert(alloc, options, max_var, input, output);
+    outcome.status
+}
+
+/// Converts the bytes of an AIGER file, with a justice property as a bad state.
+#[unsafe(no_mangle)]
+pub extern "C" fn aigtools_justice_as_bad(
+    alloc: Global,
+    options: u32,
+    property: u32,
+    max_var: u32,
+    input: &[u8],
+    output: &mut [u8],
+    outcome: &mut Outcome,
+) -> u32
+    ensures status { result ≡ outcome.new.status }
+    ensures answers { JusticeAnswers options property max_var input.now
+        output.old output.new outcome.new }
+{
+    *outcome = justice_as_bad(alloc, options, property, max_var, input, output);
     outcome.status
 }
 

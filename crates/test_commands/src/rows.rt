@@ -1,6 +1,6 @@
 //! Command lines and what is answered to them.
 use aig_command::{
-    Command, CommandLine, Invariant, Miter, Names, Reach, Sim, SolverFile, ToAig, Unroll,
+    BadStates, Command, CommandLine, Invariant, Miter, Names, Reach, Sim, SolverFile, ToAig, Unroll,
     UnrolledForm, Usage, command,
 };
 use std::alloc::{AllocError, Global};
@@ -25,6 +25,8 @@ aigtoaig --keep-map => keep-map 2147483647 - -;\
 aigtoaig --undo-map --strip a b => strip undo-map 2147483647 a b;\
 aigtoaig --outputs-as-bad => outputs-as-bad 2147483647 - -;\
 aigtoaig --strip a --outputs-as-bad b.aag => ascii strip outputs-as-bad 2147483647 a b.aag;\
+aigtoaig --justice-as-bad 0 a b.aag => ascii justice-as-bad 0 2147483647 a b.aag;\
+aigtoaig a --strip --justice-as-bad=2147483647 => strip justice-as-bad 2147483647 2147483647 a -;\
 aigtoaig --sync a b.aag => sync ascii 2147483647 a b.aag;\
 aigtoaig - --strip b --sync => sync strip 2147483647 - b;\
 aigtoaig -- --sync b => 2147483647 --sync b;\
@@ -194,6 +196,10 @@ aigtoaig --outputs-as-bad --undo-map --keep-map => --keep-map excludes --undo-ma
 aigtoaig --outputs-as-bad --keep-map => --outputs-as-bad excludes --keep-map;\
 aigtoaig --undo-map --outputs-as-bad - x.gz => --outputs-as-bad excludes --undo-map;\
 aigtoaig --outputs-as-bad --strip - x.gz => compressed output is not supported;\
+aigtoaig --justice-as-bad 1 --outputs-as-bad => --justice-as-bad excludes --outputs-as-bad, --keep-map and --undo-map;\
+aigtoaig --keep-map --justice-as-bad 1 => --justice-as-bad excludes --outputs-as-bad, --keep-map and --undo-map;\
+aigtoaig --justice-as-bad 1 --undo-map => --justice-as-bad excludes --outputs-as-bad, --keep-map and --undo-map;\
+aigtoaig --justice-as-bad 1 - x.gz => compressed output is not supported;\
 aigtoaig - x.aig.gz => compressed output is not supported;\
 aigtoaig --ascii - .gz => compressed output is not supported;\
 aigsim - => model and stimulus are both standard input;\
@@ -518,16 +524,20 @@ fn show_file(file: &Option<String>) -> &str {
     }
 }
 
+fn shown_bad_states(alloc: Global, bad_states: BadStates) -> Result<String, AllocError> {
+    match bad_states {
+        BadStates::Kept => Ok(String::new(alloc)),
+        BadStates::Outputs => String::from_str(alloc, "outputs-as-bad "),
+        BadStates::Justice(property) => format!(in alloc; "justice-as-bad {property} "),
+    }
+}
+
 fn shown_conversion(alloc: Global, names: &Names, request: ToAig) -> Result<String, AllocError> {
     let ascii = if request.ascii { "ascii " } else { "" };
     let strip = if request.strip { "strip " } else { "" };
     let keep_map = if request.keep_map { "keep-map " } else { "" };
     let undo_map = if request.undo_map { "undo-map " } else { "" };
-    let as_bad = if request.outputs_as_bad {
-        "outputs-as-bad "
-    } else {
-        ""
-    };
+    let as_bad = shown_bad_states(alloc, request.bad_states)?;
     let source = show_file(&names.model);
     let destination = show_file(&names.destination);
     let limit = request.max_var;

@@ -1,6 +1,6 @@
 //! A conversion whose request is made here, without a command line.
 use aig_core::{LARGEST, MemorySink, MemorySource};
-use aig_tools::{ToAig, run_toaig};
+use aig_tools::{BadStates, ToAig, run_toaig};
 use std::alloc::Global;
 
 /// A conversion to binary that leaves symbols and comment out.
@@ -9,7 +9,7 @@ const STRIP: ToAig = ToAig {
     strip: true,
     keep_map: false,
     undo_map: false,
-    outputs_as_bad: false,
+    bad_states: BadStates::Kept,
     max_var: LARGEST,
 };
 
