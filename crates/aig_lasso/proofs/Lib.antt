@@ -1,1 +1,1 @@
-pub mod Goals
+pub mod GoalsShown

@@ -70,7 +70,7 @@ fn list_goals(alloc: Global, circuit: &Circuit, property: u32) -> Result<Listing
     let own = find_own(circuit, property)?;
     let fairness = circuit.fairness.as_slice();
     let count = own.len() + fairness.len();
-    if LARGEST as usize < count {
+    if (LARGEST as usize) < count {
         return Err(refused(Kind::TooLargeJustice, Place::Whole, 0));
     }
     let mut goals = Vec::with_capacity(alloc, count)?;
@@ -80,7 +80,7 @@ fn list_goals(alloc: Global, circuit: &Circuit, property: u32) -> Result<Listing
 }
 
 /// The circuit with these goals as its bad states.
-#[tactic(auto, using(crate::proofs::Goals::goals_are_well_formed))]
+#[tactic(auto, using(crate::proofs::GoalsShown::goals_are_well_formed))]
 fn show_goals(alloc: Global, found: Checked, property: u32, goals: Listing<Lit>) -> Checked
     requires goals { goals ≡ goals_of property found }
     requires few { length goals ≤ largest }

@@ -59,7 +59,7 @@ fn check_size(found: &Checked, property: u32) -> Result<(), Stopped>
     let goals = count_goals(found, property)?;
     let circuit = found.circuit();
     let variables = circuit.max_var as usize + 6 + 8 * circuit.latches.len() + 4 * goals;
-    if LARGEST as usize < variables {
+    if (LARGEST as usize) < variables {
         return Err(refused(Kind::TooLargeJustice, Place::Whole, 0));
     }
     Ok(())

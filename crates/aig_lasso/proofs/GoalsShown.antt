@@ -1,9 +1,10 @@
 -- The goals of a justice property stand among the literals of all of them, and a circuit that shows them as its bad
 -- states is well formed.
-use Rattle.std.proofs.Common.{◌≡◌, ◌<◌, ◌≤◌, ◌+◌, ◌++◌, ◌∙◌, ◌∷◌, ℕ, zero, suc, List, [], ap, arith, drop, get_or, length}
+use Rattle.std.proofs.Common.{◌≡◌, ◌<◌, ◌≤◌, ◌++◌, ◌∙◌, ◌∷◌, ℕ, zero, suc, List, [], ap, arith, drop, get_or, length}
 use Rattle.std.proofs.Common.{refl, subst, sym, take}
 use Rattle.std.specs.List.{AllByRecursion, concat, flat_map, sum}
 use Rattle.std.proofs.lemmas.List.{drop-drop, take-append-drop}
+use Rattle.std.proofs.lemmas.List.Sums.{sum_by-cons}
 use Rattle.aig_circuit.specs.declared.circuit.Circuit.{Circuit}
 use Rattle.aig_circuit.specs.Justice.{literals_of_each}
 use Rattle.aig_circuit.specs.Wellformed.{IsKnown, IsWellFormed, defined_variables, largest_index, literal_lists}
@@ -19,12 +20,9 @@ own_at [] literals n low = absurd (omega (arith, low))
 own_at (s ∷ ss) literals zero low = refl
 own_at (s ∷ ss) literals (suc n) low =
     own_at ss (drop s literals) n (omega (arith, low))
-    ∙ ap (take (get_or ss n 0)) (drop-drop (sum (take n ss)) s literals)
-
-pub own_ends : (sizes : List ℕ) (n : ℕ) → n < length sizes → sum (take n sizes) + get_or sizes n 0 ≤ sum sizes
-own_ends [] n low = absurd (omega (arith, low))
-own_ends (s ∷ ss) zero low = omega arith
-own_ends (s ∷ ss) (suc n) low = let rest = own_ends ss n (omega (arith, low)) in omega (arith, rest)
+    ∙ ap (take (get_or ss n 0))
+    (drop-drop (sum (take n ss)) s literals
+    ∙ ap (λ (k : ℕ). drop k literals) (sym (sum_by-cons (λ (x : ℕ). x) s (take n ss))))
 
 -- what holds of the literals of all properties holds of those of each
 own_hold : (P : ℕ → Type 0) (sizes literals : List ℕ) (n : ℕ) → AllByRecursion P literals
