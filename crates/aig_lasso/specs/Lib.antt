@@ -1,4 +1,5 @@
 pub mod Goals
+pub mod Goaled
 pub mod Endless
 pub mod Lasso
 pub mod Laws

@@ -3,7 +3,9 @@
 //! The definitions that matter most are `IsLassoVerdict` and `IsFairRun`.
 #![tactic(auto)]
 
+mod goals;
 pub mod laws;
 mod verdict;
 
+pub use crate::goals::{count_goals, with_goals};
 pub use crate::verdict::LassoVerdict;

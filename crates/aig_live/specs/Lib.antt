@@ -1,3 +1,4 @@
 pub mod WithLoop
 pub mod Values
 pub mod Laws
+pub mod Outcome

@@ -6,5 +6,12 @@
 //! The definitions that matter most are `with_loop` and `NeverMeansNoFairRun`.
 #![tactic(auto)]
 
+mod gates;
+mod latches;
 pub mod laws;
-mod making;
+mod lists;
+mod maker;
+mod parts;
+mod variables;
+
+pub use crate::maker::live;
