@@ -1,5 +1,5 @@
 -- Which text a conversion writes (this project's profile): a circuit is read, changed as asked, and written.
-use Rattle.std.specs.Prelude.{◌≡◌, ◌≢◌, ℕ, List, [], Bool, true, false, None, ⊤, if◌then◌else◌}
+use Rattle.std.specs.Prelude.{◌≡◌, ◌≢◌, ◌⊎◌, ℕ, List, [], Bool, true, false, None, ⊤, if◌then◌else◌}
 use Rattle.aig_circuit.specs.declared.circuit.Circuit.{Circuit}
 use Rattle.aig_text.specs.AsciiText.{ascii_text}
 use Rattle.aig_binary.specs.BinaryText.{binary_text}
@@ -14,7 +14,8 @@ use Rattle.aig_fault.specs.declared.fault.Fault.{Fault}
 use Rattle.aig_fault.specs.declared.fault.Place.TheVariants.{Whole}
 use Rattle.aig_fault.specs.declared.kind.Kind.TheVariants.{HasBad}
 use Rattle.aig_live.specs.Laws.{live}
-use Rattle.aig_live.specs.Living.{CanLive, CannotLive}
+use Rattle.aig_lasso.specs.Goaled.{HasNoJustice}
+use Rattle.aig_live.specs.Outcome.{HasLive, IsTooLarge}
 use Rattle.aig_commands.specs.File.{IsFileOf}
 use Rattle.aig_commands.specs.OutputsAsBad.{with_outputs_as_bad}
 use Rattle.aig_commands.specs.Reading.{IsUnreadable}
@@ -56,13 +57,14 @@ IsTextAs false keep_map written text = (image : Circuit) × IsImageAs keep_map w
 abbrev pub CanTurn : BadStates → Circuit → Type 0
 CanTurn bads.Kept source = ⊤
 CanTurn bads.Outputs source = source.bad ≡ []
-CanTurn (bads.Justice property) source = CanLive property source
+CanTurn (bads.Justice property) source = HasLive property source
 
 -- it cannot be so, and this fault says why
 abbrev pub CannotTurn : BadStates → Circuit → Fault → Type 0
 CannotTurn bads.Kept source fault = ⊥
 CannotTurn bads.Outputs source fault = (fault ≡ fault_at HasBad Whole 0) × (source.bad ≢ [])
-CannotTurn (bads.Justice property) source fault = CannotLive property source fault
+CannotTurn (bads.Justice property) source fault =
+    HasNoJustice property source fault ⊎ IsTooLarge property source fault
 
 -- the text that is written for these bytes
 pub record IsConversionText (request : ToAig) (bytes text : List ℕ) : Type 0 where
