@@ -1,5 +1,5 @@
 //! The circuit that shows the goals of a justice property as its bad states.
-ghost use Rattle.std.specs.Prelude.{◌≡◌, ◌+◌, ◌≤◌, ◌<◌, [], IfErr, IfOk, OnErr, OnOk};
+ghost use Rattle.std.specs.Prelude.{◌≡◌, ◌*◌, ◌≤◌, IfErr, IfOk, OnErr, OnOk};
 ghost use Rattle.std.specs.Prelude.{length, slice_index_or, take};
 ghost use Rattle.std.specs.List.{sum};
 ghost use Rattle.aig_circuit.specs.declared.circuit.TheConstants.{LARGEST as largest};
@@ -33,6 +33,7 @@ fn count_before(sizes: &[u32], properties: usize) -> usize
 fn find_own(circuit: &Circuit, property: u32) -> Result<&[Lit], Stopped>
     requires formed { IsWellFormed circuit.now }
     ensures own { IfOk result (λ own. own.now ≡ own_goals property circuit.now) }
+    ensures few { IfOk result (λ own. length own.now ≤ largest) }
     ensures there { OnOk result (HasJustice property circuit.now) }
     ensures err { IfErr result (λ e. e ≡ refusal NoSuchJustice Whole property) }
     ensures not_there { OnErr result (length circuit.now.justice.sizes ≤ property) }
@@ -51,6 +52,7 @@ fn find_own(circuit: &Circuit, property: u32) -> Result<&[Lit], Stopped>
 /// constraints.
 pub fn count_goals(found: &Checked, property: u32) -> Result<usize, Stopped>
     ensures count { IfOk result (λ count. count ≡ length (goals_of property found.now)) }
+    ensures few { IfOk result (λ count. count ≤ 2 * largest) }
     ensures there { OnOk result (HasJustice property found.now) }
     ensures err { IfErr result (λ e. e ≡ refusal NoSuchJustice Whole property) }
     ensures not_there { OnErr result (length found.now.justice.sizes ≤ property) }

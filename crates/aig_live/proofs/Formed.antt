@@ -21,12 +21,13 @@ use Rattle.aig_meaning.proofs.Related.{AreDefined, IsDefined, distinct_apart, di
 use Rattle.aig_meaning.proofs.Related.{known_next, known_operands, known_outputs, variables_of}
 use Rattle.aig_unroll.specs.Unrolled.{chain_behind, chained, gate_of}
 use Rattle.aig_lasso.specs.Goals.{with_goals}
-use Rattle.aig_live.specs.Laws.{MadeIsWellFormed}
+use Rattle.aig_lasso.proofs.GoalsShown.{goals_are_well_formed}
+use Rattle.aig_live.specs.Laws.{MadeIsWellFormed, live}
 use Rattle.aig_live.specs.WithLoop.{alike, alike_literals, closed, closing_literals, compared, copied, copies, copying}
 use Rattle.aig_live.specs.WithLoop.{entered, first_closed, first_compared, first_copied, first_copy, first_here, first_met}
 use Rattle.aig_live.specs.WithLoop.{first_noted, here, inside, mets, negated, new_gates, new_latches, noted, noting}
 use Rattle.aig_live.specs.WithLoop.{one_for_each, outside, save, saving, with_loop}
-use Rattle.aig_live.proofs.Shown.{each_one}
+use Rattle.aig_live.proofs.Sizes.{alike_many, mets_many}
 
 -- ---- numbers one behind the other, from this one up to that
 
@@ -128,10 +129,6 @@ chained_run v ch (l ∷ ls) = (
   run_same (v + 1) (v + 1) (v + 1 + length ls) (v + length (l ∷ ls)) (variables_of (chained (v + 1) (literal_of v) ls))
       refl (omega arith) (chained_run (v + 1) (literal_of v) ls),
 )
-
-alike_length : (v : ℕ) (xs : List ℕ) → length (alike v xs) ≡ length xs
-alike_length v [] = refl
-alike_length v (x ∷ xs) = ap suc (alike_length (v + 3) xs)
 
 -- ---- lists of distinct numbers
 
@@ -379,10 +376,7 @@ module _ (n : ℕ) (c₀ : Circuit) (good : IsWellFormed (with_goals n c₀))
   latch_count = length-map c.latches (λ (l : Latch). l.var)
 
   closing_count : length (closing_literals c) ≡ length c.bad + 2
-  closing_count =
-      let many : length (map literal_of (mets c)) ≡ length c.bad =
-      length-map (mets c) literal_of ∙ each_one (first_met c) c.bad in
-      omega (arith, many)
+  closing_count = omega (arith, mets_many (first_met c) c.bad)
 
   abbrev part_closed : List Gate
   part_closed = chained (first_closed c) 1 (closing_literals c)
@@ -419,7 +413,7 @@ module _ (n : ℕ) (c₀ : Circuit) (good : IsWellFormed (with_goals n c₀))
   here_on =
       gates_join (first_here c) (outside c) end part_here from_outside
       (run_same (first_here c) (first_here c) (first_here c + length (alike_literals c)) (outside c)
-      (variables_of part_here) refl (omega (arith, alike_length (first_compared c) (latch_variables c), latch_count))
+      (variables_of part_here) refl (omega (arith, alike_many (first_compared c) c.latches))
       (chained_run (first_here c) 1 (alike_literals c))) outside_on
 
   compared_on : IsRun (first_compared c) end (variables_of (part_compared ++ (part_here ++ from_outside)))
@@ -636,7 +630,7 @@ module _ (n : ℕ) (c₀ : Circuit) (good : IsWellFormed (with_goals n c₀))
       chain_holds (MayUse c good (first_closed c)) (first_here c) 1 (alike_literals c) (one_right c good (first_closed c))
       (λ k low_k high_k.
       plain c good (first_closed c) k (omega (arith, low_k))
-      (omega (arith, high_k, alike_length (first_compared c) (latch_variables c), latch_count)))
+      (omega (arith, high_k, alike_many (first_compared c) c.latches)))
 
   closing_right : AllByRecursion (MayUse c good (first_closed c)) (closing_literals c)
   closing_right = (
@@ -831,5 +825,9 @@ module _ (n : ℕ) (c₀ : Circuit) (good : IsWellFormed (with_goals n c₀))
         ranked = (rank_now good.ranked.0 good.ranked.1, ranked_now good.ranked.0 good.ranked.1);
       }
 
+pub goals_within : (c : Circuit) (property : ℕ) → IsWellFormed c → (live property c).max_var ≤ largest_index
+    → IsWellFormed (with_goals property c)
+goals_within c property good room = goals_are_well_formed c property (omega (arith, room)) good
+
 pub made_is_well_formed : MadeIsWellFormed
-made_is_well_formed c property good room = made_is_formed property c good room
+made_is_well_formed c property good room = made_is_formed property c (goals_within c property good room) room

@@ -32,12 +32,13 @@ use Rattle.aig_witness.specs.Witness.{Claim, IsBad, IsConfirmedAt, IsHeld, IsVer
 use Rattle.aig_witness.proofs.Verdicts.{claims_have_files, one_verdict}
 use Rattle.aig_lasso.specs.Endless.{IsFairRun}
 use Rattle.aig_lasso.specs.Goals.{with_goals}
+use Rattle.aig_lasso.proofs.Round.{lassos_are_fair_runs}
 use Rattle.aig_live.specs.Laws.{LivenessIsSafety, NeverMeansNoFairRun, lasso_of}
 use Rattle.aig_live.specs.Values.{either, here_value, kept_values, noted_values, same_values}
 use Rattle.aig_live.specs.WithLoop.{copying, first_copied, first_copy, first_met, first_noted, noting, save, with_loop}
 use Rattle.aig_live.proofs.Back.{IsOne, confirmed_means_lasso, kept_long, kept_one, kept_zero, noted_long, resets_are}
+use Rattle.aig_live.proofs.Formed.{goals_within, made_is_well_formed}
 use Rattle.aig_live.proofs.Made.{IsStep, made_step}
-use Rattle.aig_live.proofs.Round.{lassos_are_fair_runs}
 
 -- ---- a fair run without x
 
@@ -572,8 +573,10 @@ module _ (d : Circuit) (formed : IsWellFormed d) (formed_too : IsWellFormed (wit
       (loop_claim, at.0, at.1)
 
 pub never_means_no_fair_run : NeverMeansNoFairRun
-never_means_no_fair_run c property formed formed_too never rows fair =
+never_means_no_fair_run c property good room never rows fair =
     let d : Circuit = with_goals property c in
+    let formed = goals_within c property good room in
+    let formed_too = made_is_well_formed c property good room in
     let kept : ℕ → Row = kept_rows d formed rows fair in
     let run : IsSureRun d kept = sure_run d formed rows fair in
     let at = point d kept run.fair in
@@ -585,8 +588,8 @@ never_means_no_fair_run c property formed formed_too never rows fair =
     never confirmed.0 confirmed.1 confirmed.2)
 
 pub liveness_is_safety : LivenessIsSafety
-liveness_is_safety c property formed formed_too = (
-  never_means_no_fair_run c property formed formed_too,
+liveness_is_safety c property good room = (
+  never_means_no_fair_run c property good room,
   λ none claim step verdict.
       let lasso = confirmed_means_lasso c property claim step verdict in
       let fair = lassos_are_fair_runs c (lasso_of c property claim step) lasso.0 lasso.1 in

@@ -16,15 +16,14 @@ live property c = with_loop (with_goals property c)
 
 -- it is well formed if its largest index is within limits
 abbrev pub MadeIsWellFormed : Type 0
-MadeIsWellFormed = (c : Circuit) (property : ℕ) → IsWellFormed (with_goals property c)
-    → (live property c).max_var ≤ largest_index → IsWellFormed (live property c)
+MadeIsWellFormed = (c : Circuit) (property : ℕ) → IsWellFormed c → (live property c).max_var ≤ largest_index
+    → IsWellFormed (live property c)
 
 -- Where no claim of that circuit is ever confirmed, the circuit has no fair run, with x or without: no run without end
 -- in which all constraints always hold, and each literal of the property and each fairness constraint is 1 again and
 -- again.
 abbrev pub NeverMeansNoFairRun : Type 0
-NeverMeansNoFairRun = (c : Circuit) (property : ℕ) → IsWellFormed (with_goals property c)
-    → IsWellFormed (live property c)
+NeverMeansNoFairRun = (c : Circuit) (property : ℕ) → IsWellFormed c → (live property c).max_var ≤ largest_index
     → ((claim : Claim) (step : ℕ) → ¬ IsVerdict (live property c) claim (Confirmed step))
     → (rows : ℕ → Row) → ¬ IsFairRun (with_goals property c) rows
 
@@ -44,7 +43,6 @@ ConfirmedMeansLasso = (c : Circuit) (property : ℕ) (claim : Claim) (step : ℕ
 
 -- So that circuit never reaches its bad state exactly where the circuit has no fair run.
 abbrev pub LivenessIsSafety : Type 0
-LivenessIsSafety = (c : Circuit) (property : ℕ) → IsWellFormed (with_goals property c)
-    → IsWellFormed (live property c)
+LivenessIsSafety = (c : Circuit) (property : ℕ) → IsWellFormed c → (live property c).max_var ≤ largest_index
     → ((claim : Claim) (step : ℕ) → ¬ IsVerdict (live property c) claim (Confirmed step))
     ↔ ((rows : ℕ → Row) → ¬ IsFairRun (with_goals property c) rows)

@@ -10,7 +10,11 @@ use aig_circuit::{Latch, Lit, Reset, Var};
 use std::alloc::{AllocError, Global};
 
 /// The literals that are 1 where each latch has the value of its copy.
-pub(crate) fn list_alike(alloc: Global, latches: &[Latch], first: u32) -> Result<Vec<Lit>, AllocError>
+pub(crate) fn list_alike(
+    alloc: Global,
+    latches: &[Latch],
+    first: u32,
+) -> Result<Vec<Lit>, AllocError>
     requires { first + 3 * length latches.now ≤ LARGEST + 1 }
     ensures { IfOk result (λ all. all.items
         ≡ alike first (map (λ (l : LatchRecord). l.var) latches.now)) }
@@ -26,7 +30,11 @@ pub(crate) fn list_alike(alloc: Global, latches: &[Latch], first: u32) -> Result
 }
 
 /// Adds the literals of the latches for goals.
-pub(crate) fn put_mets(literals: &mut Vec<Lit>, goals: &[Lit], first_met: u32) -> Result<(), AllocError>
+pub(crate) fn put_mets(
+    literals: &mut Vec<Lit>,
+    goals: &[Lit],
+    first_met: u32,
+) -> Result<(), AllocError>
     requires { first_met + length goals.now ≤ LARGEST + 1 }
     ensures { OnOk result (literals.new.items
         ≡ literals.old.items ++ map literal_of (one_for_each first_met goals.now)) }

@@ -3,6 +3,8 @@ ghost use Rattle.std.specs.Prelude.{◌≡◌, ◌≤◌, ◌++◌, IfErr, IfOk,
 ghost use Rattle.std.specs.List.{All};
 ghost use Rattle.aig_circuit.specs.declared.circuit.Latch.{Latch as LatchRecord};
 ghost use Rattle.aig_circuit.specs.declared.circuit.TheConstants.{LARGEST as largest};
+ghost use Rattle.aig_circuit.specs.Wellformed.{IsWellFormed};
+ghost use Rattle.aig_fault.specs.declared.stopped.Stopped.TheVariants.{OutOfMemory};
 ghost use Rattle.aig_live.specs.Laws.{live};
 ghost use Rattle.aig_live.specs.Outcome.{HasLive, MakesNone, RefusesLive};
 ghost use Rattle.aig_live.specs.WithLoop.{closed, new_gates, with_loop};
@@ -55,14 +57,32 @@ fn add_loop(alloc: Global, circuit: &mut Circuit) -> Result<(), AllocError>
 fn check_size(found: &Checked, property: u32) -> Result<(), Stopped>
     ensures ok { OnOk result (HasLive property found.now) }
     ensures err { IfErr result (RefusesLive property found.now) }
+    ensures well_formed { IsWellFormed found.now }
 {
-    let goals = count_goals(found, property)?;
     let circuit = found.circuit();
+    let goals = count_goals(found, property)?;
     let variables = circuit.max_var as usize + 6 + 8 * circuit.latches.len() + 4 * goals;
     if (LARGEST as usize) < variables {
         return Err(refused(Kind::TooLargeJustice, Place::Whole, 0));
     }
     Ok(())
+}
+
+/// The circuit for a justice property that there is, where it is not too large.
+fn make_live(alloc: Global, found: Checked, property: u32) -> Result<Checked, Stopped>
+    requires well_formed { IsWellFormed found }
+    requires there { HasLive property found }
+    ensures ok { IfOk result (λ made. made ≡ live property found) }
+    ensures err { IfErr result (λ stopped. stopped ≡ OutOfMemory) }
+{
+    let mut circuit = with_goals(alloc, found, property)?.into_circuit();
+    match add_loop(alloc, &mut circuit) {
+        Ok(()) => Ok(Checked::from_well_formed(circuit)),
+        Err(_refused) => {
+            drop(circuit); // for the proof
+            Err(Stopped::OutOfMemory)
+        }
+    }
 }
 
 /// Makes of a circuit and the number of one of its justice properties the circuit for it, whose one
@@ -73,16 +93,11 @@ pub fn live(alloc: Global, found: Checked, property: u32) -> Result<Checked, Sto
     ensures there { OnOk result (HasLive property found) }
     ensures err { IfErr result (MakesNone property found) }
 {
-    if let Err(fault) = check_size(&found, property) {
-        drop(found); // for the proof
-        return Err(fault);
-    }
-    let mut circuit = with_goals(alloc, found, property)?.into_circuit();
-    match add_loop(alloc, &mut circuit) {
-        Ok(()) => Ok(Checked::from_well_formed(circuit)),
-        Err(_refused) => {
-            drop(circuit); // for the proof
-            Err(Stopped::OutOfMemory)
+    match check_size(&found, property) {
+        Ok(()) => make_live(alloc, found, property),
+        Err(fault) => {
+            drop(found); // for the proof
+            Err(fault)
         }
     }
 }

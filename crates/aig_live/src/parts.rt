@@ -49,11 +49,7 @@ fn put_comparing(circuit: &Circuit, gates: &mut Listing<Gate>) -> Result<(), All
 
 /// Adds the gates for whether the state is the saved one, and answers the literal of that.
 #[tactic(auto, using(crate::proofs::Sizes::alike_many))]
-fn put_here(
-    alloc: Global,
-    circuit: &Circuit,
-    gates: &mut Listing<Gate>,
-) -> Result<Lit, AllocError>
+fn put_here(alloc: Global, circuit: &Circuit, gates: &mut Listing<Gate>) -> Result<Lit, AllocError>
     requires { (with_loop circuit.now).max_var ≤ LARGEST }
     ensures grown { OnOk result (gates.new ≡ gates.old ++ here_gates circuit.now) }
     ensures here { IfOk result (λ literal. literal ≡ here_literal circuit.now) }
