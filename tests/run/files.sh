@@ -713,10 +713,13 @@ done
 helps 'help of aigtoaig' aigtoaig --help
 # its examples run as they stand, one after the other
 grep '^  aiger aigtoaig ' "$work/out" | sed 's/^  aiger/"$program"/; s/   .*//' > "$work/examples"
-cp "$source" "$files/model.aag"
+# (their model has a justice property, of its first input)
+sed '1s/$/ 0 0 1/; 5a 1\n2' "$source" > "$files/model.aag"
+aig < "$files/model.aag" > "$work/live_binary"
 ran=$(cd "$files" && set -e && . "$work/examples" 2>&1 && echo all)
-if [ "$ran" = all ] && [ "$(wc -l < "$work/examples")" = 5 ] && grep -aq '^aigmap 1 ' "$files/image.aig" &&
-    grep -q '^aag 5 2 0 0 3 2$' "$files/bad.aag" && cmp -s "$files/model.aig" "$work/binary" && cmp -s "$files/again.aag" "$files/model.aag"; then pass; else
+if [ "$ran" = all ] && [ "$(wc -l < "$work/examples")" = 6 ] && grep -aq '^aigmap 1 ' "$files/image.aig" &&
+    grep -q '^aag 5 2 0 0 3 2 0 1$' "$files/bad.aag" && cmp -s "$files/model.aig" "$work/live_binary" &&
+    grep -aq '^aig 15 3 2 2 10 1$' "$files/live.aig" && cmp -s "$files/again.aag" "$files/model.aag"; then pass; else
     fail 'the examples of help run' "came   $ran, of" "$(cat "$work/examples")"
 fi
 helps 'help of aigsim' aigsim --help

@@ -46,7 +46,7 @@ Examples:
   aiger aigtoaig --keep-map model.aag image.aig   to binary, with a map
   aiger aigtoaig --undo-map image.aig again.aag   undone by that map
   aiger aigtoaig --outputs-as-bad model.aag bad.aag   outputs as bad states
-  aiger aigtoaig --justice-as-bad 0 model.aag live.aig   justice as a bad state";
+  aiger aigtoaig --justice-as-bad 0 model.aag live.aig   its property 0";
 
 const SIM_ABOUT: &str = "Simulate a circuit, step by step";
 
@@ -260,21 +260,23 @@ Write a waveform, a Value Change Dump, in the place of the
 trace or of the answer. Not with --properties";
 
 const KEEP_MAP_HELP: &str = "\
-Keep a map of the renumbering in the comment, so that
---undo-map can give the source back; binary output only";
+Keep a map of the renumbering in the comment, so
+that --undo-map can give the source back; binary
+output only";
 
 const STRIP_HELP: &str = "Leave out the symbols and the comment";
 
 const UNDO_MAP_HELP: &str = "Give back the source of a conversion with --keep-map";
 
 const OUTPUTS_AS_BAD_HELP: &str = "\
-Write the outputs as bad states; not with --keep-map or
---undo-map";
+Write the outputs as bad states; not with
+--keep-map or --undo-map";
 
 const JUSTICE_AS_BAD_HELP: &str = "\
-Write a circuit that reaches its one bad state where
-justice property N, counted from 0, has a fair run; not
-with --outputs-as-bad, --keep-map or --undo-map";
+Write a circuit that reaches its one bad state
+where justice property N, counted from 0, has a fair
+run; not with --outputs-as-bad, --keep-map or
+--undo-map";
 
 const SYNC_HELP: &str = "\
 End only once the disk has the destination; not for

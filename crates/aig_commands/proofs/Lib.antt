@@ -23,3 +23,4 @@ pub mod WitnessDumps
 pub mod Outcomes
 pub mod Comparings
 pub mod Compared
+pub mod Live

@@ -12,7 +12,7 @@ use Rattle.aig_convert.proofs.Meaning.{mapped_image_means_the_same, undone_means
 use Rattle.aig_command.specs.declared.request.BadStates.TheVariants.{Kept}
 use Rattle.aig_command.specs.declared.request.ToAig.{ToAig}
 use Rattle.aig_commands.specs.File.{IsFileOf}
-use Rattle.aig_commands.specs.Conversion.{IsConversionText, IsSource, IsTextAs, stripped, stripped_if_asked}
+use Rattle.aig_commands.specs.Conversion.{IsConversionText, IsSource, IsTextAs, stripped, stripped_if_asked, turned}
 use Rattle.aig_commands.proofs.Trips.{ascii_file, binary_file}
 use Rattle.aig_commands.proofs.TripsExist.{well_formed_file}
 
@@ -47,6 +47,16 @@ file_as false false c text good (image, is_image, is) =
     let ordered = image_is_ordered c image good is_image in
     (image, binary_file image text ordered.0 ordered.1 is, image_means_the_same c image good is_image)
 
+-- a conversion text is the file of a circuit that means what the source means with the bad states that are asked for
+pub turned_file : (request : ToAig) (file converted : List ℕ) (p : IsConversionText request file converted)
+    → IsWellFormed (turned request.bad_states p.source)
+    → (d : Circuit) × IsFileOf converted LARGEST d × MeansTheSame (turned request.bad_states p.source) d
+turned_file request file converted p good =
+    let made = turned request.bad_states p.source in
+    let written = changed_by request.strip made good in
+    let held = file_as request.ascii request.keep_map (stripped_if_asked request made) converted written.0 p.written_as in
+    (held.0, held.1, same_through made (stripped_if_asked request made) held.0 written.1 held.2)
+
 -- a conversion text is the file of a circuit that means what the circuit means that was read
 pub converted_file : (request : ToAig) (file converted : List ℕ) → request.bad_states ≡ Kept
     → (p : IsConversionText request file converted)
@@ -54,9 +64,5 @@ pub converted_file : (request : ToAig) (file converted : List ℕ) → request.b
 converted_file request file converted still p =
     let good = well_formed_file file request.max_var p.found p.read in
     let source = source_by request.undo_map p.found p.source good p.is_source in
-    let written = changed_by request.strip p.source source.0 in
-    let made =
-    file_as request.ascii request.keep_map (stripped_if_asked request p.source) converted written.0
-    (rw still at p.written_as) in
-    let there = same_through p.source (stripped_if_asked request p.source) made.0 written.1 made.2 in
-    (made.0, made.1, same_through p.found p.source made.0 source.1 there)
+    let made = turned_file request file converted p (rw still source.0) in
+    (made.0, made.1, same_through p.found p.source made.0 source.1 (rw still at made.2))

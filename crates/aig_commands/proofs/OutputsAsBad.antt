@@ -17,7 +17,7 @@ use Rattle.aig_binary.proofs.Files.{one_circuit}
 use Rattle.aig_commands.specs.Conversion.{stripped_if_asked}
 use Rattle.aig_commands.specs.Laws.{OutputsAreShownAsBad}
 use Rattle.aig_commands.specs.OutputsAsBad.{kind_as_bad, row_with_outputs_as_bad, symbol_as_bad, with_outputs_as_bad}
-use Rattle.aig_commands.proofs.Meant.{changed_by, file_as, source_by}
+use Rattle.aig_commands.proofs.Meant.{source_by, turned_file}
 use Rattle.aig_commands.proofs.TripsExist.{well_formed_file}
 
 -- the kind that a bad state had as an output
@@ -193,18 +193,15 @@ pub outputs_are_shown_as_bad : OutputsAreShownAsBad
 outputs_are_shown_as_bad request turns limit file converted p c d of_file of_converted =
     let good = well_formed_file file request.max_var p.found p.read in
     let source = source_by request.undo_map p.found p.source good p.is_source in
-    let none = p.can_turn turns in
+    let none : p.source.bad ≡ [] = rw turns at p.can_turn in
     let turned = with_outputs_as_bad p.source in
-    let written = changed_by request.strip turned (turned_is_well_formed p.source none source.0) in
     let made =
-    file_as request.ascii request.keep_map (stripped_if_asked request turned) converted written.0
-    (rw turns at p.written_as) in
+    turned_file request file converted p (rw turns (turned_is_well_formed p.source none source.0)) in
     let same_found = one_circuit file LARGEST p.found c (rw limit at p.read) of_file in
     let same_made = one_circuit converted LARGEST made.0 d made.1 of_converted in
     let of_source = subst (λ (e : Circuit). MeansTheSame e p.source) same_found source.1 in
     let of_made =
-    subst (MeansTheSame turned) same_made
-    (same_through turned (stripped_if_asked request turned) made.0 written.1 made.2) in
+    subst (MeansTheSame turned) same_made (rw turns at made.2) in
     λ first steps rows. (
       trace_back c p.source d of_source none of_made first steps rows,
       trace_there c p.source d of_source none of_made first steps rows,

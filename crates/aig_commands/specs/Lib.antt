@@ -13,6 +13,7 @@ pub mod WitnessOutcome
 pub mod WitnessDump
 pub mod Jobs
 pub mod Laws
+pub mod LiveLaws
 pub mod ComparingLaws
 pub mod DumpLaws
 pub mod WitnessDumpLaws

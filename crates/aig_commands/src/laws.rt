@@ -12,6 +12,7 @@ ghost use Rattle.aig_commands.specs.Laws.{ReachTextsAreUnambiguous, RightAnswers
 ghost use Rattle.aig_commands.specs.Laws.{RefutationsMeanNone, SolverAnswersAreConfirmed};
 ghost use Rattle.aig_commands.specs.Laws.{InvariantTextsAreUnambiguous, NeverIsNever};
 ghost use Rattle.aig_commands.specs.Laws.{WitnessAnswersAreUnambiguous, WitnessAnswersExist};
+ghost use Rattle.aig_commands.specs.LiveLaws.{ConfirmedClaimsAreLassos, NeverExactlyWithoutFairRun};
 
 /// What is read of a text is a circuit exactly where the text is a file of that circuit, ASCII or
 /// binary.
@@ -62,6 +63,17 @@ pub fn headline()
 /// Where outputs became bad states, these show at each step of each trace what the outputs showed.
 pub fn outputs_are_shown_as_bad()
     ensures { OutputsAreShownAsBad }
+{}
+
+/// Where a justice property became a bad state, that is never reached exactly where no run without
+/// end is fair to the property.
+pub fn never_exactly_without_fair_run()
+    ensures { NeverExactlyWithoutFairRun }
+{}
+
+/// A confirmed claim of that is, turned back, a lasso of the circuit that was read.
+pub fn confirmed_claims_are_lassos()
+    ensures { ConfirmedClaimsAreLassos }
 {}
 
 /// The conversion texts that the headline speaks of exist: every file of a circuit has one to

@@ -1,0 +1,61 @@
+-- A justice property that became a bad state.
+use Rattle.std.proofs.Common.{◌≡◌, ◌∙◌, ℕ, List, length, refl, subst, sym}
+use Rattle.aig_circuit.specs.declared.circuit.Circuit.{Circuit}
+use Rattle.aig_circuit.specs.declared.circuit.TheConstants.{LARGEST}
+use Rattle.aig_circuit.specs.Wellformed.{IsWellFormed}
+use Rattle.aig_binary.proofs.Files.{one_circuit}
+use Rattle.aig_live.proofs.Back.{confirmed_means_lasso}
+use Rattle.aig_live.proofs.Formed.{made_is_well_formed}
+use Rattle.aig_live.proofs.Never.{liveness_is_safety}
+use Rattle.aig_live.specs.Laws.{live}
+use Rattle.aig_meaning.specs.Meaning.{MeansTheSame}
+use Rattle.aig_meaning.proofs.Traces.{same_back}
+use Rattle.aig_witness.specs.declared.verdict.Verdict.{Verdict}
+use Rattle.aig_witness.specs.Witness.{Claim, IsVerdict}
+use Rattle.aig_witness.proofs.WitnessEnds.{verdict_too}
+use Rattle.aig_witness.proofs.Witnessing.{same_bad}
+use Rattle.aig_commands.specs.LiveLaws.{ConfirmedClaimsAreLassos, NeverExactlyWithoutFairRun, TurnsJustice}
+use Rattle.aig_commands.proofs.Meant.{turned_file}
+use Rattle.aig_commands.proofs.TripsExist.{well_formed_file}
+
+module _ (property : ℕ) (c d : Circuit) (t : TurnsJustice property c d) where
+  source_is : t.is_text.source ≡ c
+  source_is =
+      (rw t.undo_map at t.is_text.is_source)
+      ∙ one_circuit t.file LARGEST t.is_text.found c (rw t.limit at t.is_text.read) t.source
+
+  good : IsWellFormed c
+  good = well_formed_file t.file LARGEST c t.source
+
+  fits : (live property c).max_var ≤ LARGEST
+  fits = (subst (λ s. HasLive property s) source_is (rw t.justice at t.is_text.can_turn)).1
+
+  live_is_good : IsWellFormed (live property c)
+  live_is_good = made_is_well_formed c property good fits
+
+  same : MeansTheSame (live property c) d
+  same =
+      let made = turned_file t.request t.file t.converted t.is_text
+          (rw (t.justice, source_is) live_is_good) in
+      let is = one_circuit t.converted LARGEST made.0 d made.1 t.result in
+      subst (MeansTheSame (live property c)) is (rw (t.justice, source_is) at made.2)
+
+  as_many : length (live property c).bad ≡ length d.bad
+  as_many = sym (same_bad (live property c) d live_is_good same)
+
+  there : (claim : Claim) (verdict : Verdict) → IsVerdict (live property c) claim verdict → IsVerdict d claim verdict
+  there = verdict_too (live property c) d (same_back (live property c) d same) as_many
+
+  back : (claim : Claim) (verdict : Verdict) → IsVerdict d claim verdict → IsVerdict (live property c) claim verdict
+  back = verdict_too d (live property c) same (sym as_many)
+
+pub never_exactly_without_fair_run : NeverExactlyWithoutFairRun
+never_exactly_without_fair_run property c d t =
+    let safe = liveness_is_safety c property (good property c d t) (fits property c d t) in (
+      λ never. safe.0 (λ claim step is. never claim step (there property c d t claim _ is)),
+      λ none claim step is. safe.1 none claim step (back property c d t claim _ is),
+    )
+
+pub confirmed_claims_are_lassos : ConfirmedClaimsAreLassos
+confirmed_claims_are_lassos property c d t claim step is =
+    confirmed_means_lasso c property claim step (back property c d t claim _ is)
