@@ -1,1 +1,3 @@
 pub mod GoalsShown
+pub mod Round
+pub mod Longest

@@ -23,9 +23,9 @@ use Rattle.aig_unroll.specs.Unrolled.{chain_behind, chained, gate_of}
 use Rattle.aig_lasso.specs.Goals.{with_goals}
 use Rattle.aig_lasso.proofs.GoalsShown.{goals_are_well_formed}
 use Rattle.aig_live.specs.Laws.{MadeIsWellFormed, live}
-use Rattle.aig_live.specs.WithLoop.{alike, alike_literals, closed, closing_literals, compared, copied, copies, copying}
+use Rattle.aig_live.specs.WithLoop.{alike, alike_literals, closed, closing_literals, compared, copied, copying}
 use Rattle.aig_live.specs.WithLoop.{entered, first_closed, first_compared, first_copied, first_copy, first_here, first_met}
-use Rattle.aig_live.specs.WithLoop.{first_noted, here, inside, mets, negated, new_gates, new_latches, noted, noting}
+use Rattle.aig_live.specs.WithLoop.{first_noted, here, inside, negated, new_gates, new_latches, noted, noting}
 use Rattle.aig_live.specs.WithLoop.{one_for_each, outside, save, saving, with_loop}
 use Rattle.aig_live.proofs.Sizes.{alike_many, mets_many}
 

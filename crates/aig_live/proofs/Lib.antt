@@ -1,5 +1,6 @@
+pub mod Sizes
 pub mod Shown
 pub mod Made
 pub mod Back
-pub mod Never
 pub mod Formed
+pub mod Never
