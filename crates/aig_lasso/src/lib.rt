@@ -1,5 +1,7 @@
 //! Justice and fairness: lassos, and the runs without end that they stand for.
 //!
+//! Others call `with_goals`, for the circuit that shows the goals of a justice property.
+//!
 //! The definitions that matter most are `IsLassoVerdict` and `IsFairRun`.
 #![tactic(auto)]
 

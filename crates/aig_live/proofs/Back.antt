@@ -241,7 +241,8 @@ module _ (d : Circuit) where
   abbrev goals : ℕ
   goals = length d.bad
 
-  record IsBack (s : List Val) (e : Val) (qs ms : List Val) (vectors : List (List Val)) (before : List Row) : Type 0 where
+  record IsBack (s : List Val) (e : Val) (qs ms : List Val) (vectors : List (List Val)) (before : List Row)
+      : Type 0 where
     pub rows : List Row
     pub follow : Follow d s (map (take (length d.inputs)) (take (length before) vectors)) rows
     pub held : All IsHeld rows
@@ -335,7 +336,8 @@ module _ (d : Circuit) where
   walk property [] row behind state [] s e qs ms follow at long copies_long many held bad = absurd follow
   walk property [] row behind state (vec ∷ vs) s e qs ms follow at long copies_long many held bad =
       let given = last_input row follow.2 in
-      let step = made_step d row (take (length d.inputs) row.inputs) given.last s e qs ms follow.2 given.whole given.long
+      let step =
+      made_step d row (take (length d.inputs) row.inputs) given.last s e qs ms follow.2 given.whole given.long
       (follow.0 ∙ at) long copies_long in
       let is : and_all One (e ∷ here_value s qs ∷ ms) ≡ One =
       single (and_all One (e ∷ here_value s qs ∷ ms)) property

@@ -1,7 +1,7 @@
 -- The circuit with a loop is well formed where its largest index is within limits.
-use Rattle.std.proofs.Common.{◌≡◌, ◌<◌, ◌≤◌, ◌+◌, ◌*◌, ◌%◌, ◌++◌, ◌∷◌, ◌∙◌, ◌⊎◌, ℕ, List, [], ap, ap₂, arith, inl, inr, length}
-use Rattle.std.proofs.Common.{⊎_elim, length-append, map, max, min, nat_le, refl, subst, sym, zero, suc}
-use Rattle.std.proofs.Common.{if◌then◌else◌, get_or, rules}
+use Rattle.std.proofs.Common.{◌≡◌, ◌<◌, ◌≤◌, ◌+◌, ◌*◌, ◌%◌, ◌++◌, ◌∷◌, ◌∙◌, ◌⊎◌, ℕ, List, [], ap, ap₂, arith}
+use Rattle.std.proofs.Common.{⊎_elim, inl, inr, length, length-append, map, max, min, nat_le, refl, subst, sym, zero}
+use Rattle.std.proofs.Common.{if◌then◌else◌, get_or, rules, suc}
 use Rattle.std.specs.List.{AllByRecursion, Contains, concat, flat_map}
 use Rattle.std.proofs.lemmas.Bool.{cases_lt}
 use Rattle.std.proofs.lemmas.Grind.{flat_map-append}
@@ -17,16 +17,17 @@ use Rattle.aig_circuit.proofs.Checking.{definitions_fit, each, joined}
 use Rattle.aig_topo.proofs.Ordering.Counted.{among_first, among_either}
 use Rattle.aig_topo.proofs.Ordering.Cyclic.{among_last}
 use Rattle.aig_meaning.specs.Meaning.{latch_variables, next_literals}
-use Rattle.aig_meaning.proofs.Related.{AreDefined, IsDefined, distinct_apart, distinct_front, known_bad, known_constraints}
-use Rattle.aig_meaning.proofs.Related.{known_next, known_operands, known_outputs, variables_of}
+use Rattle.aig_meaning.proofs.Related.{AreDefined, IsDefined, distinct_apart, distinct_front, known_bad}
+use Rattle.aig_meaning.proofs.Related.{known_constraints, known_next, known_operands, known_outputs, variables_of}
 use Rattle.aig_unroll.specs.Unrolled.{chain_behind, chained, gate_of}
 use Rattle.aig_lasso.specs.Goals.{with_goals}
 use Rattle.aig_lasso.proofs.GoalsShown.{goals_are_well_formed}
 use Rattle.aig_live.specs.Laws.{MadeIsWellFormed, live}
-use Rattle.aig_live.specs.WithLoop.{alike, alike_literals, closed, closing_literals, compared, copied, copying}
-use Rattle.aig_live.specs.WithLoop.{entered, first_closed, first_compared, first_copied, first_copy, first_here, first_met}
-use Rattle.aig_live.specs.WithLoop.{first_noted, here, inside, negated, new_gates, new_latches, noted, noting}
-use Rattle.aig_live.specs.WithLoop.{one_for_each, outside, save, saving, with_loop}
+use Rattle.aig_live.specs.WithLoop.{alike, alike_literals, closed, closing_gates, closing_literals, comparing_gates}
+use Rattle.aig_live.specs.WithLoop.{compared, copied, copying, entered, first_closed, first_compared, first_copied}
+use Rattle.aig_live.specs.WithLoop.{first_copy, first_here, first_met, first_noted, here, here_gates, inside, negated}
+use Rattle.aig_live.specs.WithLoop.{new_gates, new_latches, noted, noting, one_for_each, outside, save, saving}
+use Rattle.aig_live.specs.WithLoop.{with_loop}
 use Rattle.aig_live.proofs.Sizes.{alike_many, mets_many}
 
 -- ---- numbers one behind the other, from this one up to that
@@ -233,7 +234,8 @@ module _ (c : Circuit) (good : IsWellFormed c) where
   minus v q low high = inr (omega (arith, of_negated q, low), omega (arith, of_negated q, high))
 
   old_negation : (v l : ℕ) → MayUse v l → MayUse v (negation_of l)
-  old_negation v l (inl old) = inl (subst (λ (x : ℕ). (x ≡ 0) ⊎ IsAmong x (defined_variables c)) (sym (negation_variable l)) old)
+  old_negation v l (inl old) =
+      inl (subst (λ (x : ℕ). (x ≡ 0) ⊎ IsAmong x (defined_variables c)) (sym (negation_variable l)) old)
   old_negation v l (inr new) = inr
       (omega (arith, negation_variable l, new.0), omega (arith, negation_variable l, new.1))
 
@@ -266,7 +268,8 @@ module _ (c : Circuit) (good : IsWellFormed c) where
     right_gate v now (literal_of x) uses (inl known.0),
     (
       right_gate (v + 1) (negation_of now) (literal_of q)
-          (old_negation (v + 1) now (later v (v + 1) now (omega arith) uses)) (plain (v + 1) q low (omega (arith, room))),
+          (old_negation (v + 1) now (later v (v + 1) now (omega arith) uses))
+          (plain (v + 1) q low (omega (arith, room))),
       (
         right_gate (v + 2) (negated v) (negated (v + 1)) (minus (v + 2) v (omega (arith, low, room)) (omega arith))
             (minus (v + 2) (v + 1) (omega (arith, low, room)) (omega arith)),
@@ -378,55 +381,48 @@ module _ (n : ℕ) (c₀ : Circuit) (good : IsWellFormed (with_goals n c₀))
   closing_count : length (closing_literals c) ≡ length c.bad + 2
   closing_count = omega (arith, mets_many (first_met c) c.bad)
 
-  abbrev part_closed : List Gate
-  part_closed = chained (first_closed c) 1 (closing_literals c)
-
   abbrev part_noted : List Gate
   part_noted = noted (first_noted c) (first_met c) (inside c) c.bad
-
-  abbrev part_here : List Gate
-  part_here = chained (first_here c) 1 (alike_literals c)
-
-  abbrev part_compared : List Gate
-  part_compared = compared (first_compared c) (first_copy c) (latch_variables c)
 
   abbrev part_copied : List Gate
   part_copied = copied (first_copied c) (first_copy c) (literal_of (saving c)) (latch_variables c)
 
-  closed_run : IsRun (first_closed c) end (variables_of part_closed)
+  closed_run : IsRun (first_closed c) end (variables_of (closing_gates c))
   closed_run =
       run_same (first_closed c) (first_closed c) (first_closed c + length (closing_literals c)) end
-      (variables_of part_closed) refl (omega (arith, closing_count)) (chained_run (first_closed c) 1 (closing_literals c))
+      (variables_of (closing_gates c)) refl (omega (arith, closing_count))
+      (chained_run (first_closed c) 1 (closing_literals c))
 
-  noted_on : IsRun (first_noted c) end (variables_of (part_noted ++ part_closed))
+  noted_on : IsRun (first_noted c) end (variables_of (part_noted ++ closing_gates c))
   noted_on =
-      gates_join (first_noted c) (first_closed c) end part_noted part_closed
+      gates_join (first_noted c) (first_closed c) end part_noted (closing_gates c)
       (noted_run (first_noted c) (first_met c) (inside c) c.bad) closed_run
 
   abbrev from_outside : List Gate
-  from_outside = gate_of (outside c) (negated (entered c)) (negated (save c)) ∷ (part_noted ++ part_closed)
+  from_outside = gate_of (outside c) (negated (entered c)) (negated (save c)) ∷ (part_noted ++ closing_gates c)
 
   outside_on : IsRun (outside c) end (variables_of from_outside)
   outside_on = (refl, noted_on)
 
-  here_on : IsRun (first_here c) end (variables_of (part_here ++ from_outside))
+  here_on : IsRun (first_here c) end (variables_of (here_gates c ++ from_outside))
   here_on =
-      gates_join (first_here c) (outside c) end part_here from_outside
+      gates_join (first_here c) (outside c) end (here_gates c) from_outside
       (run_same (first_here c) (first_here c) (first_here c + length (alike_literals c)) (outside c)
-      (variables_of part_here) refl (omega (arith, alike_many (first_compared c) c.latches))
+      (variables_of (here_gates c)) refl (omega (arith, alike_many (first_compared c) c.latches))
       (chained_run (first_here c) 1 (alike_literals c))) outside_on
 
-  compared_on : IsRun (first_compared c) end (variables_of (part_compared ++ (part_here ++ from_outside)))
+  compared_on : IsRun (first_compared c) end (variables_of (comparing_gates c ++ (here_gates c ++ from_outside)))
   compared_on =
-      gates_join (first_compared c) (first_here c) end part_compared (part_here ++ from_outside)
+      gates_join (first_compared c) (first_here c) end (comparing_gates c) (here_gates c ++ from_outside)
       (run_same (first_compared c) (first_compared c) (first_compared c + 3 * length (latch_variables c)) (first_here c)
-      (variables_of part_compared) refl (omega (arith, latch_count))
+      (variables_of (comparing_gates c)) refl (omega (arith, latch_count))
       (compared_run (first_compared c) (first_copy c) (latch_variables c))) here_on
 
   copied_on : IsRun (first_copied c) end
-      (variables_of (part_copied ++ (part_compared ++ (part_here ++ from_outside))))
+      (variables_of (part_copied ++ (comparing_gates c ++ (here_gates c ++ from_outside))))
   copied_on =
-      gates_join (first_copied c) (first_compared c) end part_copied (part_compared ++ (part_here ++ from_outside))
+      gates_join (first_copied c) (first_compared c) end part_copied
+      (comparing_gates c ++ (here_gates c ++ from_outside))
       (run_same (first_copied c) (first_copied c) (first_copied c + 3 * length (latch_variables c)) (first_compared c)
       (variables_of part_copied) refl (omega (arith, latch_count))
       (copied_run (first_copied c) (first_copy c) (literal_of (saving c)) (latch_variables c))) compared_on
@@ -627,7 +623,8 @@ module _ (n : ℕ) (c₀ : Circuit) (good : IsWellFormed (with_goals n c₀))
   -- the new gates use what they may
   here_right : MayUse c good (first_closed c) (here c)
   here_right =
-      chain_holds (MayUse c good (first_closed c)) (first_here c) 1 (alike_literals c) (one_right c good (first_closed c))
+      chain_holds (MayUse c good (first_closed c)) (first_here c) 1 (alike_literals c)
+      (one_right c good (first_closed c))
       (λ k low_k high_k.
       plain c good (first_closed c) k (omega (arith, low_k))
       (omega (arith, high_k, alike_many (first_compared c) c.latches)))
@@ -647,9 +644,10 @@ module _ (n : ℕ) (c₀ : Circuit) (good : IsWellFormed (with_goals n c₀))
       let part_3 = right_gate c good (outside c) (negated (entered c)) (negated (save c))
       (minus c good (outside c) (entered c) (omega arith) (omega arith))
       (minus c good (outside c) (save c) (omega arith) (omega arith)) in
-      let part_4 = chained_right c good (first_here c) 1 (alike_literals c) (omega arith) (one_right c good (first_here c))
-      (alike_right c good (first_compared c) (first_here c) (latch_variables c) (omega arith) (omega (arith, latch_count)))
-      in
+      let part_4 = chained_right c good (first_here c) 1 (alike_literals c) (omega arith)
+      (one_right c good (first_here c))
+      (alike_right c good (first_compared c) (first_here c) (latch_variables c) (omega arith)
+      (omega (arith, latch_count))) in
       let part_5 = compared_right c good (first_compared c) (first_copy c) (latch_variables c) (omega arith)
       (omega (arith, latch_count)) (state_known c good) in
       let part_6 = copied_right c good (first_copied c) (first_copy c) (literal_of (saving c)) (latch_variables c)
@@ -659,9 +657,10 @@ module _ (n : ℕ) (c₀ : Circuit) (good : IsWellFormed (with_goals n c₀))
       (plain c good (saving c) (save c) (omega arith) (omega arith))
       (minus c good (saving c) (entered c) (omega arith) (omega arith)) in (
         part_7,
-        together part_copied (part_compared ++ (part_here ++ from_outside)) part_6
-            (together part_compared (part_here ++ from_outside) part_5
-            (together part_here from_outside part_4 (part_3, together part_noted part_closed part_2 part_1))),
+        together part_copied (comparing_gates c ++ (here_gates c ++ from_outside)) part_6
+            (together (comparing_gates c) (here_gates c ++ from_outside) part_5
+            (together (here_gates c) from_outside part_4
+            (part_3, together part_noted (closing_gates c) part_2 part_1))),
       )
     where
       together : (xs ys : List Gate) → AllByRecursion (UsesRight c good) xs → AllByRecursion (UsesRight c good) ys
@@ -725,8 +724,8 @@ module _ (n : ℕ) (c₀ : Circuit) (good : IsWellFormed (with_goals n c₀))
         let large = new_gate g g_in in
         let high : c.max_var < g.var = omega (arith, large) in
         let uses : UsesRight c good g =
-        All-contains (UsesRight c good) (new_gates c) g (All-from_recursion (UsesRight c good) (new_gates c) gates_right)
-        g_in in
+        All-contains (UsesRight c good) (new_gates c) g
+        (All-from_recursion (UsesRight c good) (new_gates c) gates_right) g_in in
         let is_new = rank_is_new rank c.max_var top g.var high in
         ⊎_elim (λ (small : h.var ≤ c.max_var).
         ⊎_elim (λ (old : Contains c.gates h).
@@ -788,7 +787,8 @@ module _ (n : ℕ) (c₀ : Circuit) (good : IsWellFormed (with_goals n c₀))
           old_known (flat_map operands c.gates)
           (all_of (IsDefined c) (flat_map operands c.gates)
           (λ l i. each (IsDefined c) (used_literals c) good.known l
-          (among_last (next_literals c ++ concat (c.outputs ∷ c.bad ∷ c.constraints ∷ c.justice.literals ∷ c.fairness ∷ []))
+          (among_last
+          (next_literals c ++ concat (c.outputs ∷ c.bad ∷ c.constraints ∷ c.justice.literals ∷ c.fairness ∷ []))
           (flat_map operands c.gates) l i)))
 
   gates_count : saving c + length (new_gates c) ≡ end
@@ -809,7 +809,9 @@ module _ (n : ℕ) (c₀ : Circuit) (good : IsWellFormed (with_goals n c₀))
           max_var = room;
           inputs = omega (arith, fit, room, length-append c.inputs (save c ∷ []));
           latches = omega (arith, fit, room, length-append c.latches (new_latches c), latches_many);
-          literals = (good.limits.literals.0, (omega (arith, room), (good.limits.literals.1.1.0, (omega arith, (omega arith, tt)))));
+          literals =
+              let before = good.limits.literals in
+              (before.0, (omega (arith, room), (before.1.1.0, (omega arith, (omega arith, tt)))));
           justice = omega arith;
           sizes = refl;
           gates = omega (arith, fit, room, length-append c.gates (new_gates c), gates_count);

@@ -27,7 +27,8 @@ NeverMeansNoFairRun = (c : Circuit) (property : ℕ) → IsWellFormed c → (liv
     → ((claim : Claim) (step : ℕ) → ¬ IsVerdict (live property c) claim (Confirmed step))
     → (rows : ℕ → Row) → ¬ IsFairRun (with_goals property c) rows
 
--- what a claim of that circuit says of the circuit: its latches' first values, and its inputs in the steps before that one
+-- what a claim of that circuit says of the circuit: its latches' first values, and its inputs in the steps before that
+-- one
 abbrev pub lasso_of : Circuit → ℕ → Claim → ℕ → Claim
 lasso_of c property claim step = record {
   property = property;

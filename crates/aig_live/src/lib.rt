@@ -1,7 +1,7 @@
-//! Liveness by safety.
+//! Liveness by safety: from a circuit and one of its justice properties a circuit is made that can
+//! reach its bad state exactly where a run without end is fair to the property.
 //!
-//! From a circuit and a justice property a circuit is made that reaches its bad state exactly where a run without end
-//! is fair to the property.
+//! Others call `live` with a circuit and the number of a property.
 //!
 //! The definitions that matter most are `with_loop` and `NeverMeansNoFairRun`.
 #![tactic(auto)]

@@ -7,22 +7,30 @@ ghost use Rattle.aig_live.specs.WithLoop.{outside, save, saving, with_loop};
 
 use aig_circuit::Circuit;
 
-/// The new variables, or the first of each kind.
+/// The new variables, or the first of each kind: an input, latches, and then gates.
 #[derive(Clone, Copy)]
 pub(crate) struct Variables {
     /// The input that tells where the loop begins.
     pub(crate) save: u32,
-    /// Whether the loop was entered.
+    /// The latch for whether the loop was entered.
     pub(crate) entered: u32,
+    /// Latches that copy the state.
     pub(crate) first_copy: u32,
+    /// Latches for whether each goal was met.
     pub(crate) first_met: u32,
+    /// Whether the state is saved now.
     pub(crate) saving: u32,
+    /// What each copy is next.
     pub(crate) first_copied: u32,
+    /// Whether each latch differs from its copy.
     pub(crate) first_compared: u32,
+    /// Whether the state is the saved one.
     pub(crate) first_here: u32,
     /// Whether the loop was not entered, nor is now.
     pub(crate) outside: u32,
+    /// Whether each goal was not met, nor is now.
     pub(crate) first_noted: u32,
+    /// Whether the loop is closed.
     pub(crate) first_closed: u32,
     /// The largest index.
     pub(crate) last: u32,
