@@ -412,7 +412,10 @@ fn to_aig<'a>(alloc: Global) -> Result<Command<'a>, AllocError>
     let command = with_argument(command, flag(alloc, "keep-map", KEEP_MAP_HELP));
     let command = with_argument(command, flag(alloc, "undo-map", UNDO_MAP_HELP));
     let command = with_argument(command, flag(alloc, "outputs-as-bad", OUTPUTS_AS_BAD_HELP));
-    let command = with_argument(command, property(alloc, "justice-as-bad", JUSTICE_AS_BAD_HELP));
+    let command = with_argument(
+        command,
+        property(alloc, "justice-as-bad", JUSTICE_AS_BAD_HELP),
+    );
     let command = with_argument(command, flag(alloc, "sync", SYNC_HELP));
     let command = with_argument(command, max_var(alloc));
     let command = with_argument(command, file(alloc, "source", SOURCE_HELP));

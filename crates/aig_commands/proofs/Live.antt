@@ -36,7 +36,7 @@ module _ (property : ℕ) (c d : Circuit) (t : TurnsJustice property c d) where
   same : MeansTheSame (live property c) d
   same =
       let made = turned_file t.request t.file t.converted t.is_text
-          (rw (t.justice, source_is) live_is_good) in
+      (rw (t.justice, source_is) live_is_good) in
       let is = one_circuit t.converted LARGEST made.0 d made.1 t.result in
       subst (MeansTheSame (live property c)) is (rw (t.justice, source_is) at made.2)
 

@@ -6,8 +6,8 @@ ghost use Rattle.aig_library.specs.Asked.{CanConvert, CanReach, CanTurnJustice, 
 ghost use Rattle.aig_library.specs.Asked.{conversion};
 
 use crate::asked::{
-    ASCII, KEEP_MAP, OUTPUTS_AS_BAD, STRIP, UNDO_MAP, clauses, conversion, has,
-    justice_conversion, only_has, unrolling,
+    ASCII, KEEP_MAP, OUTPUTS_AS_BAD, STRIP, UNDO_MAP, clauses, conversion, has, justice_conversion,
+    only_has, unrolling,
 };
 use crate::memory::{Inputs, run_in_memory};
 use crate::outcome::{BAD_OPTIONS, Outcome, answer, ending};

@@ -14,8 +14,8 @@ ghost use Rattle.aigtools_c.specs.Version.{version_text};
 
 use aig_arrays::Counts;
 use aig_library::{
-    Outcome, convert, dump_witness, invariant_clauses, justice_as_bad, message, miter, never, reach,
-    read, refute, simulate, step, unroll, witness, write, write_clauses,
+    Outcome, convert, dump_witness, invariant_clauses, justice_as_bad, message, miter, never,
+    reach, read, refute, simulate, step, unroll, witness, write, write_clauses,
 };
 use std::alloc::Global;
 

@@ -1,7 +1,7 @@
 //! Command lines and what is answered to them.
 use aig_command::{
-    BadStates, Command, CommandLine, Invariant, Miter, Names, Reach, Sim, SolverFile, ToAig, Unroll,
-    UnrolledForm, Usage, command,
+    BadStates, Command, CommandLine, Invariant, Miter, Names, Reach, Sim, SolverFile, ToAig,
+    Unroll, UnrolledForm, Usage, command,
 };
 use std::alloc::{AllocError, Global};
 use std::test::Fail;

@@ -3,7 +3,9 @@
 ghost use Rattle.std.specs.Prelude.{◌≡◌, false, IfSome};
 
 use aig_core::{LARGEST, MemorySink, MemorySource};
-use aig_tools::{BadStates, Sim, ToAig, Unroll, UnrolledForm, run_sim, run_toaig, run_unroll, run_witness};
+use aig_tools::{
+    BadStates, Sim, ToAig, Unroll, UnrolledForm, run_sim, run_toaig, run_unroll, run_witness,
+};
 use std::alloc::{AllocError, Global};
 
 /// How many lines each section of a circuit has, how many bytes a comment, and how many frames and
