@@ -1,5 +1,5 @@
 -- A justice property that became a bad state.
-use Rattle.std.proofs.Common.{◌≡◌, ◌∙◌, ℕ, List, length, refl, subst, sym}
+use Rattle.std.proofs.Common.{◌≡◌, ◌≤◌, ◌∙◌, ℕ, length, subst, sym}
 use Rattle.aig_circuit.specs.declared.circuit.Circuit.{Circuit}
 use Rattle.aig_circuit.specs.declared.circuit.TheConstants.{LARGEST}
 use Rattle.aig_circuit.specs.Wellformed.{IsWellFormed}
@@ -7,13 +7,16 @@ use Rattle.aig_binary.proofs.Files.{one_circuit}
 use Rattle.aig_live.proofs.Back.{confirmed_means_lasso}
 use Rattle.aig_live.proofs.Formed.{made_is_well_formed}
 use Rattle.aig_live.proofs.Never.{liveness_is_safety}
+use Rattle.aig_command.specs.declared.request.BadStates.{BadStates}
 use Rattle.aig_live.specs.Laws.{live}
+use Rattle.aig_live.specs.Outcome.{HasLive}
 use Rattle.aig_meaning.specs.Meaning.{MeansTheSame}
 use Rattle.aig_meaning.proofs.Traces.{same_back}
 use Rattle.aig_witness.specs.declared.verdict.Verdict.{Verdict}
 use Rattle.aig_witness.specs.Witness.{Claim, IsVerdict}
 use Rattle.aig_witness.proofs.WitnessEnds.{verdict_too}
 use Rattle.aig_witness.proofs.Witnessing.{same_bad}
+use Rattle.aig_commands.specs.Conversion.{CanTurn, turned}
 use Rattle.aig_commands.specs.LiveLaws.{ConfirmedClaimsAreLassos, NeverExactlyWithoutFairRun, TurnsJustice}
 use Rattle.aig_commands.proofs.Meant.{turned_file}
 use Rattle.aig_commands.proofs.TripsExist.{well_formed_file}
@@ -28,26 +31,33 @@ module _ (property : ℕ) (c d : Circuit) (t : TurnsJustice property c d) where
   good = well_formed_file t.file LARGEST c t.source
 
   fits : (live property c).max_var ≤ LARGEST
-  fits = (subst (λ s. HasLive property s) source_is (rw t.justice at t.is_text.can_turn)).1
+  fits =
+      let can = subst (λ (b : BadStates). CanTurn b t.is_text.source) t.justice t.is_text.can_turn in
+      (subst (λ (s : Circuit). HasLive property s) source_is can).1
 
   live_is_good : IsWellFormed (live property c)
   live_is_good = made_is_well_formed c property good fits
 
+  -- what is written of the source means what the circuit for the property means
   same : MeansTheSame (live property c) d
   same =
-      let made = turned_file t.request t.file t.converted t.is_text
-      (rw (t.justice, source_is) live_is_good) in
-      let is = one_circuit t.converted LARGEST made.0 d made.1 t.result in
-      subst (MeansTheSame (live property c)) is (rw (t.justice, source_is) at made.2)
+      let source_is_good =
+      subst (λ (b : BadStates). IsWellFormed (turned b t.is_text.source)) (sym t.justice)
+      (subst (λ (s : Circuit). IsWellFormed (live property s)) (sym source_is) live_is_good) in
+      let made = turned_file t.request t.file t.converted t.is_text source_is_good in
+      let of_property =
+      subst (λ (b : BadStates). MeansTheSame (turned b t.is_text.source) made.0) t.justice made.2 in
+      let of_circuit = subst (λ (s : Circuit). MeansTheSame (live property s) made.0) source_is of_property in
+      subst (MeansTheSame (live property c)) (one_circuit t.converted LARGEST made.0 d made.1 t.result) of_circuit
 
   as_many : length (live property c).bad ≡ length d.bad
   as_many = sym (same_bad (live property c) d live_is_good same)
 
   there : (claim : Claim) (verdict : Verdict) → IsVerdict (live property c) claim verdict → IsVerdict d claim verdict
-  there = verdict_too (live property c) d (same_back (live property c) d same) as_many
+  there = verdict_too d (live property c) (same_back (live property c) d same) as_many
 
   back : (claim : Claim) (verdict : Verdict) → IsVerdict d claim verdict → IsVerdict (live property c) claim verdict
-  back = verdict_too d (live property c) same (sym as_many)
+  back = verdict_too (live property c) d same (sym as_many)
 
 pub never_exactly_without_fair_run : NeverExactlyWithoutFairRun
 never_exactly_without_fair_run property c d t =

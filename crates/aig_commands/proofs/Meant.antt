@@ -1,5 +1,5 @@
 -- What is converted means what it was converted from.
-use Rattle.std.proofs.Common.{◌≡◌, if◌then◌else◌, refl, rules, ℕ, List, Bool, true, false, inl}
+use Rattle.std.proofs.Common.{◌≡◌, if◌then◌else◌, refl, rules, subst, ℕ, List, Bool, true, false, inl}
 use Rattle.aig_circuit.specs.declared.circuit.Circuit.{Circuit}
 use Rattle.aig_circuit.specs.declared.circuit.TheConstants.{LARGEST}
 use Rattle.aig_circuit.specs.Wellformed.{IsWellFormed}
@@ -9,6 +9,7 @@ use Rattle.aig_image.proofs.Imaging.Ordered.{image_is_ordered}
 use Rattle.aig_image.proofs.Meaning.{image_means_the_same}
 use Rattle.aig_map.proofs.Mapping.{mapped_image_is_ordered}
 use Rattle.aig_convert.proofs.Meaning.{mapped_image_means_the_same, undone_means_the_same}
+use Rattle.aig_command.specs.declared.request.BadStates.{BadStates}
 use Rattle.aig_command.specs.declared.request.BadStates.TheVariants.{Kept}
 use Rattle.aig_command.specs.declared.request.ToAig.{ToAig}
 use Rattle.aig_commands.specs.File.{IsFileOf}
@@ -65,4 +66,5 @@ converted_file request file converted still p =
     let good = well_formed_file file request.max_var p.found p.read in
     let source = source_by request.undo_map p.found p.source good p.is_source in
     let made = turned_file request file converted p (rw still source.0) in
-    (made.0, made.1, same_through p.found p.source made.0 source.1 (rw still at made.2))
+    let means = subst (λ (b : BadStates). MeansTheSame (turned b p.source) made.0) still made.2 in
+    (made.0, made.1, same_through p.found p.source made.0 source.1 means)

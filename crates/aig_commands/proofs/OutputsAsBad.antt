@@ -12,9 +12,10 @@ use Rattle.aig_circuit.specs.declared.value.Val.{Val}
 use Rattle.aig_circuit.specs.Wellformed.{IsAmong, IsWellFormed, NameApart, NameTheSame, count_of, line_feed}
 use Rattle.aig_meaning.specs.Meaning.{IsRow, IsStepAssignment, MeansTheSame, Row}
 use Rattle.aig_meaning.specs.Trace.{Follow, IsTrace}
-use Rattle.aig_meaning.proofs.Traces.{same_meaning_same_traces, same_row, same_through}
+use Rattle.aig_meaning.proofs.Traces.{same_meaning_same_traces, same_row}
 use Rattle.aig_binary.proofs.Files.{one_circuit}
-use Rattle.aig_commands.specs.Conversion.{stripped_if_asked}
+use Rattle.aig_command.specs.declared.request.BadStates.{BadStates}
+use Rattle.aig_commands.specs.Conversion.{turned}
 use Rattle.aig_commands.specs.Laws.{OutputsAreShownAsBad}
 use Rattle.aig_commands.specs.OutputsAsBad.{kind_as_bad, row_with_outputs_as_bad, symbol_as_bad, with_outputs_as_bad}
 use Rattle.aig_commands.proofs.Meant.{source_by, turned_file}
@@ -194,14 +195,14 @@ outputs_are_shown_as_bad request turns limit file converted p c d of_file of_con
     let good = well_formed_file file request.max_var p.found p.read in
     let source = source_by request.undo_map p.found p.source good p.is_source in
     let none : p.source.bad ≡ [] = rw turns at p.can_turn in
-    let turned = with_outputs_as_bad p.source in
     let made =
     turned_file request file converted p (rw turns (turned_is_well_formed p.source none source.0)) in
     let same_found = one_circuit file LARGEST p.found c (rw limit at p.read) of_file in
     let same_made = one_circuit converted LARGEST made.0 d made.1 of_converted in
     let of_source = subst (λ (e : Circuit). MeansTheSame e p.source) same_found source.1 in
     let of_made =
-    subst (MeansTheSame turned) same_made (rw turns at made.2) in
+    subst (MeansTheSame (with_outputs_as_bad p.source)) same_made
+    (subst (λ (b : BadStates). MeansTheSame (turned b p.source) made.0) turns made.2) in
     λ first steps rows. (
       trace_back c p.source d of_source none of_made first steps rows,
       trace_there c p.source d of_source none of_made first steps rows,
