@@ -1,9 +1,17 @@
 //! Justice and fairness: lassos, and the runs without end that they stand for.
 //!
-//! The definitions that matter most are `IsLassoVerdict` and `IsFairRun`.
+//! Others call `judge_lasso`.
+//!
+//! The definitions that matter most are `IsLassoVerdict`, `IsRunVerdict` and `IsFairRun`.
 #![tactic(auto)]
 
+mod held;
+mod judge;
 pub mod laws;
+mod search;
+mod start;
 mod verdict;
 
+pub use crate::held::HeldRun;
+pub use crate::judge::judge_lasso;
 pub use crate::verdict::LassoVerdict;
