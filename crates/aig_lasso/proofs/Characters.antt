@@ -1,18 +1,28 @@
 -- Runs as characters.
-use Rattle.std.proofs.Common.{◌≡◌, ◌+◌, ◌*◌, ◌<◌, ◌≤◌, ◌++◌, ◌∙◌, ℕ, zero, suc, List, [], ◌∷◌, Bool, None, Some, ap, ap₂}
-use Rattle.std.proofs.Common.{add-one, arith, drop, get_or, if◌then◌else◌, length, map, refl, suc-mul, sym, take, take_all}
+use Rattle.std.proofs.Common.{◌≡◌, ◌≢◌, ◌+◌, ◌*◌, ◌<◌, ◌≤◌, ◌++◌, ◌∙◌, ℕ, zero, suc, List, [], ◌∷◌, Bool, true, false, None}
+use Rattle.std.proofs.Common.{Some, add-one, ap, ap₂, arith, drop, get_or, if◌then◌else◌, length, map, mul-le-mul_right}
+use Rattle.std.proofs.Common.{refl, suc-mul, sym, take, take_all}
 use Rattle.std.specs.List.{AllByRecursion, AllZip}
 use Rattle.std.proofs.lemmas.List.{drop-append-le, drop-drop, drop-map, length-append, length-drop, length-map}
 use Rattle.std.proofs.lemmas.List.{length-take-le, map-append, take-append-le, take-map}
+use Rattle.std.proofs.lemmas.List.{take_more}
+use Rattle.std.proofs.lemmas.Bool.{false_from_ne_true}
+use Rattle.std.proofs.lemmas.Slice.Zip.{AllZip-long}
+use Rattle.aig_circuit.specs.declared.circuit.Circuit.{Circuit}
+use Rattle.aig_circuit.specs.declared.circuit.Latch.{Latch}
 use Rattle.aig_circuit.specs.declared.circuit.Reset.{Reset}
 use Rattle.aig_circuit.specs.declared.value.Val.{Val}
-use Rattle.aig_meaning.specs.Trace.{MayStartAt}
+use Rattle.aig_meaning.specs.Meaning.{Row}
+use Rattle.aig_meaning.specs.Trace.{Follow, MayStartAt}
+use Rattle.aig_meaning.proofs.Traces.{inputs_length}
+use Rattle.aig_step.specs.Stimulus.{value_of, values_of}
 use Rattle.aig_step.specs.TraceText.{character_of, values_text}
-use Rattle.aig_step.proofs.LineValues.{says_values}
+use Rattle.aig_step.proofs.LineValues.{no_values, parted, says_values, values_back, values_on}
 use Rattle.aig_witness.specs.Witness.{if_may_start, may_start_in}
 use Rattle.aig_witness.proofs.WitnessTexts.{first_said}
 use Rattle.aig_witness.proofs.Witnessing.{may_start}
-use Rattle.aig_lasso.specs.Runs.{AreCharacters, HoldsRun, run_from, steps_held, value_held, with_step}
+use Rattle.aig_lasso.specs.Runs.{AreCharacters, HoldsRun, steps_held, value_held}
+use Rattle.aig_lasso.proofs.Starts.{value_back}
 
 -- characters of a list's parts
 pub taken : (n : ℕ) (bytes : List ℕ) → AreCharacters bytes → AreCharacters (take n bytes)
@@ -88,12 +98,79 @@ holds_more first bytes text inputs n holds are long = record {
       omega (arith, length-append bytes text, holds.whole, long, next);
 }
 
+-- the characters of a step stand within those of all
+pub room : (inputs n k : ℕ) → k < n → k * inputs + inputs ≤ n * inputs
+room inputs n k low =
+    let more : suc k ≤ n = omega (arith, low) in omega (arith, mul-le-mul_right inputs more, suc-mul k inputs)
+
+-- text that is looked at character by character
+module _ (text : List ℕ) (place : ℕ) (is_character : Bool) (low : place < length text)
+    (is : value_of (get_or text place 0) ≡ (if is_character then Some (value_held (get_or text place 0)) else None)) where
+  abbrev byte : ℕ
+  byte = get_or text place 0
+
+  pub none_said : is_character ≡ false → values_of text ≡ None
+  none_said other =
+      ap values_of (parted text place 0 low)
+      ∙ no_values (take place text) (drop (place + 1) text) byte
+      (is ∙ ap (λ (b : Bool). if b then Some (value_held byte) else None) other)
+
+  pub more_said : is_character ≡ true → values_of (take place text) ≡ Some (map value_held (take place text))
+      → values_of (take (place + 1) text) ≡ Some (map value_held (take (place + 1) text))
+  more_said stands so_far =
+      let more = take_more text place 0 low in
+      ap values_of more
+      ∙ values_on (take place text) byte (map value_held (take place text)) (value_held byte) so_far
+      (is ∙ ap (λ (b : Bool). if b then Some (value_held byte) else None) stands)
+      ∙ ap (λ (vs : List Val). Some vs)
+      (sym (ap (map value_held) more ∙ map-append value_held (take place text) (byte ∷ [])))
+
+pub characters : (text : List ℕ) → values_of text ≡ Some (map value_held text) → AreCharacters text
+characters text said = values_back text (map value_held text) said
+
+values_again : (vs : List Val) → map value_held (values_text vs) ≡ vs
+values_again [] = refl
+values_again (v ∷ vs) = ap₂ (λ (x : Val) (xs : List Val). x ∷ xs) (value_back v) (values_again vs)
+
 -- first states, by the tests that are made
-pub starts : (rs : List Reset) (vs : List Val) → may_start_in rs vs ≡ true → AllZip MayStartAt rs vs
+starts : (rs : List Reset) (vs : List Val) → may_start_in rs vs ≡ true → AllZip MayStartAt rs vs
 starts rs vs is = (may_start rs (Some vs) vs (ap (λ (b : Bool). if b then Some vs else None) is)).1
 
-pub starts_not : (rs : List Reset) (vs : List Val) → may_start_in rs vs ≡ false → ¬ AllZip MayStartAt rs vs
+starts_not : (rs : List Reset) (vs : List Val) → may_start_in rs vs ≡ false → ¬ AllZip MayStartAt rs vs
 starts_not rs vs is all =
     let said = first_said rs vs all in
     let same = ap (if_may_start rs) (says_values vs) in
     let none = ap (λ (b : Bool). if b then Some vs else None) is in cc
+
+pub too_few : (rs : List Reset) (vs : List Val) → length vs ≢ length rs → may_start_in rs vs ≡ false
+too_few rs vs other =
+    false_from_ne_true (may_start_in rs vs) (λ is. other (AllZip-long MayStartAt rs vs (starts rs vs is)))
+
+module _ (found latches : List Latch) (text : List ℕ) (vs : List Val) (result : Bool)
+    (is : result ≡ may_start_in (map (λ (l : Latch). l.reset) found) (map value_held text)) (same : found ≡ latches)
+    (says : text ≡ values_text vs) where
+  abbrev resets : List Reset
+  resets = map (λ (l : Latch). l.reset) latches
+
+  tests : result ≡ may_start_in resets vs
+  tests =
+      is
+      ∙ ap₂ (λ (ls : List Latch) (us : List Val). may_start_in (map (λ (l : Latch). l.reset) ls) us) same
+      (ap (map value_held) says ∙ values_again vs)
+
+  pub starts_there : result ≡ true → AllZip MayStartAt resets vs
+  starts_there is_true = starts resets vs (sym tests ∙ is_true)
+
+  pub starts_nowhere : result ≡ false → ¬ AllZip MayStartAt resets vs
+  starts_nowhere is_false = starts_not resets vs (sym tests ∙ is_false)
+
+-- where a step is taken, the circuit has so many inputs
+pub as_many : (c : Circuit) (inputs : ℕ) (state : List Val) (steps : List (List Val)) (rows stem : List Row) (turn : Row)
+    (turns : List Row) → Follow c state steps rows → rows ≡ stem ++ (turn ∷ turns)
+    → AllByRecursion (λ (given : List Val). length given ≡ inputs) steps → inputs ≡ length c.inputs
+as_many c inputs state [] [] [] turn turns follow is long = cc
+as_many c inputs state [] [] (s ∷ ss) turn turns follow is long = cc
+as_many c inputs state [] (r ∷ rs) stem turn turns follow is long = absurd follow
+as_many c inputs state (v ∷ vs) [] stem turn turns follow is long = absurd follow
+as_many c inputs state (v ∷ vs) (r ∷ rs) stem turn turns follow is long =
+    sym long.0 ∙ ap length (sym follow.1) ∙ inputs_length c r follow.2

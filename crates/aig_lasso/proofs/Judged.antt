@@ -1,11 +1,13 @@
 -- The verdict on the rows of a run.
 use Rattle.std.proofs.Common.{◌≡◌, ◌<◌, ◌≤◌, ◌&&◌, ◌++◌, ◌∙◌, ℕ, List, [], ◌∷◌, Bool, true, false, Option, None, Some}
-use Rattle.std.proofs.Common.{ap, arith, drop, if◌then◌else◌, length, option_and_then, refl, subst, sym, inl, inr}
+use Rattle.std.proofs.Common.{Err, IfOk, Ok, Result, ap, arith, drop, if◌then◌else◌, inl, inr, length, option_and_then}
+use Rattle.std.proofs.Common.{refl, subst, sym}
 use Rattle.std.specs.List.{All, AllByRecursion}
 use Rattle.std.proofs.Math.Seq.{drop-append_seam}
 use Rattle.std.proofs.lemmas.Bool.{cases_lt}
 use Rattle.std.proofs.lemmas.List.Elements.{All-cons, All-head, All-nil, All-tail}
 use Rattle.aig_circuit.specs.declared.circuit.Circuit.{Circuit}
+use Rattle.aig_circuit.specs.declared.out_of_memory.OutOfMemory.{OutOfMemory}
 use Rattle.aig_circuit.specs.declared.value.Val.{Val}
 use Rattle.aig_circuit.specs.Wellformed.{IsWellFormed}
 use Rattle.aig_meaning.specs.Meaning.{Row}
@@ -156,3 +158,11 @@ is_verdict_on c first steps verdict formed starts long is =
     told c first steps one.0 one.1 one.2 verdict
     (subst (λ (v : LassoVerdict). IsVerdictOf (length c.bad) first one.0 v) (sym (is one.0 one.1))
     (verdict_is (length c.bad) c first steps one.0 one.1.1))
+
+pub is_told : (c : Circuit) (first : List Val) (steps : List (List Val)) (result : Result LassoVerdict OutOfMemory)
+    → IsWellFormed c → IsFirstState c first → AllByRecursion (λ (given : List Val). length given ≡ length c.inputs) steps
+    → ((rows : List Row) → IsTrace c first steps rows
+    → IfOk result (λ (verdict : LassoVerdict). verdict ≡ verdict_on (length c.bad) first rows))
+    → IfOk result (IsVerdictOn c first steps)
+is_told c first steps (Ok verdict) formed starts long is = is_verdict_on c first steps verdict formed starts long is
+is_told c first steps (Err refused) formed starts long is = tt

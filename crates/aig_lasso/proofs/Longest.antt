@@ -1,9 +1,7 @@
 -- Of loops that come back to one state, the longest meets all that the others meet.
 use Rattle.std.proofs.Common.{◌≡◌, ◌≤◌, ◌++◌, ◌∙◌, ℕ, List, [], ◌∷◌, ap, arith, length, refl, subst, sym}
-use Rattle.aig_circuit.specs.declared.value.Val.{Val}
 use Rattle.aig_meaning.specs.Meaning.{Row}
-use Rattle.aig_meaning.specs.Trace.{state_after}
-use Rattle.aig_lasso.specs.Lasso.{IsLassoAt, Meet}
+use Rattle.aig_lasso.specs.Lasso.{Meet}
 use Rattle.aig_lasso.specs.Laws.{LongestLoopsMeetMost}
 
 pub tails_same : (x y : Row) (xs ys : List Row) → x ∷ xs ≡ y ∷ ys → xs ≡ ys

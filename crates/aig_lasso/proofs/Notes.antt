@@ -1,12 +1,13 @@
 -- Notes of which goals were met.
 use Rattle.std.proofs.Common.{◌≡◌, ◌⊎◌, ◌+◌, ◌<◌, ◌++◌, ◌||◌, ◌∙◌, ℕ, zero, suc, List, [], ◌∷◌, Bool, true, false, ap}
 use Rattle.std.proofs.Common.{ap₂, append_assoc, arith, drop, get_or, inl, inr, length, refl, replicate, set, subst, sym}
-use Rattle.std.proofs.Common.{take}
-use Rattle.std.proofs.lemmas.List.{drop-set-lt, drop_more, get_or-replicate, length-replicate, take_more, take_more_set}
+use Rattle.std.proofs.Common.{map, take}
+use Rattle.std.proofs.lemmas.List.{drop-set-lt, drop_more, get_or-map, get_or-replicate, length-replicate, take_more}
+use Rattle.std.proofs.lemmas.List.{take_more_set}
 use Rattle.std.proofs.lemmas.List.Sums.{AllPass-from_list_all, list_all-from_AllPass}
 use Rattle.aig_circuit.specs.declared.value.Val.{Val}
 use Rattle.aig_circuit.specs.declared.value.Val.TheVariants.{Zero}
-use Rattle.aig_meaning.specs.Meaning.{Row}
+use Rattle.aig_meaning.specs.Meaning.{Row, literal_value}
 use Rattle.aig_witness.specs.Parts.Witnessing.{is_one}
 use Rattle.aig_witness.specs.Witness.{IsBad}
 use Rattle.aig_witness.proofs.Witnessing.{one_of}
@@ -70,10 +71,10 @@ module _ (goal : ℕ) (d : Bool) where
   noted_by notes (row ∷ rows) low is =
       elim (noted_by (notes_with notes row.bad) rows (omega (arith, notes_length notes row.bad, low)) is) [
         | inl before ↦ elim (either (get_or notes goal d) (is_one (get_or row.bad goal Zero))
-        (sym (note_at notes row.bad goal d low) ∙ before)) [
-          | inl noted ↦ inl noted
-          | inr here ↦ inr ([], rows, row, refl, one_of (get_or row.bad goal Zero) here)
-        ]
+            (sym (note_at notes row.bad goal d low) ∙ before)) [
+              | inl noted ↦ inl noted
+              | inr here ↦ inr ([], rows, row, refl, one_of (get_or row.bad goal Zero) here)
+            ]
         | inr later ↦ inr (meet_behind (row ∷ []) rows goal later)
       ]
 
@@ -137,3 +138,11 @@ module _ (notes : List Bool) (vs : List Val) (place : ℕ) (all : List Bool) (lo
       ∙ ap (λ (b : Bool). take place notes ++ (b ∷ behind))
       (sym (or_false (get_or notes place false)) ∙ ap (λ (b : Bool). get_or notes place false || b) (sym other))
       ∙ here
+
+-- what is seen at a place
+pub seen_at : (a : ℕ → Val) (goals : List ℕ) (place goal : ℕ) (v : Val) (result one : Bool) → place < length goals
+    → goal ≡ get_or goals place goal → v ≡ literal_value a goal → result ≡ is_one v → result ≡ one
+    → is_one (get_or (map (literal_value a) goals) place Zero) ≡ one
+seen_at a goals place goal v result one low at value test is =
+    ap is_one (get_or-map (literal_value a) goals place goal Zero low ∙ ap (literal_value a) (sym at) ∙ sym value)
+    ∙ sym test ∙ is

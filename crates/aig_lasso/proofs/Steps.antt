@@ -1,12 +1,11 @@
 -- Steps of a run that are taken one by one.
-use Rattle.std.proofs.Common.{◌≡◌, ◌≢◌, ◌+◌, ◌<◌, ◌≤◌, ◌&&◌, ◌∙◌, ℕ, suc, List, [], ◌∷◌, Bool, true, false, Option, None}
-use Rattle.std.proofs.Common.{Some, add-one, ap, ap₂, arith, drop, eq-eqb, get_or, if◌then◌else◌, length, map, refl, subst}
+use Rattle.std.proofs.Common.{◌≡◌, ◌≢◌, ◌+◌, ◌<◌, ◌≤◌, ◌&&◌, ◌∙◌, ℕ, suc, List, [], ◌∷◌, Bool, true, false, None}
+use Rattle.std.proofs.Common.{Some, add-one, ap, arith, drop, eq-eqb, get_or, if◌then◌else◌, length, refl, subst}
 use Rattle.std.proofs.Common.{sym}
 use Rattle.std.proofs.lemmas.List.{drop-drop, drop_all, drop_more, length-map}
 use Rattle.aig_circuit.specs.declared.circuit.Circuit.{Circuit}
 use Rattle.aig_circuit.specs.declared.circuit.Latch.{Latch}
 use Rattle.aig_circuit.specs.declared.value.Val.{Val}
-use Rattle.aig_circuit.specs.Wellformed.{IsWellFormed}
 use Rattle.aig_meaning.specs.Meaning.{IsRow, IsStepAssignment, MeansTheSame, Row}
 use Rattle.aig_meaning.specs.Trace.{Follow, state_after}
 use Rattle.aig_meaning.proofs.Traces.{bad_length, first_length, inputs_length, one_row, state_length}
@@ -38,8 +37,15 @@ module _ (c : Circuit) (run : Run) (rows : List Row) (before after : Stepping) (
       let long = length-map c.latches (λ (l : Latch). l.reset) in
       let long_too = length-map before.circuit.latches (λ (l : Latch). l.reset) in
       text_says (length before.circuit.latches) run.first text is
-      (omega (arith, ap length is, length-map run.first character_of, first_length c run.first of.trace.0, resets, long,
-      long_too))
+      (omega (
+        arith,
+        ap length is,
+        length-map run.first character_of,
+        first_length c run.first of.trace.0,
+        resets,
+        long,
+        long_too,
+      ))
 
   entered_case : (result : Bool)
       → (result ≡ true → vector_in (length before.circuit.latches) text ≡ Some after.state)
@@ -98,9 +104,9 @@ module _ (c : Circuit) (s : Stepping) (run : Run) (rows : List Row) (step : ℕ)
       no_rows s.state (drop step rows)
       (subst (λ (vs : List (List Val)). Follow c s.state vs (drop step rows)) (drop_all step run.steps high)
       stands.follow) where
-    no_rows : (state : List Val) (rs : List Row) → Follow c state [] rs → rs ≡ []
-    no_rows state [] follow = refl
-    no_rows state (r ∷ rs) follow = absurd follow
+        no_rows : (state : List Val) (rs : List Row) → Follow c state [] rs → rs ≡ []
+        no_rows state [] follow = refl
+        no_rows state (r ∷ rs) follow = absurd follow
 
   pub at_end : length run.steps ≤ step → s.state ≡ state_after run.first rows
   at_end high = ap (λ (rs : List Row). state_after s.state rs) (sym (none_left high)) ∙ stands.leads
@@ -122,6 +128,12 @@ module _ (c : Circuit) (s : Stepping) (run : Run) (rows : List Row) (step : ℕ)
 
     parted : drop step rows ≡ next.row ∷ drop (step + 1) rows
     parted = next.parted ∙ ap (λ (rs : List Row). next.row ∷ rs) behind_next
+
+    -- what runs the circuit has as many goals
+    pub as_many_goals : length s.circuit.bad ≡ length c.bad
+    as_many_goals =
+        sym (bad_length s.circuit next.row ((stands.means.rows next.row).0 next.is_row))
+        ∙ bad_length c next.row next.is_row
 
     -- the state is that before the next row
     pub step_here : (state : List Val) → same_values s.state state ≡ true → step_from state step (drop step rows) ≡ Some step
