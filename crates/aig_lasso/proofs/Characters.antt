@@ -1,7 +1,7 @@
 -- Runs as characters.
-use Rattle.std.proofs.Common.{◌≡◌, ◌≢◌, ◌+◌, ◌*◌, ◌<◌, ◌≤◌, ◌++◌, ◌∙◌, ℕ, zero, suc, List, [], ◌∷◌, Bool, true, false, None}
-use Rattle.std.proofs.Common.{Some, add-one, ap, ap₂, arith, drop, get_or, if◌then◌else◌, length, map, mul-le-mul_right}
-use Rattle.std.proofs.Common.{refl, suc-mul, sym, take, take_all}
+use Rattle.std.proofs.Common.{◌≡◌, ◌≢◌, ◌+◌, ◌*◌, ◌<◌, ◌≤◌, ◌++◌, ◌∙◌, ℕ, zero, suc, List, [], ◌∷◌, Bool, true, false}
+use Rattle.std.proofs.Common.{None, Some, add-one, ap, ap₂, arith, drop, get_or, if◌then◌else◌, length, map}
+use Rattle.std.proofs.Common.{mul-le-mul_right, refl, suc-mul, sym, take, take_all}
 use Rattle.std.specs.List.{AllByRecursion, AllZip}
 use Rattle.std.proofs.lemmas.List.{drop-append-le, drop-drop, drop-map, length-append, length-drop, length-map}
 use Rattle.std.proofs.lemmas.List.{length-take-le, map-append, take-append-le, take-map}
@@ -68,11 +68,20 @@ step_at inputs (suc n) (suc k) bytes low =
     ∙ ap (λ (bs : List ℕ). map value_held (take inputs bs)) (drop-drop (k * inputs) inputs bytes)
     ∙ ap (λ (i : ℕ). map value_held (take inputs (drop i bytes))) more
 
-pub step_text : (inputs n k : ℕ) (bytes : List ℕ) → AreCharacters bytes → k < n
-    → take inputs (drop (k * inputs) bytes) ≡ values_text (get_or (steps_held inputs n bytes) k [])
-step_text inputs n k bytes are low =
-    sym (taken inputs (drop (k * inputs) bytes) (left (k * inputs) bytes are))
-    ∙ ap values_text (sym (step_at inputs n k bytes low))
+module _ (inputs n k : ℕ) (bytes : List ℕ) (steps : List (List Val)) (same : steps_held inputs n bytes ≡ steps)
+    (below : k < length steps) where
+  low : k < n
+  low = omega (arith, below, many inputs n bytes, ap length same)
+
+  pub within : length bytes ≡ n * inputs → k * inputs + inputs ≤ length bytes
+  within whole =
+      let more : suc k ≤ n = omega (arith, low) in omega (arith, mul-le-mul_right inputs more, suc-mul k inputs, whole)
+
+  pub step_text : AreCharacters bytes → take inputs (drop (k * inputs) bytes) ≡ values_text (get_or steps k [])
+  step_text are =
+      sym (taken inputs (drop (k * inputs) bytes) (left (k * inputs) bytes are))
+      ∙ ap values_text (sym (step_at inputs n k bytes low))
+      ∙ ap (λ (vs : List (List Val)). values_text (get_or vs k [])) same
 
 -- one more step
 pub one_more : (inputs n : ℕ) (bytes text : List ℕ) → length bytes ≡ n * inputs → length text ≡ inputs
@@ -98,14 +107,10 @@ holds_more first bytes text inputs n holds are long = record {
       omega (arith, length-append bytes text, holds.whole, long, next);
 }
 
--- the characters of a step stand within those of all
-pub room : (inputs n k : ℕ) → k < n → k * inputs + inputs ≤ n * inputs
-room inputs n k low =
-    let more : suc k ≤ n = omega (arith, low) in omega (arith, mul-le-mul_right inputs more, suc-mul k inputs)
-
 -- text that is looked at character by character
 module _ (text : List ℕ) (place : ℕ) (is_character : Bool) (low : place < length text)
-    (is : value_of (get_or text place 0) ≡ (if is_character then Some (value_held (get_or text place 0)) else None)) where
+    (is : value_of (get_or text place 0)
+    ≡ (if is_character then Some (value_held (get_or text place 0)) else None)) where
   abbrev byte : ℕ
   byte = get_or text place 0
 
@@ -165,8 +170,8 @@ module _ (found latches : List Latch) (text : List ℕ) (vs : List Val) (result 
   starts_nowhere is_false = starts_not resets vs (sym tests ∙ is_false)
 
 -- where a step is taken, the circuit has so many inputs
-pub as_many : (c : Circuit) (inputs : ℕ) (state : List Val) (steps : List (List Val)) (rows stem : List Row) (turn : Row)
-    (turns : List Row) → Follow c state steps rows → rows ≡ stem ++ (turn ∷ turns)
+pub as_many : (c : Circuit) (inputs : ℕ) (state : List Val) (steps : List (List Val)) (rows stem : List Row)
+    (turn : Row) (turns : List Row) → Follow c state steps rows → rows ≡ stem ++ (turn ∷ turns)
     → AllByRecursion (λ (given : List Val). length given ≡ inputs) steps → inputs ≡ length c.inputs
 as_many c inputs state [] [] [] turn turns follow is long = cc
 as_many c inputs state [] [] (s ∷ ss) turn turns follow is long = cc

@@ -68,7 +68,8 @@ module _ (goals : ℕ) (c : Circuit) (first : List Val) (steps : List (List Val)
   -- a loop begins in the state in which it ends
   begins : (start : ℕ) (is : IsLassoAt goals first rows start) → is.turn.state ≡ end
   begins start is =
-      state_there c first steps is.stem is.turn is.turns (subst (λ (rs : List Row). Follow c first steps rs) is.parted follow)
+      state_there c first steps is.stem is.turn is.turns
+      (subst (λ (rs : List Row). Follow c first steps rs) is.parted follow)
       ∙ sym is.closed
 
   closes : (start : ℕ) (is : IsFirstWith end rows start) → end ≡ state_after first is.stem
@@ -123,7 +124,8 @@ module _ (goals : ℕ) (c : Circuit) (first : List Val) (steps : List (List Val)
   start_case (Some start) held is =
       let found = found_by end 0 start rows is in
       let same : found.0 ≡ start = omega (arith, found.1) in
-      met_case start (all_met goals (drop start rows)) held (subst (λ (n : ℕ). IsFirstWith end rows n) same found.2) refl
+      met_case start (all_met goals (drop start rows)) held
+      (subst (λ (n : ℕ). IsFirstWith end rows n) same found.2) refl
 
   hold_case : (hold : Bool) → all_hold rows ≡ hold
       → IsVerdictOf goals first rows
@@ -143,7 +145,8 @@ module _ (c : Circuit) (first : List Val) (steps : List (List Val)) (rows : List
     record { rows = rows; trace = trace; lasso = is.0 },
     λ earlier low other.
         is.1 earlier low
-        (subst (λ (rs : List Row). IsLassoAt (length c.bad) first rs earlier) (only other.rows other.trace) other.lasso),
+        (subst (λ (rs : List Row). IsLassoAt (length c.bad) first rs earlier) (only other.rows other.trace)
+        other.lasso),
   )
   told NotConfirmed is = λ start other.
       is start
@@ -160,7 +163,8 @@ is_verdict_on c first steps verdict formed starts long is =
     (verdict_is (length c.bad) c first steps one.0 one.1.1))
 
 pub is_told : (c : Circuit) (first : List Val) (steps : List (List Val)) (result : Result LassoVerdict OutOfMemory)
-    → IsWellFormed c → IsFirstState c first → AllByRecursion (λ (given : List Val). length given ≡ length c.inputs) steps
+    → IsWellFormed c → IsFirstState c first
+    → AllByRecursion (λ (given : List Val). length given ≡ length c.inputs) steps
     → ((rows : List Row) → IsTrace c first steps rows
     → IfOk result (λ (verdict : LassoVerdict). verdict ≡ verdict_on (length c.bad) first rows))
     → IfOk result (IsVerdictOn c first steps)

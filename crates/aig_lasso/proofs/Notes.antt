@@ -1,7 +1,7 @@
 -- Notes of which goals were met.
 use Rattle.std.proofs.Common.{◌≡◌, ◌⊎◌, ◌+◌, ◌<◌, ◌++◌, ◌||◌, ◌∙◌, ℕ, zero, suc, List, [], ◌∷◌, Bool, true, false, ap}
-use Rattle.std.proofs.Common.{ap₂, append_assoc, arith, drop, get_or, inl, inr, length, refl, replicate, set, subst, sym}
-use Rattle.std.proofs.Common.{map, take}
+use Rattle.std.proofs.Common.{ap₂, append_assoc, arith, drop, get_or, inl, inr, length, map, refl, replicate, set}
+use Rattle.std.proofs.Common.{subst, sym, take}
 use Rattle.std.proofs.lemmas.List.{drop-set-lt, drop_more, get_or-map, get_or-replicate, length-replicate, take_more}
 use Rattle.std.proofs.lemmas.List.{take_more_set}
 use Rattle.std.proofs.lemmas.List.Sums.{AllPass-from_list_all, list_all-from_AllPass}

@@ -104,7 +104,8 @@ module _ (state : List Val) where
   pub found_by : (step found : ℕ) (rows : List Row) → step_from state step rows ≡ Some found → Found step rows found
   found_by step found [] is = cc
   found_by step found (row ∷ rows) is =
-      found_case step found row rows (same_values row.state state) refl is (λ later. found_by (suc step) found rows later)
+      found_case step found row rows (same_values row.state state) refl is
+      (λ later. found_by (suc step) found rows later)
 
   none_case : (step : ℕ) (r : Row) (rs : List Row) (b : Bool) → same_values r.state state ≡ b
       → (if b then Some step else step_from state (suc step) rs) ≡ None

@@ -136,7 +136,8 @@ module _ (c : Circuit) (s : Stepping) (run : Run) (rows : List Row) (step : ℕ)
         ∙ bad_length c next.row next.is_row
 
     -- the state is that before the next row
-    pub step_here : (state : List Val) → same_values s.state state ≡ true → step_from state step (drop step rows) ≡ Some step
+    pub step_here : (state : List Val) → same_values s.state state ≡ true
+        → step_from state step (drop step rows) ≡ Some step
     step_here state same =
         ap (λ (rs : List Row). step_from state step rs) parted
         ∙ ap (λ (b : Bool). if b then Some step else step_from state (suc step) (drop (step + 1) rows))

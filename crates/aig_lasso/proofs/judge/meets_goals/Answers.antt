@@ -20,6 +20,7 @@ returns c = λ k rows stands low.
     c.len-goals.ensures ∙ ap length c.parts.ensures.bad ∙ ap (λ (d : Circuit). length d.bad) c.machine.ensures
     ∙ as_many_goals k s c.args.run.now rows c.args.start stands low in
     let begun : c.deref_mut.result.now ≡ replicate (length k.bad) false =
-    c.deref_mut.ensures.value ∙ c.in_ok-notes.ensures.items_if_clones_equal (λ y is. is) ∙ ap (λ (n : ℕ). replicate n false) goals in
+    c.deref_mut.ensures.value ∙ c.in_ok-notes.ensures.items_if_clones_equal (λ y is. is)
+    ∙ ap (λ (n : ℕ). replicate n false) goals in
     c.are_noted-meets.ensures
     ∙ ap are_noted (back ∙ c.note_goals.ensures k rows stands ∙ ap (λ (ns : List Bool). notes_after ns loop) begun)
