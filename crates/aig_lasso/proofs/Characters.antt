@@ -21,7 +21,7 @@ use Rattle.aig_step.proofs.LineValues.{no_values, parted, says_values, values_ba
 use Rattle.aig_witness.specs.Witness.{if_may_start, may_start_in}
 use Rattle.aig_witness.proofs.WitnessTexts.{first_said}
 use Rattle.aig_witness.proofs.Witnessing.{may_start}
-use Rattle.aig_lasso.specs.Runs.{AreCharacters, HoldsRun, steps_held, value_held}
+use Rattle.aig_lasso.specs.Runs.{AreCharacters, HoldsCharacters, steps_held, value_held}
 use Rattle.aig_lasso.proofs.Starts.{value_back}
 
 -- characters of a list's parts
@@ -97,8 +97,8 @@ one_more inputs (suc n) bytes text whole long =
     (ap (steps_held inputs (suc n)) (drop-append-le inputs bytes text room)
     ∙ one_more inputs n (drop inputs bytes) text (omega (arith, whole, more, length-drop inputs bytes)) long)
 
-pub holds_more : (first bytes text : List ℕ) (inputs n : ℕ) → HoldsRun first bytes inputs n → AreCharacters text
-    → length text ≡ inputs → HoldsRun first (bytes ++ text) inputs (n + 1)
+pub holds_more : (first bytes text : List ℕ) (inputs n : ℕ) → HoldsCharacters first bytes inputs n → AreCharacters text
+    → length text ≡ inputs → HoldsCharacters first (bytes ++ text) inputs (n + 1)
 holds_more first bytes text inputs n holds are long = record {
   first_characters = holds.first_characters;
   step_characters = joined bytes text holds.step_characters are;

@@ -18,7 +18,7 @@ use Rattle.aig_witness.specs.Witness.{IsHeld}
 use Rattle.aig_witness.proofs.Witnessing.{ones_are, ones_not}
 use Rattle.aig_lasso.specs.Judging.{IsVerdictOn}
 use Rattle.aig_lasso.specs.Lasso.{IsLassoAt, Meet}
-use Rattle.aig_lasso.specs.Parts.Searching.{all_hold, all_met, step_from, verdict_at, verdict_on}
+use Rattle.aig_lasso.specs.Parts.Searching.{all_hold, all_met, step_from, verdict_from, verdict_by}
 use Rattle.aig_lasso.specs.declared.verdict.LassoVerdict.{LassoVerdict}
 use Rattle.aig_lasso.specs.declared.verdict.LassoVerdict.TheVariants.{Confirmed, NotConfirmed}
 use Rattle.aig_lasso.proofs.Longest.{longest_loops_meet_most}
@@ -118,7 +118,7 @@ module _ (goals : ℕ) (c : Circuit) (first : List Val) (steps : List (List Val)
       ]
 
   start_case : (found : Option ℕ) → All IsHeld rows → step_from end 0 rows ≡ found
-      → IsVerdictOf goals first rows (verdict_at goals rows found)
+      → IsVerdictOf goals first rows (verdict_from goals rows found)
   start_case None held is = λ start lasso.
       none_by end 0 rows lasso.stem lasso.turn lasso.turns is lasso.parted (begins start lasso)
   start_case (Some start) held is =
@@ -129,11 +129,11 @@ module _ (goals : ℕ) (c : Circuit) (first : List Val) (steps : List (List Val)
 
   hold_case : (hold : Bool) → all_hold rows ≡ hold
       → IsVerdictOf goals first rows
-      (verdict_at goals rows (option_and_then (λ e. step_from e 0 rows) (if hold then Some end else None)))
+      (verdict_from goals rows (option_and_then (λ e. step_from e 0 rows) (if hold then Some end else None)))
   hold_case true is = start_case (step_from end 0 rows) (hold_by rows is) refl
   hold_case false is = λ start lasso. fail_by rows is lasso.held
 
-  pub verdict_is : IsVerdictOf goals first rows (verdict_on goals first rows)
+  pub verdict_is : IsVerdictOf goals first rows (verdict_by goals first rows)
   verdict_is = hold_case (all_hold rows) refl
 
 -- what is told of the one trace is told of the run
@@ -154,7 +154,7 @@ module _ (c : Circuit) (first : List Val) (steps : List (List Val)) (rows : List
 
 pub is_verdict_on : (c : Circuit) (first : List Val) (steps : List (List Val)) (verdict : LassoVerdict) → IsWellFormed c
     → IsFirstState c first → AllByRecursion (λ (given : List Val). length given ≡ length c.inputs) steps
-    → ((rows : List Row) → IsTrace c first steps rows → verdict ≡ verdict_on (length c.bad) first rows)
+    → ((rows : List Row) → IsTrace c first steps rows → verdict ≡ verdict_by (length c.bad) first rows)
     → IsVerdictOn c first steps verdict
 is_verdict_on c first steps verdict formed starts long is =
     let one = one_trace c first steps formed starts long in
@@ -166,7 +166,7 @@ pub is_told : (c : Circuit) (first : List Val) (steps : List (List Val)) (result
     → IsWellFormed c → IsFirstState c first
     → AllByRecursion (λ (given : List Val). length given ≡ length c.inputs) steps
     → ((rows : List Row) → IsTrace c first steps rows
-    → IfOk result (λ (verdict : LassoVerdict). verdict ≡ verdict_on (length c.bad) first rows))
+    → IfOk result (λ (verdict : LassoVerdict). verdict ≡ verdict_by (length c.bad) first rows))
     → IfOk result (IsVerdictOn c first steps)
 is_told c first steps (Ok verdict) formed starts long is = is_verdict_on c first steps verdict formed starts long is
 is_told c first steps (Err refused) formed starts long is = tt

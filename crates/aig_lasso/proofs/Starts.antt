@@ -6,7 +6,7 @@ use Rattle.aig_circuit.specs.declared.value.Val.{Val}
 use Rattle.aig_circuit.specs.declared.value.Val.TheVariants.{Zero, One, X}
 use Rattle.aig_meaning.specs.Meaning.{Row}
 use Rattle.aig_step.specs.TraceText.{character_of}
-use Rattle.aig_lasso.specs.Parts.Searching.{same_value, same_values, step_from}
+use Rattle.aig_lasso.specs.Parts.Searching.{is_same_value, are_same_values, step_from}
 use Rattle.aig_lasso.specs.Runs.{value_held}
 use Rattle.aig_lasso.proofs.Longest.{tails_same}
 
@@ -21,29 +21,29 @@ both true b is = (refl, is)
 both false b is = cc
 
 -- values whose characters are the same are the same
-pub value_same : (v w : Val) → same_value v w ≡ true → v ≡ w
+pub value_same : (v w : Val) → is_same_value v w ≡ true → v ≡ w
 value_same v w is =
     sym (value_back v) ∙ ap value_held (eqb-true (character_of v) (character_of w) is) ∙ value_back w
 
-value_itself : (v : Val) → same_value v v ≡ true
+value_itself : (v : Val) → is_same_value v v ≡ true
 value_itself Zero = refl
 value_itself One = refl
 value_itself X = refl
 
-pub values_same : (vs ws : List Val) → same_values vs ws ≡ true → vs ≡ ws
+pub values_same : (vs ws : List Val) → are_same_values vs ws ≡ true → vs ≡ ws
 values_same [] [] is = refl
 values_same [] (w ∷ ws) is = cc
 values_same (v ∷ vs) [] is = cc
 values_same (v ∷ vs) (w ∷ ws) is =
-    let parts = both (same_value v w) (same_values vs ws) is in
+    let parts = both (is_same_value v w) (are_same_values vs ws) is in
     ap₂ (λ (x : Val) (xs : List Val). x ∷ xs) (value_same v w parts.0) (values_same vs ws parts.1)
 
-values_itself : (vs : List Val) → same_values vs vs ≡ true
+values_itself : (vs : List Val) → are_same_values vs vs ≡ true
 values_itself [] = refl
 values_itself (v ∷ vs) = ap₂ (λ (a b : Bool). a && b) (value_itself v) (values_itself vs)
 
-pub values_apart : (vs ws : List Val) → same_values vs ws ≡ false → vs ≢ ws
-values_apart vs ws is same = let other = ap (same_values vs) same in let itself = values_itself vs in cc
+pub values_apart : (vs ws : List Val) → are_same_values vs ws ≡ false → vs ≢ ws
+values_apart vs ws is same = let other = ap (are_same_values vs) same in let itself = values_itself vs in cc
 
 -- the rows are parted at this place, where the state is this one, and it is so at no earlier place
 pub record IsFirstWith (state : List Val) (rows : List Row) (place : ℕ) : Type 0 where
@@ -69,7 +69,7 @@ module _ (state : List Val) where
   not_first row rows place other is (b ∷ bs) there behind parted low =
       is.first bs there behind (tails_same row b rows (bs ++ (there ∷ behind)) parted) (omega (arith, low))
 
-  found_case : (step found : ℕ) (row : Row) (rows : List Row) (b : Bool) → same_values row.state state ≡ b
+  found_case : (step found : ℕ) (row : Row) (rows : List Row) (b : Bool) → are_same_values row.state state ≡ b
       → (if b then Some step else step_from state (suc step) rows) ≡ Some found
       → (step_from state (suc step) rows ≡ Some found → Found (suc step) rows found) → Found step (row ∷ rows) found
   found_case step found row rows true same is later =
@@ -104,10 +104,10 @@ module _ (state : List Val) where
   pub found_by : (step found : ℕ) (rows : List Row) → step_from state step rows ≡ Some found → Found step rows found
   found_by step found [] is = cc
   found_by step found (row ∷ rows) is =
-      found_case step found row rows (same_values row.state state) refl is
+      found_case step found row rows (are_same_values row.state state) refl is
       (λ later. found_by (suc step) found rows later)
 
-  none_case : (step : ℕ) (r : Row) (rs : List Row) (b : Bool) → same_values r.state state ≡ b
+  none_case : (step : ℕ) (r : Row) (rs : List Row) (b : Bool) → are_same_values r.state state ≡ b
       → (if b then Some step else step_from state (suc step) rs) ≡ None
       → (r.state ≢ state) × (step_from state (suc step) rs ≡ None)
   none_case step r rs true same is = cc
@@ -118,8 +118,8 @@ module _ (state : List Val) where
   none_by step [] [] row behind none parted = cc
   none_by step [] (b ∷ bs) row behind none parted = cc
   none_by step (r ∷ rs) [] row behind none parted =
-      let apart = none_case step r rs (same_values r.state state) refl none in
+      let apart = none_case step r rs (are_same_values r.state state) refl none in
       let same : r ≡ row = cc in λ e. apart.0 (ap (λ (x : Row). x.state) same ∙ e)
   none_by step (r ∷ rs) (b ∷ bs) row behind none parted =
-      let apart = none_case step r rs (same_values r.state state) refl none in
+      let apart = none_case step r rs (are_same_values r.state state) refl none in
       none_by (suc step) rs bs row behind apart.1 (tails_same r b rs (bs ++ (row ∷ behind)) parted)

@@ -16,9 +16,9 @@ use Rattle.aig_step.specs.Stimulus.{values_of}
 use Rattle.aig_step.specs.TraceText.{character_of, values_text}
 use Rattle.aig_step.proofs.LineValues.{row_is_read, says_values}
 use Rattle.aig_witness.specs.Parts.Witnessing.{are_ones}
-use Rattle.aig_lasso.specs.Parts.Searching.{IsRunOf, StandsBefore, TookStep, all_hold, notes_after, notes_with}
-use Rattle.aig_lasso.specs.Parts.Searching.{same_values, step_from}
-use Rattle.aig_lasso.specs.Runs.{Run}
+use Rattle.aig_lasso.specs.Parts.Searching.{HasTrace, StandsBefore, TookRow, all_hold, notes_after, notes_with}
+use Rattle.aig_lasso.specs.Parts.Searching.{are_same_values, step_from}
+use Rattle.aig_lasso.specs.Runs.{StartedRun}
 
 -- the characters of as many values as there have to be say them
 text_says : (n : ℕ) (vs : List Val) (text : List ℕ) → text ≡ values_text vs → length text ≡ n
@@ -28,8 +28,8 @@ text_says n vs text is long =
     ∙ ap values_of is ∙ says_values vs
 
 -- the first state is entered
-module _ (c : Circuit) (run : Run) (rows : List Row) (before after : Stepping) (text : List ℕ)
-    (of : IsRunOf c before.circuit run rows) (is : text ≡ values_text run.first)
+module _ (c : Circuit) (run : StartedRun) (rows : List Row) (before after : Stepping) (text : List ℕ)
+    (of : HasTrace c before.circuit run rows) (is : text ≡ values_text run.first)
     (same : after.circuit ≡ before.circuit) where
   first_says : vector_in (length before.circuit.latches) text ≡ Some run.first
   first_says =
@@ -65,8 +65,8 @@ module _ (c : Circuit) (run : Run) (rows : List Row) (before after : Stepping) (
       )
   entered_case false good bad = let none = bad refl in let says = first_says in cc
 
-pub entered : (c : Circuit) (run : Run) (rows : List Row) (before after : Stepping) (text : List ℕ) (result : Bool)
-    → IsRunOf c before.circuit run rows → text ≡ values_text run.first
+pub entered : (c : Circuit) (run : StartedRun) (rows : List Row) (before after : Stepping) (text : List ℕ) (result : Bool)
+    → HasTrace c before.circuit run rows → text ≡ values_text run.first
     → (result ≡ true → vector_in (length before.circuit.latches) text ≡ Some after.state)
     → (result ≡ false → vector_in (length before.circuit.latches) text ≡ None) → after.circuit ≡ before.circuit
     → (result ≡ true) × StandsBefore c after run rows 0
@@ -96,7 +96,7 @@ next_case c state given others (r ∷ rs) follow = record {
   follow = follow.3;
 }
 
-module _ (c : Circuit) (s : Stepping) (run : Run) (rows : List Row) (step : ℕ)
+module _ (c : Circuit) (s : Stepping) (run : StartedRun) (rows : List Row) (step : ℕ)
     (stands : StandsBefore c s run rows step) where
   -- no row is left behind the last step
   pub none_left : length run.steps ≤ step → drop step rows ≡ []
@@ -136,19 +136,19 @@ module _ (c : Circuit) (s : Stepping) (run : Run) (rows : List Row) (step : ℕ)
         ∙ bad_length c next.row next.is_row
 
     -- the state is that before the next row
-    pub step_here : (state : List Val) → same_values s.state state ≡ true
+    pub step_here : (state : List Val) → are_same_values s.state state ≡ true
         → step_from state step (drop step rows) ≡ Some step
     step_here state same =
         ap (λ (rs : List Row). step_from state step rs) parted
         ∙ ap (λ (b : Bool). if b then Some step else step_from state (suc step) (drop (step + 1) rows))
-        (ap (λ (vs : List Val). same_values vs state) next.from ∙ same)
+        (ap (λ (vs : List Val). are_same_values vs state) next.from ∙ same)
 
-    pub step_later : (state : List Val) → same_values s.state state ≡ false
+    pub step_later : (state : List Val) → are_same_values s.state state ≡ false
         → step_from state step (drop step rows) ≡ step_from state (step + 1) (drop (step + 1) rows)
     step_later state other =
         ap (λ (rs : List Row). step_from state step rs) parted
         ∙ ap (λ (b : Bool). if b then Some step else step_from state (suc step) (drop (step + 1) rows))
-        (ap (λ (vs : List Val). same_values vs state) next.from ∙ other)
+        (ap (λ (vs : List Val). are_same_values vs state) next.from ∙ other)
         ∙ ap (λ (n : ℕ). step_from state n (drop (step + 1) rows)) (sym (add-one step))
 
     module _ (text : List ℕ) (is : text ≡ values_text given) where
@@ -192,7 +192,7 @@ module _ (c : Circuit) (s : Stepping) (run : Run) (rows : List Row) (step : ℕ)
         leads : after.state ≡ next.row.next
         leads = ap (λ (r : Row). r.next) same_row
 
-        pub took : TookStep c after run rows step
+        pub took : TookRow c after run rows step
         took = record {
           row = next.row;
           next = parted;
@@ -210,7 +210,7 @@ module _ (c : Circuit) (s : Stepping) (run : Run) (rows : List Row) (step : ℕ)
         }
 
 -- what was taken, and is looked at
-module _ (c : Circuit) (s : Stepping) (run : Run) (rows : List Row) (step : ℕ) (took : TookStep c s run rows step) where
+module _ (c : Circuit) (s : Stepping) (run : StartedRun) (rows : List Row) (step : ℕ) (took : TookRow c s run rows step) where
   pub hold_on : are_ones (row_of s).constraints ≡ true → all_hold (drop step rows) ≡ all_hold (drop (step + 1) rows)
   hold_on ones =
       ap all_hold took.next

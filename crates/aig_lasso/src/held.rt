@@ -6,7 +6,7 @@ ghost use Rattle.aig_circuit.specs.declared.value.Val.{Val as Value};
 ghost use Rattle.aig_step.specs.Parts.Lines.{vector_in};
 ghost use Rattle.aig_step.specs.Stimulus.{value_of, values_of};
 ghost use Rattle.aig_step.specs.TraceText.{values_text};
-ghost use Rattle.aig_lasso.specs.Runs.{run_from, value_held, with_step};
+ghost use Rattle.aig_lasso.specs.Runs.{run_from, value_held, longer_by};
 
 use aig_circuit::OutOfMemory;
 use std::alloc::Global;
@@ -26,9 +26,9 @@ pub struct HeldRun {
 
 impl Model for HeldRun {
     ghost use Rattle.std.specs.Prelude.{map as each};
-    ghost use Rattle.aig_lasso.specs.Runs.{HoldsRun, Run, steps_held, value_held as held};
+    ghost use Rattle.aig_lasso.specs.Runs.{HoldsCharacters, StartedRun, steps_held, value_held as held};
 
-    ghost Value = { Run };
+    ghost Value = { StartedRun };
 
     ghost view = { λ r. record {
       inputs = r.inputs;
@@ -36,7 +36,7 @@ impl Model for HeldRun {
       steps = steps_held r.inputs r.count r.steps.items;
     } };
 
-    ghost invariant = { λ r. HoldsRun r.first.items r.steps.items r.inputs r.count };
+    ghost invariant = { λ r. HoldsCharacters r.first.items r.steps.items r.inputs r.count };
 }
 
 fn is_character(byte: u8) -> bool
@@ -82,7 +82,7 @@ impl HeldRun {
     pub fn push_step(&mut self, text: &[u8]) -> Result<bool, OutOfMemory>
         ensures good { result ≡ Ok true → (given : List Value)
             × (vector_in self.old.inputs text.now ≡ Some given)
-            × (self.new ≡ with_step self.old given) }
+            × (self.new ≡ longer_by self.old given) }
         ensures bad { result ≡ Ok false → vector_in self.old.inputs text.now ≡ None }
         ensures stays { result ≡ Ok false → self.new ≡ self.old }
         ensures err { OnErr result (self.new ≡ self.old) }

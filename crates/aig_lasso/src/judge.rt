@@ -7,8 +7,8 @@ ghost use Rattle.aig_circuit.specs.declared.value.Val.{Val as Value};
 ghost use Rattle.aig_meaning.specs.Meaning.{Row as RowRecord};
 ghost use Rattle.aig_meaning.specs.Trace.{IsFirstState};
 ghost use Rattle.aig_lasso.specs.Judging.{IsLassoFrom, IsVerdictOn};
-ghost use Rattle.aig_lasso.specs.Parts.Searching.{IsRunOf, StandsBefore, all_met, end_of};
-ghost use Rattle.aig_lasso.specs.Parts.Searching.{loop_start, step_from, verdict_on};
+ghost use Rattle.aig_lasso.specs.Parts.Searching.{HasTrace, StandsBefore, all_met, last_state};
+ghost use Rattle.aig_lasso.specs.Parts.Searching.{loop_start, step_from, verdict_by};
 
 use crate::held::HeldRun;
 use crate::search::{are_noted, enter_first_state, find_state, note_goals, run_through};
@@ -27,8 +27,8 @@ fn find_end(
 ) -> Result<Option<Vec<Code>>, OutOfMemory>
     ensures circuit { stepper.new.circuit ≡ stepper.old.circuit }
     ensures end { (c : CircuitRecord) (rows : List RowRecord)
-        → IsRunOf c stepper.old.circuit run.now rows
-        → IfOk result (λ end. option_map (λ codes. codes.items) end ≡ end_of run.now.first rows) }
+        → HasTrace c stepper.old.circuit run.now rows
+        → IfOk result (λ end. option_map (λ codes. codes.items) end ≡ last_state run.now.first rows) }
 {
     if !enter_first_state(stepper, run) {
         return Ok(None);
@@ -44,9 +44,9 @@ fn find_end(
 fn find_step(stepper: &mut Stepper, run: &HeldRun, state: &[Code]) -> Option<usize>
     ensures circuit { stepper.new.circuit ≡ stepper.old.circuit }
     ensures first { (c : CircuitRecord) (rows : List RowRecord)
-        → IsRunOf c stepper.old.circuit run.now rows → result ≡ step_from state.now 0 rows }
+        → HasTrace c stepper.old.circuit run.now rows → result ≡ step_from state.now 0 rows }
     ensures stands { (c : CircuitRecord) (rows : List RowRecord)
-        → IsRunOf c stepper.old.circuit run.now rows
+        → HasTrace c stepper.old.circuit run.now rows
         → IfSome result (λ step. StandsBefore c stepper.new run.now rows step) }
     ensures low { IfSome result (λ step. step < length run.now.steps) }
 {
@@ -65,10 +65,10 @@ fn find_loop(
 ) -> Result<Option<usize>, OutOfMemory>
     ensures circuit { stepper.new.circuit ≡ stepper.old.circuit }
     ensures start { (c : CircuitRecord) (rows : List RowRecord)
-        → IsRunOf c stepper.old.circuit run.now rows
+        → HasTrace c stepper.old.circuit run.now rows
         → IfOk result (λ found. found ≡ loop_start run.now.first rows) }
     ensures stands { (c : CircuitRecord) (rows : List RowRecord)
-        → IsRunOf c stepper.old.circuit run.now rows
+        → HasTrace c stepper.old.circuit run.now rows
         → IfOk result (λ found. IfSome found (λ start. StandsBefore c stepper.new run.now rows start)) }
     ensures low { IfOk result (λ found. IfSome found (λ start. start < length run.now.steps)) }
 {
@@ -105,8 +105,8 @@ fn judge_run(
     run: &HeldRun,
 ) -> Result<LassoVerdict, OutOfMemory>
     ensures { (c : CircuitRecord) (rows : List RowRecord)
-        → IsRunOf c stepper.old.circuit run.now rows
-        → IfOk result (λ verdict. verdict ≡ verdict_on (length c.bad) run.now.first rows) }
+        → HasTrace c stepper.old.circuit run.now rows
+        → IfOk result (λ verdict. verdict ≡ verdict_by (length c.bad) run.now.first rows) }
 {
     let Some(start) = find_loop(alloc, stepper, run)? else {
         return Ok(LassoVerdict::NotConfirmed);
@@ -118,7 +118,7 @@ fn judge_run(
 }
 
 /// Whether the circuit has runs like this one: from its first state, with so many inputs.
-fn fits(circuit: &Circuit, run: &HeldRun) -> bool
+fn may_run(circuit: &Circuit, run: &HeldRun) -> bool
     ensures first { result ≡ true → IsFirstState circuit.now run.now.first }
     ensures steps { result ≡ true → AllByRecursion
         (λ (given : List Value). length given ≡ length circuit.now.inputs) run.now.steps }
@@ -141,7 +141,7 @@ pub fn judge_lasso(
 ) -> Result<LassoVerdict, OutOfMemory>
     ensures { IfOk result (IsVerdictOn goals.now run.now.first run.now.steps) }
 {
-    if !fits(goals.circuit(), run) {
+    if !may_run(goals.circuit(), run) {
         return Ok(LassoVerdict::NotConfirmed);
     }
     let mut stepper = Stepper::new(alloc, goals)?;

@@ -7,8 +7,8 @@ ghost use Rattle.aig_meaning.specs.Trace.{state_after};
 ghost use Rattle.aig_step.specs.Parts.Stepping.{row_of};
 ghost use Rattle.aig_step.specs.Parts.Tables.{IsLiteralBelow, read_from};
 ghost use Rattle.aig_witness.specs.Parts.Witnessing.{are_ones};
-ghost use Rattle.aig_lasso.specs.Parts.Searching.{IsRunOf, StandsBefore, TookStep, all_hold};
-ghost use Rattle.aig_lasso.specs.Parts.Searching.{are_noted, notes_after, notes_with, same_values};
+ghost use Rattle.aig_lasso.specs.Parts.Searching.{HasTrace, StandsBefore, TookRow, all_hold};
+ghost use Rattle.aig_lasso.specs.Parts.Searching.{are_noted, notes_after, notes_with, are_same_values};
 ghost use Rattle.aig_lasso.specs.Parts.Searching.{step_from};
 
 use crate::held::HeldRun;
@@ -20,7 +20,7 @@ use aig_witness::{are_ones, is_one};
 pub(crate) fn enter_first_state(stepper: &mut Stepper, run: &HeldRun) -> bool
     ensures circuit { stepper.new.circuit ≡ stepper.old.circuit }
     ensures entered { (c : CircuitRecord) (rows : List RowRecord)
-        → IsRunOf c stepper.old.circuit run.now rows
+        → HasTrace c stepper.old.circuit run.now rows
         → (result ≡ true) × StandsBefore c stepper.new run.now rows 0 }
 {
     stepper.read_state(run.first())
@@ -32,7 +32,7 @@ fn take_step(stepper: &mut Stepper, run: &HeldRun, number: usize) -> bool
     ensures circuit { stepper.new.circuit ≡ stepper.old.circuit }
     ensures took { (c : CircuitRecord) (rows : List RowRecord)
         → StandsBefore c stepper.old run.now rows number
-        → (result ≡ true) × TookStep c stepper.new run.now rows number }
+        → (result ≡ true) × TookRow c stepper.new run.now rows number }
 {
     if !stepper.evaluate_text(run.step(number)) {
         return false;
@@ -42,7 +42,7 @@ fn take_step(stepper: &mut Stepper, run: &HeldRun, number: usize) -> bool
 }
 
 /// Whether all constraints are 1 in the step that was taken last.
-fn hold(stepper: &Stepper) -> bool
+fn constraints_hold(stepper: &Stepper) -> bool
     ensures { result ≡ are_ones (row_of stepper.now).constraints }
 {
     let constraints = stepper.machine().parts().constraints.as_slice();
@@ -62,7 +62,7 @@ pub(crate) fn run_through(stepper: &mut Stepper, run: &HeldRun) -> bool
         if !take_step(stepper, run, step) {
             return false;
         }
-        if !hold(stepper) {
+        if !constraints_hold(stepper) {
             return false;
         }
     }
@@ -71,7 +71,7 @@ pub(crate) fn run_through(stepper: &mut Stepper, run: &HeldRun) -> bool
 
 /// Whether two states are the same; x is x.
 fn are_same(left: &[Code], right: &[Code]) -> bool
-    ensures { result ≡ same_values left.now right.now }
+    ensures { result ≡ are_same_values left.now right.now }
 {
     if left.len() != right.len() {
         return false;

@@ -7,11 +7,11 @@ use Rattle.aig_lasso.specs.Judging.{IsLassoFrom}
 use Rattle.aig_lasso.proofs.Judged.{is_told}
 use Rattle.aig_lasso.proofs.judge.judge_lasso.Goals as goal
 
-pub returns-then-not-fits : goal.returns-then-not-fits
-returns-then-not-fits c =
+pub returns-then-not-may_run : goal.returns-then-not-may_run
+returns-then-not-may_run c =
     let run = c.args.run.now in
     subst (λ (k : Circuit). (start : ℕ) → ¬ IsLassoFrom k run.first run.steps start) c.circuit.ensures.value
-    (c.fits.ensures.no c.if-not-fits.true)
+    (c.may_run.ensures.no c.if-not-may_run.true)
 
 pub returns : goal.returns
 returns c =
@@ -19,9 +19,9 @@ returns c =
     let same = c.circuit.ensures.value in
     let formed = c.circuit.ensures.well_formed in
     is_told c.args.goals.now run.first run.steps c.judge_run-judged.result formed
-    (subst (λ (k : Circuit). IsFirstState k run.first) same (c.fits.ensures.first c.if-not-fits.false))
+    (subst (λ (k : Circuit). IsFirstState k run.first) same (c.may_run.ensures.first c.if-not-may_run.false))
     (subst (λ (k : Circuit). AllByRecursion (λ (given : List Val). length given ≡ length k.inputs) run.steps) same
-    (c.fits.ensures.steps c.if-not-fits.false))
+    (c.may_run.ensures.steps c.if-not-may_run.false))
     (λ rows trace.
     c.judge_run-judged.ensures c.args.goals.now rows
     (record { formed = formed; means = c.in_ok-stepper.ensures.same; trace = trace }))

@@ -2,7 +2,7 @@ use Rattle.std.proofs.Common.{◌≡◌, List, arith, length, subst, ℕ}
 use Rattle.std.specs.List.{AllByRecursion}
 use Rattle.aig_circuit.specs.declared.value.Val.{Val}
 use Rattle.aig_lasso.proofs.Characters.{as_many, starts_nowhere, starts_there}
-use Rattle.aig_lasso.proofs.judge.fits.Goals as goal
+use Rattle.aig_lasso.proofs.judge.may_run.Goals as goal
 
 pub returns-then-inputs-len-clause-no : goal.returns-then-inputs-len-clause-no
 returns-then-inputs-len-clause-no c = λ _ start lasso.
