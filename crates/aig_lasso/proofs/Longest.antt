@@ -4,7 +4,7 @@ use Rattle.aig_meaning.specs.Meaning.{Row}
 use Rattle.aig_lasso.specs.Lasso.{Meet}
 use Rattle.aig_lasso.specs.Laws.{LongestLoopsMeetMost}
 
-tails_same : (x y : Row) (xs ys : List Row) → x ∷ xs ≡ y ∷ ys → xs ≡ ys
+pub tails_same : (x y : Row) (xs ys : List Row) → x ∷ xs ≡ y ∷ ys → xs ≡ ys
 tails_same x y xs ys e = cc
 
 -- where a list is parted twice, the later part of the one ends in that of the other
@@ -15,7 +15,7 @@ between (x ∷ xs) ys [] ws e less = absurd (omega (arith, less))
 between (x ∷ xs) ys (z ∷ zs) ws e less =
     between xs ys zs ws (tails_same x z (xs ++ ys) (zs ++ ws) e) (omega (arith, less))
 
-meet_behind : (front behind : List Row) (goal : ℕ) → Meet behind goal → Meet (front ++ behind) goal
+pub meet_behind : (front behind : List Row) (goal : ℕ) → Meet behind goal → Meet (front ++ behind) goal
 meet_behind [] behind goal met = met
 meet_behind (r ∷ rs) behind goal met =
     let later = meet_behind rs behind goal met in

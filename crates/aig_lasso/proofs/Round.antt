@@ -1,6 +1,6 @@
 -- A lasso goes round for ever.
-use Rattle.std.proofs.Common.{◌≡◌, ◌∙◌, ◌+◌, ◌<◌, ◌≤◌, ◌++◌, ℕ, zero, suc, List, [], ◌∷◌, ap, arith, get_or, length, refl}
-use Rattle.std.proofs.Common.{subst, sym}
+use Rattle.std.proofs.Common.{◌≡◌, ◌∙◌, ◌+◌, ◌<◌, ◌≤◌, ◌++◌, ℕ, zero, suc, List, [], ◌∷◌, ap, arith, get_or, length}
+use Rattle.std.proofs.Common.{refl, subst, sym}
 use Rattle.std.specs.List.{All}
 use Rattle.std.proofs.lemmas.List.{length-append}
 use Rattle.std.proofs.lemmas.List.Elements.{All-cons, All-head, All-nil, All-tail}
@@ -120,7 +120,7 @@ module _ (turn : Row) (turns : List Row) where
     passes_on (r ∷ rs) state chain zero = first_state rs r.next chain.2
     passes_on (r ∷ rs) state chain (suc t) = passes_on rs r.next chain.2 t
 
-rows_length : (c : Circuit) (state : List Val) (vectors : List (List Val)) (rows : List Row)
+pub rows_length : (c : Circuit) (state : List Val) (vectors : List (List Val)) (rows : List Row)
     → Follow c state vectors rows → length vectors ≡ length rows
 rows_length c state [] [] follow = refl
 rows_length c state [] (r ∷ rs) follow = absurd follow

@@ -13,7 +13,8 @@ use Rattle.aig_lasso.specs.declared.verdict.LassoVerdict.TheVariants.{Confirmed,
 
 -- one of the rows meets the goal
 abbrev pub Meet : List Row → ℕ → Type 0
-Meet rows goal = (before : List Row) × (behind : List Row) × (row : Row) × (rows ≡ before ++ (row ∷ behind)) × IsBad goal row
+Meet rows goal =
+    (before : List Row) × (behind : List Row) × (row : Row) × (rows ≡ before ++ (row ∷ behind)) × IsBad goal row
 
 -- The rows from this first state are a lasso whose loop begins at this step: the state behind the last row is that in
 -- which the loop begins, the loop has a row and meets each of so many goals, and all constraints hold.

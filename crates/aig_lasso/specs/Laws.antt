@@ -7,7 +7,9 @@ use Rattle.aig_meaning.specs.Trace.{state_after}
 use Rattle.aig_witness.specs.Witness.{Claim}
 use Rattle.aig_lasso.specs.Endless.{IsFairRun}
 use Rattle.aig_lasso.specs.Goals.{with_goals}
-use Rattle.aig_lasso.specs.Lasso.{IsLasso, IsLassoAt}
+use Rattle.aig_lasso.specs.Judging.{IsVerdictOn}
+use Rattle.aig_lasso.specs.Lasso.{IsLasso, IsLassoAt, IsLassoVerdict}
+use Rattle.aig_lasso.specs.declared.verdict.LassoVerdict.{LassoVerdict}
 
 -- A run without end has the inputs of these steps, and from this one on those of the last so many over and over.
 pub record GoesRound (steps : List (List Val)) (start : ℕ) (rows : ℕ → Row) : Type 0 where
@@ -30,3 +32,8 @@ abbrev pub LongestLoopsMeetMost : Type 0
 LongestLoopsMeetMost = (goals : ℕ) (first : List Val) (rows : List Row) (start : ℕ) → IsLassoAt goals first rows start
     → (stem : List Row) (turn : Row) (turns : List Row) → rows ≡ stem ++ (turn ∷ turns) → length stem ≤ start
     → state_after first rows ≡ state_after first stem → IsLassoAt goals first rows (length stem)
+
+-- The verdict on a run of the circuit that shows the goals of a justice property is that on the claim of this run.
+abbrev pub VerdictsAreOnClaims : Type 0
+VerdictsAreOnClaims = (c : Circuit) (claim : Claim) (verdict : LassoVerdict)
+    → IsVerdictOn (with_goals claim.property c) claim.first claim.steps verdict → IsLassoVerdict c claim verdict

@@ -1,0 +1,13 @@
+use Rattle.std.specs.Prelude.{◌≡◌, List, drop}
+use Rattle.aig_circuit.specs.declared.circuit.Circuit.{Circuit}
+use Rattle.aig_meaning.specs.Meaning.{Row}
+use Rattle.aig_lasso.specs.Parts.Searching.{StandsBefore, notes_after}
+use Rattle.aig_lasso.proofs.search.note_goals.Given as goal
+
+abbrev pub invariant-loop-step : goal.invariant-loop-step
+invariant-loop-step l = record {
+  circuit : l.stepper.circuit ≡ l.fn.stepper.circuit;
+  on : (c : Circuit) (rows : List Row) → StandsBefore c l.fn.stepper l.fn.run rows l.fn.start
+      → StandsBefore c l.stepper l.fn.run rows l.step
+      × (notes_after l.notes (drop l.step rows) ≡ notes_after l.fn.notes (drop l.fn.start rows));
+}
