@@ -4,8 +4,8 @@ are equal.
 
 Yosys writes the design as an AIGER model. For each assertion ABC looks for an invariant, and a SAT solver for a run
 that breaks it. What they say is not believed: each answer that is printed is one that the program ``aiger`` gave of
-the model, by a witness, a refutation or an invariant. For two designs the model is their miter, which ``aiger`` makes:
-its bad states say where they differ.
+the model, by a witness, a refutation or an invariant. For liveness the model is the circuit that ``aiger`` makes of a
+justice property, for two designs their miter: their bad states say where a run goes round, or where designs differ.
 """
 
 import argparse
@@ -76,7 +76,16 @@ The answer for an assertion is one of these.
                     --keep its witness follows
   unknown           neither was shown; the reason follows
 
-The assertions of an AIGER file are its bad states, by symbol, or as b0, b1, ..
+For liveness, as of assert property (s_eventually e), it is one of these.
+  holds               no run breaks it: e comes again and again
+  no lasso within K   no lasso of fewer than K steps breaks it
+  lasso at S          a run breaks it that goes round for ever from step S on,
+                      counted from 0; with --keep its witness follows
+  unknown             neither was shown; the reason follows
+assume property (s_eventually e) is fairness, which liveness may build on.
+
+The assertions of an AIGER file are its bad states and its justice properties,
+by symbol, or as b0, b1, .., j0, j1, ..
 
 With --equal a pair of outputs, or of bad states, has one of these answers.
   equal               in every step, while the assumptions of OLD are kept
@@ -94,8 +103,8 @@ What is trusted: that Yosys translates the Verilog as it is meant is not proved.
 All behind it is: each answer is one that aiger, a proved program, gave of the
 model that Yosys wrote. What ABC and the solver say is checked.
 
-With --keep a script NAME.check.sh checks a never or a none within K again, by
-aiger alone.
+With --keep a script NAME.check.sh checks a never, a none within K or an answer
+for liveness again, by aiger alone.
 
 Of a design with one clock, which rises, a step is one of that clock. Else it is
 one of a global clock, and a note says so. An assertion in a clocked block
@@ -108,8 +117,10 @@ The variables AIGER, YOSYS, ABC and SOLVER name other programs than aiger,
 yosys, berkeley-abc and cadical.
 
 Exit status:
-  0  each answer is never or none within K; equal, equal for K steps, holds
-  1  an assertion is broken: reached at N; a pair differs; an assumption fails
+  0  each answer is never or none within K; holds, no lasso within K; equal,
+     equal for K steps, holds
+  1  an assertion is broken: reached at N, lasso at S; a pair differs; an
+     assumption fails
   2  anything else: an answer is unknown, there is no assertion or pair, a tool
      or a file is missing, or the command line was refused
   130, 143  ended by an interrupt, or by a signal to end
@@ -1107,31 +1118,56 @@ class Lassos(Search):
 
     def verdict(self) -> Verdict:
         found = super().verdict()
-        return self.followed(found) if found.witness else found
+        found = self.followed(found) if found.witness else found
+        return self.turned_back(found) if found.witness else found
 
     def by_invariant(self, rows: Sequence[str]) -> Optional[Verdict]:
         return super().by_invariant(self.goals.invariant(rows))
 
     def followed(self, found: Verdict) -> Verdict:
-        """The lasso of the model, by that of its part."""
+        """The lasso of the model, by that of its part: where more than the part has to come back it may be longer."""
         _, _, state, *lines = found.witness.read_text().split("\n")
-        start = next(at for at, line in enumerate(lines) if line.endswith("1"))
+        start = self.start(lines)
         known = dict(zip(self.goals.latches, state))
         _, _, state, *steps = self.goals.witness(known, lines[: found.steps]).split("\n")[:-2]
-        rounds = self.rounds(state, steps[:start], steps[start:])
+        stem, loop = steps[:start], steps[start:]
+        rounds = self.rounds(state, stem, loop)
         if not rounds:
             reason = f"what it depends on comes back in a lasso, and the model with it not in {self.MOST} steps"
             return Verdict(Answer.UNKNOWN, reason=reason)
-        first, last = (start + it * (found.steps - start) for it in rounds)
-        steps = steps[:start] + steps[start:] * rounds[1]
-        count = self.confirmed(state, [*steps, steps[start]], first)
-        if count is None:
-            return Verdict(Answer.UNKNOWN, reason="the lasso of a part is none of the model")
-        if last > found.steps and not self.notes:
+        steps = [f"{step}0" for step in (*stem, *loop * rounds[1], loop[0])]
+        first = start + rounds[0] * len(loop)
+        steps[first] = f"{steps[first][:-1]}1"
+        self.model = Model(self.live)
+        witness = self.written("\n".join(["1", "b0", state + "0" * self.goals.more, *steps, ".", ""]))
+        if not witness:
+            return Verdict(Answer.UNKNOWN, reason="what it depends on comes back in a lasso, and the model does not")
+        return self.shortened(found.steps, witness)
+
+    def shortened(self, least: int, witness: Path) -> Verdict:
+        """The shortest lasso of the model, by one of it, and by how many steps that of its part has."""
+        steps = self.step(witness)
+        if steps > least:
+            self.notes.clear()
+            if steps <= self.tools.limits.frames:
+                super().prepare()
+                return self.shortest(witness)
             self.note_longer()
-        witness = self.folder / "lasso.aiw"
-        witness.write_text("\n".join(["1", self.goals.called, state, *steps[:count], ".", ""]))
-        return Verdict(Answer.REACHED, steps=first, witness=witness)
+        return Verdict(Answer.REACHED, steps=steps, witness=witness)
+
+    def turned_back(self, found: Verdict) -> Verdict:
+        """The lasso in the words of the model, by the run that aiger confirms."""
+        _, _, state, *lines = found.witness.read_text().split("\n")
+        circuit, steps = self.source.circuit, lines[: found.steps]
+        lasso = self.folder / "lasso.aiw"
+        inputs = [step[: len(circuit.inputs)] for step in steps]
+        lasso.write_text("\n".join(["1", self.goals.called, state[: len(circuit.latches)], *inputs, ".", ""]))
+        os.replace(found.witness, self.folder / "loop.aiw")
+        return Verdict(Answer.REACHED, steps=self.start(steps), witness=lasso)
+
+    def start(self, steps: List[str]) -> int:
+        """The step in which the loop begins: the last input tells."""
+        return next((at for at, step in enumerate(steps) if step.endswith("1")), 0)
 
     def rounds(self, state: str, stem: List[str], loop: List[str]) -> Optional[Tuple[int, int]]:
         """Behind which rounds of the loop the model is in the same state."""
@@ -1152,13 +1188,6 @@ class Lassos(Search):
         stimulus.write_text("\n".join([*steps, ""]))
         told = self.tools.aiger.run("aigsim", started, stimulus, folder=self.folder, output=trace)
         return [line.partition(" ")[0] for line in trace.read_text().splitlines()] if told.status == 0 else []
-
-    def confirmed(self, state: str, steps: List[str], first: int) -> Optional[int]:
-        """Behind how many of these steps aiger sees that the run has come back to the state of the step that is named."""
-        lines = [f"{step}{int(at == first)}" for at, step in enumerate(steps)]
-        run = self.folder / "loop.aiw"
-        run.write_text("\n".join(["1", "b0", state + "0" * self.goals.more, *lines, ".", ""]))
-        return self.tools.aiger.confirmed(self.live, run)
 
 
 def aiger_failure(told: Finished) -> str:
