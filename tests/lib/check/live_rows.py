@@ -51,9 +51,30 @@ TEXTS = {
 }
 
 
-def is_small(made):
-    """Whether all states can be looked at."""
-    return len(made.latches) + len(made.inputs) <= SMALL
+def alone(made, number):
+    """The circuit of what a justice property depends on: fair runs of it are those of the whole."""
+    behind = {own // 2: operands for own, *operands in made.gates}
+    behind.update({latch: [following] for latch, following in zip(made.latches, made.nexts)})
+    needed, waiting = set(), [it // 2 for it in (*liveness.goals_of(made, number), *made.constraints)]
+    while waiting:
+        variable = waiting.pop()
+        if variable not in needed:
+            needed.add(variable)
+            waiting += [it // 2 for it in behind.get(variable, ())]
+    kept = [it for it in zip(made.latches, made.nexts, made.resets) if it[0] in needed]
+    latches, nexts, resets = (list(it) for it in zip(*kept)) if kept else ([], [], [])
+    return dataclasses.replace(
+        made, inputs=[it for it in made.inputs if it in needed], latches=latches, nexts=nexts, resets=resets,
+        outputs=[], bad=[], justice=[made.justice[number]], gates=[it for it in made.gates if it[0] // 2 in needed],
+    )
+
+
+def has_lasso(made, number):
+    """Whether a fair run is there, by all states of what it depends on, which are to be few."""
+    part = alone(made, number)
+    sizes = len(part.latches), len(part.inputs)
+    checked.need(sum(sizes) <= SMALL, f"j{number} depends on {sizes[0]} latches and {sizes[1]} inputs")
+    return liveness.has_fair_run(part, 0)
 
 
 def least(made, number):
@@ -105,15 +126,14 @@ def by_chance(at, has_tools, way, room):
 
 
 def in_design(design, room):
-    """Where a design has few states, all of them say the same."""
+    """All states of what the liveness of a design depends on say the same."""
     design_rows.need_tools(*design_rows.TOOLS)
     design_rows.placed(room)
     room.may_write.add("kept")
     said = room.run("--keep", "kept", *design_rows.words_of(design))
     wanted = [it for it in design_rows.truths(design) if it.has_lasso is not None]
     made = checked.circuit_of(room.program, checked.model_of(room.here / "kept", "live"))
-    checked.need(is_small(made), f"it has {len(made.latches)} latches and {len(made.inputs)} inputs", said)
-    found = sorted(liveness.has_fair_run(made, at) for at in range(len(made.justice)))
+    found = sorted(has_lasso(made, at) for at in range(len(made.justice)))
     checked.need(found == sorted(it.has_lasso for it in wanted), f"all states say {found}", said)
 
 
