@@ -2764,8 +2764,8 @@ class KeeperOfLassos(Keeper):
         loop, named = (verdict.witness.with_name(it) for it in ("loop.aiw", "named.aig"))
         named.write_bytes(self.with_names(verdict.witness.with_name("live.aig")).write())
         self.put_waves(name, named, loop)
-        self.put(f"{name}.loop.aiw", loop.read_bytes())
-        asks = self.of_live(assertion, f"aigsim --witness - {name}.loop.aiw")
+        self.put(f"{name}.loop", loop.read_bytes())
+        asks = self.of_live(assertion, f"aigsim --witness - {name}.loop")
         steps = len(verdict.witness.read_text().splitlines()) - 4
         self.put_script(name, assertion, verdict, [*asks, f'[ "$answer" = "confirmed {steps}" ]'])
 
@@ -3058,8 +3058,8 @@ class Run:
         if circuit.fairness and not circuit.justice_sizes:
             self.note(f"{visible(name)}: fairness constraints are left out: there is no justice property")
         if not circuit.bad and not circuit.justice_sizes:
-            hint = "; of its outputs aiger aigtoaig --outputs-as-bad makes some" if circuit.outputs else ""
-            self.must_say(f"{visible(name)}: there is no bad state and no justice property{hint}")
+            hint = "; of outputs aiger aigtoaig --outputs-as-bad makes bad states" if circuit.outputs else ""
+            self.must_say(f"{visible(name)}: there is neither a bad state nor a justice property{hint}")
         bad, live = (named_by_symbols(circuit, kind) for kind in "bj")
         found = [Assertion(bad.get(at, f"b{at}"), name, at) for at in range(len(circuit.bad))]
         properties_ = range(len(circuit.justice_sizes))

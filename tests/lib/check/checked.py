@@ -28,7 +28,7 @@ LINE = re.compile(rf"(?P<name>.*) \((?P<source>.*?)\): (?P<answer>{ANSWERS})(?P<
 KINDS = ["never", "none within", "reached", "unknown"]
 LIVE_KINDS = ["holds", "no lasso within", "lasso", "unknown"]
 SUM = re.compile(r"(\d+) (liveness )?assertions?(?:: (.*))?")
-KEPT = re.compile(r"(model|live)-[0-9a-f]+\.aig|.+\.(aiw|vcd|drat|pla|check\.sh)")
+KEPT = re.compile(r"(model|live)-[0-9a-f]+\.aig|.+\.(aiw|vcd|loop|drat|pla|check\.sh)")
 EXACT, BOUNDED, SAFE = "exact", "bounded", "safe"
 
 

@@ -114,14 +114,14 @@ def of_model(which, has_tools, room):
     checked.judge(room.run("--json", "model.aig", changes=changes), truths(read(text), "model.aig"))
 
 
-def by_chance(at, has_tools, way, room):
+def by_chance(at, has_tools, way, frames, room):
     """A model made by chance, in text or binary, and what is kept."""
     made = liveness.circuit(random.Random(at))
     changes, name = has_tools(room), ["model.aag", "model.aig"][at % 2]
     (room.here / name).write_bytes(images.image(made) if at % 2 else images.ascii_text(made))
     room.may_write.add("kept")
-    said = room.run("--keep", "kept", "--frames", "12", "--jobs", "1", name, changes=changes)
-    found = checked.judge(said, truths(made, name), way, 12)
+    said = room.run("--keep", "kept", "--frames", str(frames), "--jobs", "1", name, changes=changes)
+    found = checked.judge(said, truths(made, name), way, frames)
     checked.judge_kept(room, room.here / "kept", found, said)
 
 
@@ -202,7 +202,7 @@ def changed(how, room):
 
 
 def another_run(kept):
-    (kept / "j0.loop.aiw").write_text("1\nb0\n00000\n00\n00\n.\n", encoding="ascii")
+    (kept / "j0.loop").write_text("1\nb0\n00000\n00\n00\n.\n", encoding="ascii")
 
 
 def another_model(kept):
@@ -211,7 +211,7 @@ def another_model(kept):
 
 
 def no_run(kept):
-    (kept / "j0.loop.aiw").unlink()
+    (kept / "j0.loop").unlink()
 
 
 AIGER = [("--justice-as-bad", "", 1), ("--justice-as-bad", "", 0), ("--justice-as-bad", "aig 0 0 0 0 0", 0)]
@@ -224,9 +224,9 @@ def rows():
         yield f"liveness of {which}, by stand-ins", each(of_model, which, model_rows.honest)
         yield f"liveness of {which}", each(of_model, which, model_rows.real)
     for at in range(BY_CHANCE):
-        yield f"liveness of model {at}", each(by_chance, at, model_rows.real, checked.EXACT)
+        yield f"liveness of model {at}", each(by_chance, at, model_rows.real, checked.EXACT, 12)
     for at in range(BY_STAND_INS):
-        yield f"liveness of model {at}, by stand-ins", each(by_chance, at, model_rows.honest, checked.BOUNDED)
+        yield f"liveness of model {at}, by stand-ins", each(by_chance, at, model_rows.honest, checked.BOUNDED, 6)
     for design in designs.LIVE:
         yield f"all states of the design {design.top}", each(in_design, design)
     for said in stand_ins.SOLVER_LIES:
