@@ -4,8 +4,8 @@ are equal.
 
 Yosys writes the design as an AIGER model. For each assertion ABC looks for an invariant, and a SAT solver for a run
 that breaks it. What they say is not believed: each answer that is printed is one that the program ``aiger`` gave of
-the model, by a witness, a refutation or an invariant. For two designs the model is their miter, which ``aiger`` makes:
-its bad states say where they differ.
+the model, by a witness, a refutation or an invariant. For liveness the model is the circuit that ``aiger`` makes of a
+justice property, for two designs their miter: their bad states say where a run goes round, or where designs differ.
 """
 
 import argparse
@@ -76,7 +76,16 @@ The answer for an assertion is one of these.
                     --keep its witness follows
   unknown           neither was shown; the reason follows
 
-The assertions of an AIGER file are its bad states, by symbol, or as b0, b1, ..
+For liveness, as of assert property (s_eventually e), it is one of these.
+  holds               no run breaks it: e comes again and again
+  no lasso within K   no lasso of fewer than K steps breaks it
+  lasso at S          a run breaks it that goes round for ever from step S on,
+                      counted from 0; with --keep its witness follows
+  unknown             neither was shown; the reason follows
+assume property (s_eventually e) is fairness, which liveness may build on.
+
+The assertions of an AIGER file are its bad states and its justice properties,
+by symbol, or as b0, b1, .., j0, j1, ..
 
 With --equal a pair of outputs, or of bad states, has one of these answers.
   equal               in every step, while the assumptions of OLD are kept
@@ -94,8 +103,8 @@ What is trusted: that Yosys translates the Verilog as it is meant is not proved.
 All behind it is: each answer is one that aiger, a proved program, gave of the
 model that Yosys wrote. What ABC and the solver say is checked.
 
-With --keep a script NAME.check.sh checks a never or a none within K again, by
-aiger alone.
+With --keep a script NAME.check.sh checks a never, a none within K or an answer
+for liveness again, by aiger alone.
 
 Of a design with one clock, which rises, a step is one of that clock. Else it is
 one of a global clock, and a note says so. An assertion in a clocked block
@@ -108,8 +117,10 @@ The variables AIGER, YOSYS, ABC and SOLVER name other programs than aiger,
 yosys, berkeley-abc and cadical.
 
 Exit status:
-  0  each answer is never or none within K; equal, equal for K steps, holds
-  1  an assertion is broken: reached at N; a pair differs; an assumption fails
+  0  each answer is never or none within K; holds, no lasso within K; equal,
+     equal for K steps, holds
+  1  an assertion is broken: reached at N, lasso at S; a pair differs; an
+     assumption fails
   2  anything else: an answer is unknown, there is no assertion or pair, a tool
      or a file is missing, or the command line was refused
   130, 143  ended by an interrupt, or by a signal to end
@@ -174,6 +185,8 @@ class Assertion:
     cell: str = ""
 
     words = Words("never", "none within", "reached")
+    #: what breaks it
+    run = "run"
 
     def __str__(self) -> str:
         return f"{visible(self.name)} ({visible(self.place)})"
@@ -182,6 +195,10 @@ class Assertion:
     def file(self) -> str:
         """What its files are called, before that is made safe."""
         return self.name
+
+    def shown(self) -> Dict[str, str]:
+        """What else --json says of it."""
+        return {"source": self.place}
 
     def said(self, verdict: "Verdict") -> str:
         """The answer in words."""
@@ -201,6 +218,20 @@ class Assertion:
 def counted(count: Optional[int], unit: str) -> str:
     """A number, with the word for what it counts if there is one."""
     return f"{count} {unit}{'' if count == 1 else 's'}" if unit else str(count)
+
+
+@dataclass(frozen=True)
+class Liveness(Assertion):
+    """An assertion that something comes again and again, which is a justice property of the model: the run that breaks
+    it has no end. It comes back to a state, and then goes round for ever: a lasso."""
+
+    justice: int = 0
+
+    words = Words("holds", "no lasso within", "lasso")
+    run = "lasso"
+
+    def shown(self) -> Dict[str, str]:
+        return {**super().shown(), "kind": "liveness"}
 
 
 class Pair(Assertion):
@@ -351,6 +382,12 @@ class Aiger:
             return None
         words = told.errors.strip() or f"{self.program} ended with status {told.status}"
         return words.replace(f"aiger: {source}: ", "")
+
+    def with_loop(self, model: Path, justice: int, destination: Path) -> Optional[str]:
+        """Writes the circuit whose bad state is reached where a run is fair to a justice property, or tells why not."""
+        words = ("--justice-as-bad", justice, model, destination)
+        told = self.run("aigtoaig", *words, folder=destination.parent)
+        return None if told.status == 0 else aiger_failure(told).replace(f"aiger: {model}: ", "")
 
     def miter(self, first: Path, second: Path, destination: Path, by_name: bool) -> Optional[Tuple[Path, str]]:
         """Writes the miter of two models, or tells of which one what is wrong."""
@@ -520,10 +557,19 @@ class Part:
     """A bad state of a model with what it depends on, over any number of steps, and with the constraints."""
 
     def __init__(self, model: Model, bad: int) -> None:
-        self.model, self.bad, circuit = model, bad, model.circuit
-        self.needed = model.cone([circuit.bad[bad], *circuit.constraints])
+        self.bad, self.called = bad, f"b{bad}"
+        self.take(model, [model.circuit.bad[bad]])
+
+    def take(self, model: Model, asked: List[int]) -> None:
+        """Looks for what these literals and the constraints depend on."""
+        self.model, self.asked, circuit = model, asked, model.circuit
+        self.needed = model.cone([*asked, *circuit.constraints])
         self.inputs = [at for at, literal in enumerate(circuit.inputs) if self.needed[literal >> 1]]
         self.latches = [at for at, latch in enumerate(model.latches) if self.needed[latch.literal >> 1]]
+
+    def properties(self, asked: List[int]) -> Dict[str, List[int]]:
+        """What the literals that were asked for are."""
+        return {"bad": asked}
 
     def circuit(self) -> Any:
         """It as a model of its own."""
@@ -542,20 +588,20 @@ class Part:
         for literal, later, reset in (self.model.latches[at] for at in self.latches):
             here = now[literal >> 1]
             latches.append((here, now[later >> 1] ^ later & 1, reset if reset < 2 else here))
-        bad, *constraints = (now[it >> 1] ^ it & 1 for it in (circuit.bad[self.bad], *circuit.constraints))
+        asked, constraints = ([now[it >> 1] ^ it & 1 for it in of] for of in (self.asked, circuit.constraints))
         return aigtools().Circuit(
             max_var=variable,
             inputs=range(2, 2 * len(self.inputs) + 2, 2),
             latches=latches,
-            bad=[bad],
             constraints=constraints,
             gates=aigtools().Entries(aigtools().Gate, gates),
+            **self.properties(asked),
         )
 
     def witness(self, state: Dict[int, str], steps: Iterable[str]) -> str:
         """A witness for the model, by first values of latches, and by the inputs of the part in each step."""
         resets = (str(latch.reset) if latch.reset < 2 else "0" for latch in self.model.latches)
-        lines = ["1", f"b{self.bad}", "".join(state.get(at, reset) for at, reset in enumerate(resets))]
+        lines = ["1", self.called, "".join(state.get(at, reset) for at, reset in enumerate(resets))]
         for step in steps:
             line = ["0"] * len(self.model.circuit.inputs)
             for at, value in zip(self.inputs, step):
@@ -791,11 +837,18 @@ class Search:
         self.reasons: List[str] = []
         self.notes: List[str] = []
 
-    def verdict(self) -> Verdict:
-        self.folder.mkdir()
+    def prepare(self) -> Optional[str]:
+        """Makes what is searched, or tells why it cannot be made."""
         self.part = Part(self.model, self.assertion.bad)
         self.smaller = Target(self.folder / "part.aig", 0)
         self.smaller.path.write_bytes(self.part.circuit().write())
+        return None
+
+    def verdict(self) -> Verdict:
+        self.folder.mkdir()
+        reason = self.prepare()
+        if reason:
+            return Verdict(Answer.UNKNOWN, reason=reason)
         steps = steps_up_to(self.tools.limits.frames)
         few = sum(count <= FEW for count in steps)
         return (
@@ -899,8 +952,11 @@ class Search:
             elif said is not Said.UNSATISFIABLE:
                 break
         if step and not (self.refuted == step and self.is_none_within(step)):
-            self.notes.append(f"{self.assertion}: that no shorter run breaks it is not proved")
+            self.note_longer()
         return Verdict(Answer.REACHED, steps=step, witness=witness)
+
+    def note_longer(self) -> None:
+        self.notes.append(f"{self.assertion}: that no shorter {self.assertion.run} breaks it is not proved")
 
     def is_none_within(self, count: int) -> bool:
         """Whether there is no run of at most so many steps: that is shown of the model."""
@@ -1001,6 +1057,137 @@ class Search:
         if not self.is_shown("never", "never", *options):
             return None
         return Verdict(Answer.NEVER, refutation=self.folder / "never.drat", invariant=invariant)
+
+
+class Goals(Part):
+    """A justice property of a model with what its goals depend on: these are its literals and the fairness constraints,
+    each of which a fair run meets again and again."""
+
+    def __init__(self, model: Model, justice: int) -> None:
+        self.called, circuit = f"j{justice}", model.circuit
+        start, size = sum(circuit.justice_sizes[:justice]), circuit.justice_sizes[justice]
+        self.take(model, [*circuit.justice_literals[start : start + size], *circuit.fairness])
+
+    def properties(self, asked: List[int]) -> Dict[str, List[int]]:
+        return {"justice_sizes": [len(asked)], "justice_literals": asked}
+
+    @property
+    def more(self) -> int:
+        """How many latches aiger adds to the model: one that is 1 in the loop, a copy of each, one for each goal."""
+        return 1 + len(self.model.latches) + len(self.asked)
+
+    def invariant(self, rows: Iterable[str]) -> List[str]:
+        """Rows for what aiger makes of the model, by those for what it makes of the part."""
+        count = len(self.model.latches)
+        goals = range(2 * count + 1, count + self.more)
+        columns = [*self.latches, count, *(count + 1 + at for at in self.latches), *goals]
+        made = []
+        for row in rows:
+            line = ["-"] * (count + self.more)
+            for column, value in zip(columns, row):
+                line[column] = value
+            made.append("".join(line))
+        return made
+
+
+class Lassos(Search):
+    """Finds the answer for a justice property, by the circuit that aiger makes of it: its bad state is reached where a
+    run has come back to a state, and has met all goals since. From there it may go round for ever.
+
+    Lassos are looked for in that circuit of a part of the model, and followed in the model.
+    """
+
+    #: in so many steps the model is to come back too
+    MOST = 100000
+
+    def __init__(self, assertion: Liveness, model: Model, tools: Tools, folder: Path, progress: "Progress") -> None:
+        super().__init__(assertion, model, tools, folder, progress)
+        self.source, self.live = model, folder / "live.aig"
+
+    def prepare(self) -> Optional[str]:
+        self.goals = Goals(self.source, self.assertion.justice)
+        alone, small = self.folder / "goals.aig", self.folder / "small.aig"
+        alone.write_bytes(self.goals.circuit().write())
+        aiger = self.tools.aiger
+        reason = aiger.with_loop(self.source.path, self.assertion.justice, self.live)
+        reason = reason or aiger.with_loop(alone, 0, small)
+        if reason:
+            return reason
+        self.model, self.whole = Model(small), Target(self.live, 0)
+        return super().prepare()
+
+    def verdict(self) -> Verdict:
+        found = super().verdict()
+        found = self.followed(found) if found.witness else found
+        return self.turned_back(found) if found.witness else found
+
+    def by_invariant(self, rows: Sequence[str]) -> Optional[Verdict]:
+        return super().by_invariant(self.goals.invariant(rows))
+
+    def followed(self, found: Verdict) -> Verdict:
+        """The lasso of the model, by that of its part: where more than the part has to come back it may be longer."""
+        _, _, state, *lines = found.witness.read_text().split("\n")
+        start = self.start(lines)
+        known = dict(zip(self.goals.latches, state))
+        _, _, state, *steps = self.goals.witness(known, lines[: found.steps]).split("\n")[:-2]
+        stem, loop = steps[:start], steps[start:]
+        rounds = self.rounds(state, stem, loop)
+        if not rounds:
+            reason = f"what it depends on comes back in a lasso, and the model with it not in {self.MOST} steps"
+            return Verdict(Answer.UNKNOWN, reason=reason)
+        steps = [f"{step}0" for step in (*stem, *loop * rounds[1], loop[0])]
+        first = start + rounds[0] * len(loop)
+        steps[first] = f"{steps[first][:-1]}1"
+        self.model = Model(self.live)
+        witness = self.written("\n".join(["1", "b0", state + "0" * self.goals.more, *steps, ".", ""]))
+        if not witness:
+            return Verdict(Answer.UNKNOWN, reason="what it depends on comes back in a lasso, and the model does not")
+        return self.shortened(found.steps, witness)
+
+    def shortened(self, least: int, witness: Path) -> Verdict:
+        """The shortest lasso of the model, by one of it, and by how many steps that of its part has."""
+        steps = self.step(witness)
+        if steps > least:
+            self.notes.clear()
+            if steps <= self.tools.limits.frames:
+                super().prepare()
+                return self.shortest(witness)
+            self.note_longer()
+        return Verdict(Answer.REACHED, steps=steps, witness=witness)
+
+    def turned_back(self, found: Verdict) -> Verdict:
+        """The lasso in the words of the model, by the run that aiger confirms."""
+        _, _, state, *lines = found.witness.read_text().split("\n")
+        circuit, steps = self.source.circuit, lines[: found.steps]
+        lasso = self.folder / "lasso.aiw"
+        inputs = [step[: len(circuit.inputs)] for step in steps]
+        lasso.write_text("\n".join(["1", self.goals.called, state[: len(circuit.latches)], *inputs, ".", ""]))
+        os.replace(found.witness, self.folder / "loop.aiw")
+        return Verdict(Answer.REACHED, steps=self.start(steps), witness=lasso)
+
+    def start(self, steps: List[str]) -> int:
+        """The step in which the loop begins: the last input tells."""
+        return next((at for at, step in enumerate(steps) if step.endswith("1")), 0)
+
+    def rounds(self, state: str, stem: List[str], loop: List[str]) -> Optional[Tuple[int, int]]:
+        """Behind which rounds of the loop the model is in the same state."""
+        count = 1
+        while len(stem) + count * len(loop) <= self.MOST:
+            seen: Dict[str, int] = {}
+            for at, now in enumerate(self.states(state, [*stem, *loop * count, loop[0]])[len(stem) :: len(loop)]):
+                if now in seen:
+                    return seen[now], at
+                seen[now] = at
+            count *= 2
+        return None
+
+    def states(self, state: str, steps: List[str]) -> List[str]:
+        """The state of the model in each of these steps."""
+        started, stimulus, trace = (self.folder / name for name in ("started.aig", "steps", "trace"))
+        started.write_bytes(started_at(without_justice(self.source.circuit), state).write())
+        stimulus.write_text("\n".join([*steps, ""]))
+        told = self.tools.aiger.run("aigsim", started, stimulus, folder=self.folder, output=trace)
+        return [line.partition(" ")[0] for line in trace.read_text().splitlines()] if told.status == 0 else []
 
 
 def aiger_failure(told: Finished) -> str:
@@ -1772,6 +1959,7 @@ class Property(NamedTuple):
 UNNAMED = "aiger_check_unnamed_"
 PROPERTIES = ("$assert", "$assume", "$cover", "$live", "$fair")
 LEFT_OUT = {"$cover": "a cover", "$live": "liveness", "$fair": "fairness"}
+SPELLED = {"$live": "assert", "$fair": "assume"}
 
 
 def properties(modules: Dict[str, Any], top: str, sources: Sources) -> Iterator[Property]:
@@ -1784,7 +1972,7 @@ def properties(modules: Dict[str, Any], top: str, sources: Sources) -> Iterator[
             kind, here = cell["type"], (*path, bare(name))
             if kind in PROPERTIES:
                 labelled = not name.startswith((UNNAMED, "$"))
-                shown = ".".join(here if labelled else (*path, kind[1:]))
+                shown = ".".join(here if labelled else (*path, SPELLED.get(kind, kind[1:])))
                 yield Property(here, kind, shown, *place_of(cell, labelled, sources))
             elif kind in modules:
                 inside.append((kind, here))
@@ -1980,15 +2168,20 @@ class Front:
             "proc",
             f"rename -enumerate -pattern {UNNAMED}% {' '.join(f't:{kind}' for kind in PROPERTIES)}",
             # Yosys would merge what is equal
-            "setattr -set keep 1 t:$assert t:$assume",
+            "setattr -set keep 1 t:$assert t:$assume t:$live t:$fair",
         )
         modules = self.yosys.netlist("read")
         self.properties = list(properties(modules, top_of(modules), self.sources))
+        left_out = self.left_out({it.kind for it in self.properties})
         for it in self.properties:
-            if it.kind in LEFT_OUT:
+            if it.kind in left_out:
                 named = visible(f"{self.top}.{it.name} ({self.place(it)})")
                 self.notes.append(f"{named} is left out: it is {LEFT_OUT[it.kind]}")
-        self.yosys.do("delete t:$cover t:$live t:$fair")
+        self.yosys.do(f"delete {' '.join(f't:{kind}' for kind in left_out)}")
+
+    def left_out(self, kinds: Set[str]) -> Sequence[str]:
+        """The kinds of properties of which nothing is said, where these are there: fairness is for liveness alone."""
+        return ("$cover",) if "$live" in kinds else ("$cover", "$fair")
 
     def refuse_conflicts(self, said: Sequence[str]) -> None:
         for line in said:
@@ -2006,19 +2199,26 @@ class Front:
         return f"{self.sources.users_name(property.file)}:{property.line}"
 
     def assertions(self) -> List[Assertion]:
-        """The assertions in the order of the source, each with its bad state."""
-        (bad,) = self.positions("$assert")
-        asked = [it for it in self.properties if it.kind == "$assert"]
-        if sorted(bad) != sorted(it.cell for it in asked):
-            raise Trouble("which bad state is which assertion cannot be told")
-        return [Assertion(f"{self.top}.{it.name}", self.place(it), bad[it.cell], it.cell) for it in self.sorted(asked)]
+        """The assertions in the order of the source, each with its bad state or its justice property."""
+        bad, live = self.positions("$assert", "$live")
+        asked = [it for it in self.properties if it.kind in ("$assert", "$live")]
+        if sorted([*bad, *live]) != sorted(it.cell for it in asked):
+            raise Trouble("which property of the model is which assertion cannot be told")
+        made = []
+        for it in self.sorted(asked):
+            named = f"{self.top}.{it.name}", self.place(it)
+            if it.kind == "$live":
+                made.append(Liveness(*named, 0, it.cell, live[it.cell]))
+            else:
+                made.append(Assertion(*named, bad[it.cell], it.cell))
+        return made
 
     def sorted(self, asked: List[Property]) -> List[Property]:
         """Properties in the order of the source. The sort is stable: instances stay as they stand in the design."""
         return sorted(asked, key=lambda it: (self.sources.order(it.file), it.line, it.column))
 
     def positions(self, *kinds: str) -> List[Dict[str, int]]:
-        """Of each kind of cell the bad state or the constraint that it is, by the cell's name: in a second model of the
+        """Of each kind of cell the property or the constraint that it is, by the cell's name: in a second model of the
         same netlist the value of each is an input by a name of its own, so nothing depends on Yosys's order."""
         modules = self.yosys.netlist("final")
         top = top_of(modules)
@@ -2032,20 +2232,36 @@ class Front:
             commands.append(f"add -input {value}{at} 1")
             commands += [f"connect -nomap -port {quoted(name)} {port}" for port in (f"A {value}{at}", "EN 1'1")]
         self.yosys.do(*commands, f"write_aiger -symbols {self.sources.alias}/told.aig")
-        told, model = (aigtools().read((self.sources.folder / name).read_bytes()) for name in ("told.aig", "model.aig"))
+        told, model = (Model(self.sources.folder / name) for name in ("told.aig", "model.aig"))
         found = []
         for kind in kinds:
             wanted = {f"{value}{at}".encode(): bare(name) for at, (name, its) in enumerate(cells) if its == kind}
-            which = told_inputs(told, kind)
-            if sorted(which) != sorted(wanted) or len(which) != len(told_literals(model, kind)):
-                raise Trouble(f"which {'bad state' if kind == '$assert' else 'constraint'} is which cannot be told")
+            which = told_loops(told) if kind == "$live" else told_inputs(told.circuit, kind)
+            if sorted(which) != sorted(wanted) or len(which) != len(told_literals(model.circuit, kind)):
+                raise Trouble(f"which {CALLED[kind]} is which cannot be told")
             found.append({wanted[name]: position for position, name in enumerate(which)})
         return found
 
 
+CALLED = {"$assert": "bad state", "$assume": "constraint", "$live": "justice property"}
+
+
 def told_literals(circuit: Any, kind: str) -> Sequence[int]:
     """The literals that are 1 where the cells of a kind are violated."""
+    if kind == "$live":
+        return circuit.justice_literals
     return circuit.bad if kind == "$assert" else [literal ^ 1 for literal in circuit.constraints]
+
+
+def told_loops(model: Model) -> List[bytes]:
+    """Of each justice property the one input with a name on which it depends, over any number of steps, or nothing."""
+    names = {it.position: it.name for it in model.circuit.symbols if it.kind == "i"}
+    found = []
+    for literal in told_literals(model.circuit, "$live"):
+        needed = model.cone([literal])
+        its = [names[at] for at, it in enumerate(model.circuit.inputs) if needed[it >> 1] and at in names]
+        found.append(its[0] if len(its) == 1 else b"")
+    return found
 
 
 def told_inputs(circuit: Any, kind: str) -> List[bytes]:
@@ -2072,6 +2288,9 @@ class Ports(Front):
     def __init__(self, yosys: Yosys, top: str, called: str) -> None:
         super().__init__(yosys, top, keeps_outputs=True)
         self.called = called
+
+    def left_out(self, kinds: Set[str]) -> Sequence[str]:
+        return ("$cover", "$live", "$fair")
 
     def read_model(self) -> None:
         """Reads the model that was written, and names what it has."""
@@ -2231,7 +2450,8 @@ class Replay:
         path.write_text(re.sub(r"(?m)^$", "0", witness.read_text().rstrip("\n")) + "\n")
         clock = f"-clock {quoted(self.clock)[1:]}" if self.clock else "-multiclock"
         place = os.path.relpath(path, self.folder)
-        commands = f"read_rtlil prepared.il; sim -q -r {place} -map model.map {clock}"
+        # sim knows neither of these cells
+        commands = f"read_rtlil prepared.il; delete t:$live t:$fair; sim -q -r {place} -map model.map {clock}"
         told = self.children.run([self.program, "-q", "-p", commands], self.folder, 60)
         fails = f"Warning: Assert {self.top}.{assertion.cell} ("
         if any(line.startswith(fails) for line in told.errors.splitlines()):
@@ -2424,16 +2644,19 @@ class Keeper:
     def keep(self, assertion: Assertion, verdict: Verdict) -> None:
         name = self.name(assertion)
         if verdict.witness:
-            self.put_run(name, verdict.witness)
+            self.put_run(name, assertion, verdict)
             verdict.kept = self.put(f"{name}.aiw", verdict.witness.read_bytes())
         if verdict.refutation:
             proof = self.put_proof(TOGETHER if verdict.of_all else name, verdict)
-            script = self.script(proof, assertion, verdict).encode(errors="replace")
-            self.put(f"{name}.check.sh", script, 0o777)
+            asks = self.asks(assertion, self.options(proof, assertion, verdict))
+            self.put_script(name, assertion, verdict, [*asks, f'[ "$answer" = "{verdict.claim()}" ]'])
 
-    def put_run(self, name: str, witness: Path) -> None:
+    def put_run(self, name: str, assertion: Assertion, verdict: Verdict) -> None:
         """Keeps what shows the run of a witness."""
-        waves = self.traced("--witness", "--vcd", self.path, witness, output=witness.with_suffix(".vcd"))
+        self.put_waves(name, self.path, verdict.witness)
+
+    def put_waves(self, name: str, model: Path, witness: Path) -> None:
+        waves = self.traced("--witness", "--vcd", model, witness, output=witness.with_suffix(".vcd"))
         self.put(f"{name}.vcd", waves)
 
     def traced(self, *words: Any, output: Path) -> bytes:
@@ -2452,10 +2675,8 @@ class Keeper:
         self.has_all = self.has_all or verdict.of_all
         return name
 
-    def script(self, proof: str, assertion: Assertion, verdict: Verdict) -> str:
-        """Checks the answer again, by aiger alone."""
-        how = f"--invariant {proof}.pla" if verdict.invariant else f"--frames {verdict.steps}"
-        bad = "" if verdict.of_all else f"--bad {assertion.bad} "
+    def put_script(self, name: str, assertion: Assertion, verdict: Verdict, asks: List[str]) -> None:
+        """Keeps what checks the answer again, by aiger alone."""
         checks = [f'echo "{line}" | sha256sum --check --quiet || exit 1' for line in self.digests]
         lines = [
             "#!/bin/sh",
@@ -2463,12 +2684,17 @@ class Keeper:
             f"# Ends with 0 exactly if aiger says so again, of {self.shown}.",
             'CDPATH= cd -- "$(dirname -- "$0")" || exit 2',
             *checks,
-            *self.asks(f"{how} {bad}--refutation {proof}.drat"),
-            f'[ "$answer" = "{verdict.claim()}" ]',
+            *asks,
         ]
-        return "\n".join([*lines, ""])
+        self.put(f"{name}.check.sh", "\n".join([*lines, ""]).encode(errors="replace"), 0o777)
 
-    def asks(self, options: str) -> List[str]:
+    def options(self, proof: str, assertion: Assertion, verdict: Verdict) -> str:
+        """The words by which aigunroll is asked again."""
+        how = f"--invariant {proof}.pla" if verdict.invariant else f"--frames {verdict.steps}"
+        bad = "" if verdict.of_all else f"--bad {assertion.bad} "
+        return f"{how} {bad}--refutation {proof}.drat"
+
+    def asks(self, assertion: Assertion, options: str) -> List[str]:
         """The lines that get an answer of the model."""
         return [f'answer=$("${{AIGER:-aiger}}" aigunroll {options} {self.model}) || exit 1']
 
@@ -2486,7 +2712,7 @@ class KeeperOfTwo(Keeper):
         self.digests.clear()
         self.two = [self.put_model("first", sides.first.path), self.put_model("second", sides.second.path)]
 
-    def asks(self, options: str) -> List[str]:
+    def asks(self, assertion: Assertion, options: str) -> List[str]:
         by_name = "--by-name " * self.sides.by_name
         return [
             'aiger=${AIGER:-aiger}',
@@ -2494,8 +2720,9 @@ class KeeperOfTwo(Keeper):
             f'  "$aiger" aigunroll {options} -) || exit 1',
         ]
 
-    def put_run(self, name: str, witness: Path) -> None:
+    def put_run(self, name: str, assertion: Assertion, verdict: Verdict) -> None:
         """Keeps the stimulus, and one waveform of both designs."""
+        witness = verdict.witness
         _, _, state, *steps = witness.read_text().split("\n")
         lines = [*steps[: steps.index(".")], ""]
         stimulus = witness.with_suffix(".stimulus")
@@ -2507,6 +2734,50 @@ class KeeperOfTwo(Keeper):
             waves.append(self.traced("--vcd", started, stimulus, output=witness.with_suffix(".vcd")))
         self.put(f"{name}.vcd", waves_beside(*waves))
         self.put(f"{name}.stimulus", stimulus.read_bytes())
+
+
+class KeeperOfLassos(Keeper):
+    """Keeps a model with its justice properties, and what shows whether a run is fair to them.
+
+    What aiger makes of one has no names: for the waveform it gets those of the model, and some that tell of the loop.
+    """
+
+    called = "live"
+
+    def __init__(self, folder: Path, model: Model, aiger: Aiger, names: Set[str]) -> None:
+        super().__init__(folder, model.path, aiger)
+        self.circuit, self.names = model.circuit, names
+
+    def asks(self, assertion: Liveness, options: str) -> List[str]:
+        return self.of_live(assertion, f"aigunroll {options} -")
+
+    def of_live(self, assertion: Liveness, words: str) -> List[str]:
+        """The lines that get an answer of what aiger makes of the model."""
+        return [
+            'aiger=${AIGER:-aiger}',
+            f'answer=$("$aiger" aigtoaig --justice-as-bad {assertion.justice} {self.model} |',
+            f'  "$aiger" {words}) || exit 1',
+        ]
+
+    def put_run(self, name: str, assertion: Liveness, verdict: Verdict) -> None:
+        """Keeps the run of what aiger makes of the model too, which it confirms."""
+        loop, named = (verdict.witness.with_name(it) for it in ("loop.aiw", "named.aig"))
+        named.write_bytes(self.with_names(verdict.witness.with_name("live.aig")).write())
+        self.put_waves(name, named, loop)
+        self.put(f"{name}.loop", loop.read_bytes())
+        asks = self.of_live(assertion, f"aigsim --witness - {name}.loop")
+        steps = len(verdict.witness.read_text().splitlines()) - 4
+        self.put_script(name, assertion, verdict, [*asks, f'[ "$answer" = "confirmed {steps}" ]'])
+
+    def with_names(self, live: Path) -> Any:
+        """What aiger makes of the model, with names."""
+        circuit, count, inputs = aigtools().read(live.read_bytes()), len(self.circuit.latches), len(self.circuit.inputs)
+        names = [it for it in self.circuit.symbols if it.kind in "il"]
+        names += [("l", count + 1 + it.position, b"loop_start." + it.name) for it in names if it.kind == "l"]
+        names += [("i", inputs, b"loop_starts"), ("l", count, b"in_loop"), ("b", 0, b"loop_closed")]
+        goals = range(2 * count + 1, len(circuit.latches))
+        circuit.symbols = names + [("l", at, b"met[%d]" % goal) for goal, at in enumerate(goals)]
+        return circuit
 
 
 def started_at(circuit: Any, state: str) -> Any:
@@ -2550,6 +2821,8 @@ class Run:
         self.noted: Set[str] = set()
         self.replay: Optional[Replay] = None
         self.sides: Optional[Sides] = None
+        #: the model with its justice properties, if it has some
+        self.live: Optional[Model] = None
         self.of_all: Optional[Verdict] = None
         self.verdicts: List[Tuple[Assertion, Verdict]] = []
 
@@ -2566,17 +2839,14 @@ class Run:
         tools = self.tools()
         model, assertions = self.asked(tools.aiger)
         self.note_contradiction(model, tools)
-        keeper = self.keeper(model, tools.aiger)
-        searches = [
-            Search(assertion, model, tools, self.folder / str(at), self.progress)
-            for at, assertion in enumerate(assertions)
-        ]
+        keepers = self.keepers(model, tools.aiger)
+        searches = [self.search(assertion, model, tools, at) for at, assertion in enumerate(assertions)]
         if self.sides and assertions:
             self.ask_together(model, tools, searches)
         with ThreadPoolExecutor(self.given.jobs) as pool:
             try:
                 for search, verdict in zip(searches, pool.map(self.answer, searches)):
-                    self.tell(search, verdict, keeper)
+                    self.tell(search, verdict, keepers.get(type(search.assertion)))
             except BaseException:
                 self.children.stop()
                 raise
@@ -2587,16 +2857,29 @@ class Run:
         return 2 if not answers or Answer.UNKNOWN in answers else 0
 
     def asked(self, aiger: Aiger) -> Tuple[Model, List[Assertion]]:
-        """The model, and what is to be said of its bad states."""
+        """The model, and what is to be said of its bad states, and of justice properties."""
         if self.given.equal:
             return self.of_two(aiger)
         return self.of_verilog() if self.given.verilog else self.of_aiger(aiger)
 
-    def keeper(self, model: Model, aiger: Aiger) -> Optional[Keeper]:
+    def search(self, assertion: Assertion, model: Model, tools: Tools, at: int) -> Search:
+        kind, of = (Lassos, self.live) if isinstance(assertion, Liveness) else (Search, model)
+        return kind(assertion, of, tools, self.folder / str(at), self.progress)
+
+    def keepers(self, model: Model, aiger: Aiger) -> Dict[type, Keeper]:
+        """What keeps the answers of each kind."""
         if self.given.keep is None:
-            return None
+            return {}
         folder = Path(self.given.keep)
-        return KeeperOfTwo(folder, model.path, aiger, self.sides) if self.sides else Keeper(folder, model.path, aiger)
+        if self.sides:
+            return dict.fromkeys((Pair, Assumption), KeeperOfTwo(folder, model.path, aiger, self.sides))
+        found: Dict[type, Keeper] = {}
+        if model.circuit.bad or not self.live:
+            found[Assertion] = Keeper(folder, model.path, aiger)
+        if self.live:
+            names = found[Assertion].names if found else set()
+            found[Liveness] = KeeperOfLassos(folder, self.live, aiger, names)
+        return found
 
     def ask_together(self, model: Model, tools: Tools, searches: List[Search]) -> None:
         """Asks of all pairs at once; what came of it is for each."""
@@ -2608,7 +2891,8 @@ class Run:
     def answer(self, search: Search) -> Verdict:
         """The answer for an assertion; a counterexample is replayed."""
         verdict = replace(self.of_all) if self.of_all else search.verdict()
-        if verdict.witness and self.replay and not self.given.quiet:
+        is_replayed = self.replay and not isinstance(search.assertion, Liveness)
+        if verdict.witness and is_replayed and not self.given.quiet:
             shown = self.replay.shows(search.assertion, verdict.witness)
             if shown is not None:
                 words = "fails in Yosys's replay too" if shown else "does not fail in Yosys's replay"
@@ -2671,7 +2955,17 @@ class Run:
         if not assertions:
             self.must_say("there is no assertion")
         self.replay = Replay(program, self.children, place, top, front.clock, front.replays)
-        return Model(place / "model.aig"), assertions
+        return self.of_bad(place / "model.aig"), assertions
+
+    def of_bad(self, path: Path) -> Model:
+        """The model of the bad states, without justice and fairness: a run to one of them has an end."""
+        model = Model(path)
+        if not model.circuit.justice_sizes and not model.circuit.fairness:
+            return model
+        self.live = model if model.circuit.justice_sizes else None
+        finite = path.with_name("finite.aig")
+        finite.write_bytes(without_justice(model.circuit).write())
+        return Model(finite)
 
     def yosys(self) -> str:
         program = self.program("YOSYS", "yosys")
@@ -2757,18 +3051,20 @@ class Run:
             raise Trouble(visible(f"{name}:{line}: {what}" if line else f"{name}: {what}"))
 
     def of_aiger(self, aiger: Aiger) -> Tuple[Model, List[Assertion]]:
-        """The model that is given, in binary and without justice and fairness, of which nothing is said here."""
+        """The model that is given, in binary."""
         name, path = self.given.files[0], self.folder / "model.aig"
         self.copied(aiger, name, path)
         circuit = aigtools().read(path.read_bytes())
-        if circuit.justice_sizes or circuit.fairness:
-            self.note(f"{visible(name)}: justice properties and fairness constraints are left out")
-            path.write_bytes(without_justice(circuit).write())
-        if not circuit.bad:
-            hint = "; of its outputs aiger aigtoaig --outputs-as-bad makes some" if circuit.outputs else ""
-            self.must_say(f"{visible(name)}: there is no bad state{hint}")
-        names = named_by_symbols(circuit, "b")
-        return Model(path), [Assertion(names.get(at, f"b{at}"), name, at) for at in range(len(circuit.bad))]
+        if circuit.fairness and not circuit.justice_sizes:
+            self.note(f"{visible(name)}: fairness constraints are left out: there is no justice property")
+        if not circuit.bad and not circuit.justice_sizes:
+            hint = "; of outputs aiger aigtoaig --outputs-as-bad makes bad states" if circuit.outputs else ""
+            self.must_say(f"{visible(name)}: there is neither a bad state nor a justice property{hint}")
+        bad, live = (named_by_symbols(circuit, kind) for kind in "bj")
+        found = [Assertion(bad.get(at, f"b{at}"), name, at) for at in range(len(circuit.bad))]
+        properties_ = range(len(circuit.justice_sizes))
+        found += [Liveness(live.get(at, f"j{at}"), name, 0, justice=at) for at in properties_]
+        return self.of_bad(path), found
 
     def must_say(self, words: str) -> None:
         """What is told even with --quiet, since the status is 2."""
@@ -2777,7 +3073,8 @@ class Run:
     def note_contradiction(self, model: Model, tools: Tools) -> None:
         """Tells if no first step keeps all constraints: then nothing is ever reached."""
         circuit = model.circuit
-        if not circuit.constraints or not circuit.bad or not tools.solver or self.given.quiet:
+        is_asked = circuit.bad or self.live
+        if not circuit.constraints or not is_asked or not tools.solver or self.given.quiet:
             return
         parts = {name: getattr(circuit, name) for name in ("max_var", "inputs", "latches", "constraints", "gates")}
         path, clauses = self.folder / "start.aig", self.folder / "start.cnf"
@@ -2790,7 +3087,7 @@ class Run:
     def records(self) -> Dict[str, List[Dict[str, Any]]]:
         """What --json says."""
         if not self.given.equal:
-            return {"assertions": [{**self.record(*it, source=it[0].place)} for it in self.verdicts]}
+            return {"assertions": [self.record(*it, **it[0].shown()) for it in self.verdicts]}
         pairs, assumed = ([it for it in self.verdicts if isinstance(it[0], kind)] for kind in (Pair, Assumption))
         return {"pairs": [self.record(*it) for it in pairs], "assumptions": [self.record(*it) for it in assumed]}
 
@@ -2800,10 +3097,12 @@ class Run:
         return {**told, **{key: value for key, value in rest.items() if value is not None}}
 
     def summary(self) -> str:
+        first, second = ("pair", Pair), ("assumption", Assumption)
         if not self.given.equal:
-            return self.sum_of("assertion", self.verdicts)
-        pairs, assumed = ([it for it in self.verdicts if isinstance(it[0], kind)] for kind in (Pair, Assumption))
-        return "; ".join([self.sum_of("pair", pairs), *[self.sum_of("assumption", assumed)] * bool(assumed)])
+            first, second = ("assertion", Assertion), ("liveness assertion", Liveness)
+        counted_, more = ([it for it in self.verdicts if type(it[0]) is kind] for _, kind in (first, second))
+        sums = [self.sum_of(first[0], counted_)] * bool(counted_ or self.given.equal or not more)
+        return "; ".join([*sums, *[self.sum_of(second[0], more)] * bool(more)])
 
     def sum_of(self, unit: str, verdicts: List[Tuple[Assertion, Verdict]]) -> str:
         """How many have each answer."""
@@ -2851,9 +3150,8 @@ def places_by_name(first: Dict[int, str], second: Dict[int, str], count: int) ->
 
 
 def without_justice(circuit: Any) -> Any:
-    circuit.justice_sizes = circuit.justice_literals = circuit.fairness = ()
-    circuit.symbols = [it for it in circuit.symbols if it.kind not in "jf"]
-    return circuit
+    names = [it for it in circuit.symbols if it.kind not in "jf"]
+    return replace(circuit, justice_sizes=(), justice_literals=(), fairness=(), symbols=names)
 
 
 def say(words: str) -> None:

@@ -168,17 +168,19 @@ def run_to_bad(made):
     return None
 
 
-def is_lasso(made, number, state, inputs):
-    """Whether these steps come back to a state between which and the end each goal is met."""
+def starts(made, number, state, inputs):
+    """In which of these steps a loop begins: its state is that behind the last one, and each goal is met in between."""
     goals, runs, states, seen = goals_of(made, number), Runs(made), [state], []
+    if any(reset not in ("x", value) for reset, value in zip(made.resets, state)):
+        return []
     for given in inputs:
         taken = runs.step(states[-1], given, goals)
         if not taken:
-            return False
+            return []
         seen.append(taken[0])
         states.append(taken[1])
-    starts = (at for at in range(len(inputs)) if states[at] == states[-1])
-    return any(all(any(it[place] == "1" for it in seen[at:]) for place in range(len(goals))) for at in starts)
+    back = (at for at in range(len(inputs)) if states[at] == states[-1])
+    return [at for at in back if all(any(it[place] == "1" for it in seen[at:]) for place in range(len(goals)))]
 
 
 def wrong_runs(made, number, live):
@@ -188,7 +190,7 @@ def wrong_runs(made, number, live):
         return f"j{number} of {images.ascii_text(made)!r}: its circuit reaches {run}"
     if run:
         state, inputs = run[0][: len(made.latches)], [it[: len(made.inputs)] for it in run[1][:-1]]
-        if not is_lasso(made, number, state, inputs):
+        if not starts(made, number, state, inputs):
             return f"j{number} of {images.ascii_text(made)!r}: no lasso is {state, inputs}"
     return None
 

@@ -1,6 +1,6 @@
 #!/usr/bin/env python3
-"""aiger-check: what it says of designs, beside Yosys's own `sat` and ABC; of models made by chance, beside all their
-states; whether two designs are equal; and that no tool that lies, fails, sleeps or is missing, no full disk and no
+"""aiger-check: what it says of designs, beside Yosys's own `sat` and ABC; of models made by chance, and of liveness,
+beside all their states; whether two designs are equal; and that no tool that lies, fails, sleeps or is missing, no full disk and no
 interrupt gives a wrong line or leaves anything.
 
     tests/run/check.py PROGRAM [NAME]         all rows, or those that have this in their names
@@ -17,10 +17,12 @@ from pathlib import Path
 sys.dont_write_bytecode = True
 sys.path[0] = str(Path(__file__).resolve().parent.parent)
 from lib import counts
-from lib.check import chance_rows, checked, design_rows, equal_rows, file_rows, interrupt_rows, model_rows, tool_rows
-from lib.check import word_rows
+from lib.check import chance_rows, checked, design_rows, equal_rows, file_rows, interrupt_rows, live_rows, model_rows
+from lib.check import tool_rows, word_rows
 
-MODULES = design_rows, chance_rows, equal_rows, model_rows, tool_rows, word_rows, file_rows, interrupt_rows
+MODULES = (
+    design_rows, chance_rows, equal_rows, model_rows, live_rows, tool_rows, word_rows, file_rows, interrupt_rows
+)
 
 
 def why_wrong(row, program):

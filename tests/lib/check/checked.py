@@ -1,8 +1,8 @@
 """Runs aiger-check in a folder of its own, and judges what it says, leaves and keeps.
 
-What is so of an assertion is its name, its place and the first step in which it fails, or None. An answer may be wanted
-in one of three ways: exact (`never` where it never fails), bounded (`none within K` will do), and safe, where tools lie
-or are missing: then `unknown` will do too, but nothing that is wrong.
+What is so of an assertion is its name, its place and the first step in which it fails, or None; of liveness, whether
+there is a lasso. An answer may be wanted in one of three ways: exact (`never` where it never fails), bounded (`none
+within K` will do), and safe, where tools lie or are missing: then `unknown` will do too, but nothing that is wrong.
 """
 import dataclasses
 import itertools
@@ -15,16 +15,20 @@ import sys
 import tempfile
 from pathlib import Path
 
+from lib import liveness
+from lib.check import reached
+
 TOP = Path(__file__).resolve().parent.parent.parent.parent
 CHECK = os.environ.get("CHECK", str(TOP / "python" / "aiger_check.py"))
 FRAMES = 50
 # what a machine under load may take
 LONGEST = 300
-ANSWERS = "never|none within|reached at|unknown"
+ANSWERS = "never|none within|reached at|holds|no lasso within|lasso at|unknown"
 LINE = re.compile(rf"(?P<name>.*) \((?P<source>.*?)\): (?P<answer>{ANSWERS})(?P<rest>.*)", re.DOTALL)
 KINDS = ["never", "none within", "reached", "unknown"]
-SUM = re.compile(r"(\d+) assertions?(?:: (.*))?")
-KEPT = re.compile(r"model-[0-9a-f]+\.aig|.+\.(aiw|vcd|drat|pla|check\.sh)")
+LIVE_KINDS = ["holds", "no lasso within", "lasso", "unknown"]
+SUM = re.compile(r"(\d+) (liveness )?assertions?(?:: (.*))?")
+KEPT = re.compile(r"(model|live)-[0-9a-f]+\.aig|.+\.(aiw|vcd|loop|drat|pla|check\.sh)")
 EXACT, BOUNDED, SAFE = "exact", "bounded", "safe"
 
 
@@ -41,6 +45,13 @@ class Truth:
     name: str
     source: str
     step: int | None
+    # of liveness alone: the step is then how many the least lasso has, where that is known
+    has_lasso: bool | None = None
+
+    def place(self):
+        """Where it stands among what has its name."""
+        is_live = self.has_lasso is not None
+        return (self.name, is_live, not self.has_lasso if is_live else self.step is None, 0 if is_live else self.step)
 
 
 @dataclasses.dataclass(frozen=True)
@@ -51,6 +62,11 @@ class Answer:
     steps: int | None = None
     witness: str | None = None
     reason: str | None = None
+
+    def place(self):
+        """Where it stands among what has its name."""
+        is_live = self.answer in LIVE_KINDS[:-1]
+        return (self.name, is_live, self.answer not in ("reached", "lasso"), 0 if is_live else self.steps)
 
 
 @dataclasses.dataclass
@@ -136,11 +152,11 @@ def of_line(line, said):
     found = LINE.fullmatch(line)
     need(found, f"the line {line!r}", said)
     answer, rest, more = found["answer"], found["rest"], {}
-    if answer == "reached at":
+    if answer in ("reached at", "lasso at"):
         spelled = re.fullmatch(r" (\d+)(?:, (.+))?", rest, re.DOTALL)
         need(spelled, f"the line {line!r}", said)
         more = {"steps": int(spelled[1]), "witness": spelled[2]}
-    elif answer == "none within":
+    elif answer in ("none within", "no lasso within"):
         need(re.fullmatch(r" [1-9]\d*", rest), f"the line {line!r}", said)
         more = {"steps": int(rest)}
     elif answer == "unknown":
@@ -155,14 +171,15 @@ def of_lines(said):
     """The answers of the lines, whose last one must add them up."""
     need(said.out.endswith("\n"), "the last line does not end", said)
     *lines, last = said.out.removesuffix("\n").split("\n")
-    found, added = [of_line(it, said) for it in lines], SUM.fullmatch(last)
-    need(added and int(added[1]) == len(found), "another sum", said)
+    found = [of_line(it, said) for it in lines]
+    sums = [SUM.fullmatch(it) for it in last.split("; ")]
+    need(all(sums) and sum(int(it[1]) for it in sums) == len(found), "another sum", said)
     counts = {}
-    for part in added[2].split(", ") if added[2] else []:
+    for part in (part for it in sums if it[3] for part in it[3].split(", ")):
         number, _, kind = part.partition(" ")
         # the bound stands behind its words
         counts[re.sub(r" \d+$", "", kind)] = counts.get(re.sub(r" \d+$", "", kind), 0) + int(number)
-    wanted = {kind: sum(it.answer == kind for it in found) for kind in KINDS}
+    wanted = {kind: sum(it.answer == kind for it in found) for kind in (*KINDS, *LIVE_KINDS)}
     need(counts == {kind: count for kind, count in wanted.items() if count}, "another sum", said)
     return found
 
@@ -170,8 +187,11 @@ def of_lines(said):
 def of_json(said):
     """The answers of the one object."""
     try:
-        object_ = json.loads(said.out)
-        return [Answer(**it) for it in object_["assertions"]]
+        found = json.loads(said.out)["assertions"]
+        for it in found:
+            kinds = LIVE_KINDS if it.pop("kind", "safety") == "liveness" else KINDS
+            need(it["answer"] in kinds, f"{it} is an answer of another kind", said)
+        return [Answer(**it) for it in found]
     except (ValueError, KeyError, TypeError) as why:
         raise Wrong(f"no such object, {why!r}: {said}") from why
 
@@ -182,14 +202,25 @@ def answers_of(said):
 
 def status_of(found, frames):
     """How a run with these answers must end."""
-    if any(it.answer == "reached" for it in found):
+    if any(it.answer in ("reached", "lasso") for it in found):
         return 1
-    holds = (it.answer == "never" or it.answer == "none within" and it.steps >= frames for it in found)
+    bounds = ("none within", "no lasso within")
+    holds = (it.answer in ("never", "holds") or it.answer in bounds and it.steps >= frames for it in found)
     return 0 if found and all(holds) else 2
+
+
+def is_right_of_live(truth, it, way, frames):
+    """Whether an answer may be given of liveness."""
+    if it.answer == "no lasso within":
+        may_be = not truth.has_lasso or truth.step is not None and it.steps <= truth.step
+        return may_be and (way == SAFE or it.steps >= frames and (truth.has_lasso or way == BOUNDED))
+    return it.answer == ("lasso" if truth.has_lasso else "holds") or it.answer == "unknown" and way == SAFE
 
 
 def is_right(truth, it, way, frames):
     """Whether an answer may be given of this."""
+    if truth.has_lasso is not None:
+        return is_right_of_live(truth, it, way, frames)
     step = truth.step
     if it.answer == "unknown":
         return way == SAFE
@@ -209,9 +240,8 @@ def judge(said, truths, way=EXACT, frames=FRAMES):
     need([it.source for it in found] == [it.source for it in truths], "other assertions", said)
     # in one place the order is of no matter
     for source, there in itertools.groupby(truths, lambda it: it.source):
-        wanted = sorted(there, key=lambda it: (it.name, it.step is None, it.step))
-        came = [it for it in found if it.source == source]
-        came.sort(key=lambda it: (it.name, it.answer != "reached", it.steps))
+        wanted = sorted(there, key=Truth.place)
+        came = sorted((it for it in found if it.source == source), key=Answer.place)
         need([it.name for it in came] == [it.name for it in wanted], f"other names in {source}", said)
         for truth, it in zip(wanted, came):
             need(is_right(truth, it, way, frames), f"{truth} has the answer {it}", said)
@@ -223,7 +253,8 @@ def refused(said, *words, status=2):
     """That a run says what is wrong, and no answer that anything holds or fails."""
     need(said.status == status, f"status {status} is due", said)
     need(re.search("^aiger-check: .", said.err, re.MULTILINE), "it does not say why", said)
-    need(not re.search(r"never$|none within|reached at", said.out, re.MULTILINE), "an answer", said)
+    answers = r"never$|none within|reached at|holds$|no lasso within|lasso at"
+    need(not re.search(answers, said.out, re.MULTILINE), "an answer", said)
     for word in words:
         need(re.search(word, said.err, re.IGNORECASE), f"{word} is not said", said)
 
@@ -235,27 +266,48 @@ def succeeds(script, room_, folder):
     return ran.returncode == 0
 
 
-def model_of(kept):
-    models = list(kept.glob("model-*.aig"))
+def model_of(kept, name="model"):
+    models = list(kept.glob(f"{name}-*.aig"))
     need(len(models) == 1, f"there are {len(models)} models in {sorted(os.listdir(kept))}")
     return models[0]
+
+
+def circuit_of(program, model):
+    """The circuit of a file."""
+    words = [program, "aigtoaig", "--ascii", str(model)]
+    return reached.read(subprocess.run(words, capture_output=True, check=True, timeout=LONGEST).stdout)
+
+
+def judge_lasso(room_, kept, it, said):
+    """The witness of a lasso: its run is one, by a plain model, and so is the waveform's."""
+    file = room_.here / (it.witness or "none")
+    one, property_, state, *inputs = file.read_text(encoding="ascii").split("\n")
+    need(one == "1" and re.fullmatch(r"j\d+", property_) and inputs[-2:] == [".", ""], f"{it} has another form", said)
+    made = circuit_of(room_.program, model_of(kept, "live"))
+    starts = liveness.starts(made, int(property_[1:]), state, inputs[:-2])
+    need(it.steps in starts, f"{it} has a witness that begins at {starts}", said)
+    waves = file.with_suffix(".vcd").read_text(encoding="latin-1")
+    need(f"$comment confirmed {len(inputs) - 2} $end" in waves, f"{it} has another waveform", said)
+    need("loop_starts $end" in waves and "in_loop $end" in waves, f"the waveform of {it} does not tell the loop", said)
 
 
 def judge_kept(room_, kept, found, said):
     """What is kept of these answers: each witness is confirmed, and each script succeeds."""
     names = sorted(os.listdir(kept))
     need(all(map(KEPT.fullmatch, names)), f"kept {names}", said)
-    model = str(model_of(kept))
-    reached = [it for it in found if it.answer == "reached"]
-    need(len({it.witness for it in reached}) == len(reached), "one witness for two", said)
-    for it in reached:
+    broken = [it for it in found if it.answer in ("reached", "lasso")]
+    need(len({it.witness for it in broken}) == len(broken), "one witness for two", said)
+    for it in broken:
+        if it.answer == "lasso":
+            judge_lasso(room_, kept, it, said)
+            continue
         file = room_.here / (it.witness or "none")
-        words = [room_.program, "aigsim", "--witness", model, str(file)]
+        words = [room_.program, "aigsim", "--witness", str(model_of(kept)), str(file)]
         ran = subprocess.run(words, capture_output=True, text=True, check=False, timeout=LONGEST)
         need(ran.stdout == f"confirmed {it.steps}\n", f"{it} has a witness {ran}", said)
         need("$enddefinitions" in file.with_suffix(".vcd").read_text(encoding="latin-1"), f"{it} has no waveform", said)
     scripts = sorted(kept.glob("*.check.sh"))
-    shown = [it for it in found if it.answer in ("never", "none within")]
+    shown = [it for it in found if it.answer not in ("reached", "unknown")]
     need(len(scripts) == len(shown), f"{names} for {len(shown)} certificates", said)
     for script in scripts:
         text = script.read_text(encoding="utf-8", errors="surrogateescape")

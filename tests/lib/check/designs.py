@@ -1,7 +1,8 @@
 """The designs of tests/verilog: what is to be said of each assertion, and what Yosys's own `sat` says.
 
 Behind an assertion stands `//: NAME: ANSWER`, with `; ` between several. Where a design has several clocks an answer
-`reached` has no number: what a step is, is Yosys's choice, so that the number is its own.
+`reached` has no number: what a step is, is Yosys's choice, so that the number is its own. Nor has `lasso`: where the
+loop of the least one begins, is the solver's choice.
 """
 import dataclasses
 import re
@@ -33,12 +34,17 @@ class Design:
 
 @dataclasses.dataclass(frozen=True)
 class Assertion:
-    """What is to be said of one: answer is never or reached, and step None where it is Yosys's choice."""
+    """What is to be said of one: answer is never or reached, and step None where it is Yosys's choice; of liveness it
+    is holds or lasso."""
 
     name: str
     place: str
     answer: str
     step: int | None = None
+
+    @property
+    def is_live(self):
+        return self.answer in ("holds", "lasso")
 
 
 def one(top, **more):
@@ -59,7 +65,9 @@ DEEP = one("deep", words=("--frames", "70"), steps=62)
 DESIGNS = [one(it) for it in ONE_CLOCK] + [one(it, has_clocks=True) for it in CLOCKS]
 DESIGNS += [one("out_of_range", has_others=False)]
 DESIGNS += [BOARD, DEFINED, DEEP, one("included", included=("parts/properties.svh",))]
-DESIGNS += [Design("plain", ("parts/plain.v",))]
+DESIGNS += [Design("plain", ("parts/plain.v",)), one("fair_alone")]
+LIVE = [one("granted"), one("starved"), one("drained"), one("waiters"), one("clocks_go_on", has_clocks=True)]
+DESIGNS += LIVE
 
 
 def named(top):

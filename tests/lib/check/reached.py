@@ -95,18 +95,18 @@ def read(text):
     """The circuit of an ASCII text."""
     lines = iter(text.decode("latin-1").split("\n"))
     _, largest, *counts = next(lines).split()
-    inputs, latches, outputs, gates, bad, constraints, *others = [*map(int, counts), 0, 0, 0, 0][:8]
-    if any(others):
-        raise ValueError("justice or fairness")
+    inputs, latches, outputs, gates, bad, constraints, justice, fairness = [*map(int, counts), 0, 0, 0, 0][:8]
 
     def take(count):
         return [[int(it) for it in next(lines).split()] for _ in range(count)]
 
     its_inputs, its_latches, literals = take(inputs), take(latches), take(outputs + bad + constraints)
     literals = [it[0] for it in literals]
+    goals = [[it[0] for it in take(size)] for (size,) in take(justice)]
+    fair = [it[0] for it in take(fairness)]
     resets = ["0" if len(it) == 2 else "x" if it[2] == it[0] else str(it[2]) for it in its_latches]
     return images.Circuit(
         int(largest), [it[0] // 2 for it in its_inputs], [it[0] // 2 for it in its_latches],
         [it[1] for it in its_latches], resets, literals[:outputs], literals[outputs : outputs + bad],
-        literals[outputs + bad :], [], [], [tuple(it) for it in take(gates)], "", None,
+        literals[outputs + bad :], goals, fair, [tuple(it) for it in take(gates)], "", None,
     )
