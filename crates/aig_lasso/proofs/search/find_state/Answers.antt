@@ -26,7 +26,7 @@ loop-step-preserved c =
           let on = c.loop-step.invariant.on k rows begun in (
             (c.take_step.ensures.took k rows on.0).1.stands,
             sym (step_later k c.loop-step.stepper run rows step on.0 low c.args.state.now
-            (sym tested ∙ c.if-are_same.false))
+                (sym tested ∙ c.if-are_same.false))
                 ∙ on.1,
           );
     }
