@@ -1,7 +1,10 @@
 -- What the definitions say of one another.
-use Rattle.std.specs.Prelude.{◌↔◌, ◌≤◌, ℕ, length, map, take}
+use Rattle.std.specs.Prelude.{◌≡◌, ◌≢◌, ◌↔◌, ◌≤◌, ℕ, List, length, map, take}
+use Rattle.std.specs.List.{AllByRecursion}
 use Rattle.aig_circuit.specs.declared.circuit.Circuit.{Circuit}
 use Rattle.aig_circuit.specs.Wellformed.{IsWellFormed, largest_index}
+use Rattle.aig_circuit.specs.declared.value.Val.{Val}
+use Rattle.aig_circuit.specs.declared.value.Val.TheVariants.{X}
 use Rattle.aig_meaning.specs.Meaning.{Row}
 use Rattle.aig_witness.specs.declared.verdict.Verdict.TheVariants.{Confirmed}
 use Rattle.aig_witness.specs.Witness.{Claim, IsVerdict}
@@ -41,6 +44,20 @@ abbrev pub ConfirmedMeansLasso : Type 0
 ConfirmedMeansLasso = (c : Circuit) (property : ℕ) (claim : Claim) (step : ℕ)
     → IsVerdict (live property c) claim (Confirmed step)
     → (start : ℕ) × IsLasso c (lasso_of c property claim step) start
+
+-- no value of the claim is x
+abbrev pub IsWithoutX : Claim → Type 0
+IsWithoutX claim =
+    AllByRecursion (λ (v : Val). v ≢ X) claim.first
+    × AllByRecursion (λ (given : List Val). AllByRecursion (λ (v : Val). v ≢ X) given) claim.steps
+
+-- A lasso without x is confirmed of that circuit, at the step behind its last one at the latest. One with x may not be:
+-- what is x where a loop begins need not be the same where it ends.
+abbrev pub LassosAreConfirmed : Type 0
+LassosAreConfirmed = (c : Circuit) (claim : Claim) (start : ℕ) → IsWellFormed c
+    → (live claim.property c).max_var ≤ largest_index → IsLasso c claim start → IsWithoutX claim
+    → (made : Claim) × (step : ℕ) × (step ≤ length claim.steps)
+    × IsVerdict (live claim.property c) made (Confirmed step)
 
 -- So that circuit never reaches its bad state exactly where the circuit has no fair run.
 abbrev pub LivenessIsSafety : Type 0

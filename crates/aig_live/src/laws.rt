@@ -1,6 +1,6 @@
 //! Laws: facts about the definitions alone, each the contract of a function with an empty body.
 ghost use Rattle.aig_live.specs.Laws.{ConfirmedMeansLasso, LivenessIsSafety, MadeIsWellFormed};
-ghost use Rattle.aig_live.specs.Laws.{NeverMeansNoFairRun};
+ghost use Rattle.aig_live.specs.Laws.{LassosAreConfirmed, NeverMeansNoFairRun};
 
 /// The made circuit is well formed if its largest index is within limits.
 pub fn made_is_well_formed()
@@ -17,6 +17,12 @@ pub fn never_means_no_fair_run()
 #[tactic(auto, using(crate::proofs::Back::confirmed_means_lasso))]
 pub fn confirmed_means_lasso()
     ensures { ConfirmedMeansLasso }
+{}
+
+/// A lasso without x is confirmed of the made circuit, in no more steps.
+#[tactic(auto, using(crate::proofs::Never::lassos_are_confirmed))]
+pub fn lassos_are_confirmed()
+    ensures { LassosAreConfirmed }
 {}
 
 /// The made circuit never reaches its bad state exactly where no run is fair.
