@@ -1,5 +1,5 @@
 -- A solver's answer that is refused stays so, whatever comes after it.
-use Rattle.std.proofs.Common.{◌≡◌, ◌++◌, ◌∙◌, ℕ, List, [], ◌∷◌, Ok, Err, ap, refl, sym}
+use Rattle.std.proofs.Common.{◌≡◌, ◌++◌, ◌∙◌, ℕ, List, [], ◌∷◌, Option, Ok, Err, ap, refl, sym}
 use Rattle.std.specs.List.{fold}
 use Rattle.std.proofs.lemmas.List.Sums.{fold-append}
 use Rattle.aig_answer.specs.Answer.{SoFar, after, answer_of, closed, next}
@@ -54,8 +54,8 @@ not_answered request selected (stops.Refused fault) bytes Open why =
 not_answered request selected (stops.Refused fault) bytes Broken why = absurd why.0
 
 -- the answer was read, and it gives no witness
-pub answer_refused : (request : Reach) (selected : Circuit) (stopped : Stopped) (before after : History)
-    → Read (WitnessSays selected request.bad request.frames (Err stopped)) before after
+pub answer_refused : (request : Reach) (bad : Option ℕ) (selected : Circuit) (stopped : Stopped) (before after : History)
+    → Read (WitnessSays selected bad request.frames (Err stopped)) before after
     → Read (NotRead (AtAnyTime (IsReachRefused request selected)) stopped) before after
-answer_refused request selected stopped before after =
+answer_refused request bad selected stopped before after =
     read_weaker _ _ before after (not_answered request selected stopped)

@@ -20,7 +20,6 @@ pub fn confirmed_means_lasso()
 {}
 
 /// A lasso without x is confirmed of the made circuit, in no more steps.
-#[tactic(auto, using(crate::proofs::Never::lassos_are_confirmed))]
 pub fn lassos_are_confirmed()
     ensures { LassosAreConfirmed }
 {}

@@ -1,5 +1,5 @@
 use Rattle.std.proofs.lemmas.Result.{err_from_is_err_and}
-use Rattle.aig_commands.specs.Unrolling.{bad_of}
+use Rattle.aig_commands.specs.Unrolling.{property_of}
 use Rattle.aig_commands.proofs.Selected.{not_asked, not_unrolled, not_written, unrolled_for}
 use Rattle.aig_commands.proofs.unrolling.unroll_as.Goals as goal
 
@@ -18,7 +18,7 @@ returns-in_err-circuit-clause-err c =
 
 pub returns-in-Ok-clause-ok : goal.returns-in-Ok-clause-ok
 returns-in-Ok-clause-ok c = (
-  unrolled_for (bad_of c.args.form) c.args.frames c.args.found c.in_ok-selected.selected c.in_ok-circuit.circuit
+  unrolled_for (property_of c.args.form) c.args.frames c.args.found c.in_ok-selected.selected c.in_ok-circuit.circuit
       c.in_ok-selected.ensures.there c.in_ok-selected.ensures.ok c.in_ok-circuit.ensures.supported
       c.in_ok-circuit.ensures.ok,
   c.in-Ok.ensures.ok,
@@ -27,7 +27,7 @@ returns-in-Ok-clause-ok c = (
 pub returns-in-Err-clause-err : goal.returns-in-Err-clause-err
 returns-in-Err-clause-err c =
     not_written c.args.form c.args.frames c.args.found c.in_ok-circuit.circuit c.in-Err.fault
-    (unrolled_for (bad_of c.args.form) c.args.frames c.args.found c.in_ok-selected.selected c.in_ok-circuit.circuit
+    (unrolled_for (property_of c.args.form) c.args.frames c.args.found c.in_ok-selected.selected c.in_ok-circuit.circuit
     c.in_ok-selected.ensures.there c.in_ok-selected.ensures.ok c.in_ok-circuit.ensures.supported
     c.in_ok-circuit.ensures.ok)
     c.in-Err.ensures.err

@@ -1,0 +1,124 @@
+//! A lasso out of a witness of the circuit that stands for a justice property.
+ghost use Rattle.std.specs.Prelude.{◌≡◌, ◌≤◌, List, OnErr, OnOk, length, map, take};
+ghost use Rattle.std.specs.List.{flat_map};
+ghost use Rattle.aig_circuit.specs.declared.circuit.Circuit.{Circuit as CircuitRecord};
+ghost use Rattle.aig_circuit.specs.declared.value.Val.{Val as Value};
+ghost use Rattle.aig_circuit.specs.Wellformed.{IsWellFormed};
+ghost use Rattle.aig_io.specs.Devices.{TookBeginning, took};
+ghost use Rattle.aig_io.specs.Output.{Appended};
+ghost use Rattle.aig_live.specs.FoundLasso.{lasso_within, latches_up_to};
+ghost use Rattle.aig_live.specs.Laws.{live};
+ghost use Rattle.aig_replay.specs.Finding.{SaysSteps};
+ghost use Rattle.aig_replay.specs.WitnessLines.{lasso_text, step_line};
+
+use aig_circuit::{Circuit, Latch};
+use aig_io::{DeviceFault, Output, Sink};
+use aig_replay::{FoundWitness, HeldSteps, put_line};
+use std::marker::Model;
+
+/// A lasso, in the memory of the witness by which it was found.
+#[derive(Drop)]
+pub struct FoundLasso {
+    property: u32,
+    latches: usize,
+    inputs: usize,
+    witness: FoundWitness,
+}
+
+impl Model for FoundLasso {
+    ghost use Rattle.aig_live.specs.FoundLasso.{lasso_within as within};
+    ghost use Rattle.aig_witness.specs.Witness.{Claim};
+
+    ghost Value = { Claim };
+
+    ghost view = { λ l. within l.property l.latches l.inputs l.witness };
+}
+
+/// How many latches stand before the first whose variable is behind this one.
+fn latches_up_to(latches: &[Latch], variable: u32) -> usize
+    ensures { result ≡ latches_up_to variable latches.now }
+{
+    for place in 0..latches.len() {
+        if variable < latches[place].var.0 {
+            return place;
+        }
+    }
+    latches.len()
+}
+
+/// How many latches and inputs of the circuit for a justice property are those of the model.
+fn own_sizes(made: &Circuit) -> (usize, usize)
+    ensures { (c : CircuitRecord) (property : ℕ) → IsWellFormed c → made.now ≡ live property c
+        → result ≡ (length c.latches, length c.inputs) }
+{
+    let inputs = made.inputs.as_slice();
+    let Some(save) = inputs.last() else {
+        return (0, 0);
+    };
+    (
+        latches_up_to(made.latches.as_slice(), save.0),
+        inputs.len() - 1,
+    )
+}
+
+/// Puts all steps but the last, of each the first so many inputs.
+fn put_first_steps<W: Sink>(output: &mut Output<W>, shown: usize, steps: HeldSteps<'_>)
+    ensures { (vectors : List (List Value))
+        → SaysSteps steps.inputs steps.count steps.characters.now vectors → shown ≤ steps.inputs
+        → Appended output.old output.new
+        (flat_map step_line (map (take shown) (take (length vectors - 1) vectors))) }
+{
+    let mut rest = steps.characters;
+    for step in 1..steps.count {
+        if rest.len() < steps.inputs || steps.inputs < shown {
+            return;
+        }
+        let (text, more) = rest.split_at(steps.inputs);
+        rest = more;
+        put_line(output, &text[..shown]);
+    }
+}
+
+impl FoundLasso {
+    /// The lasso that a witness of the circuit for the justice property of this number has.
+    pub fn new(witness: FoundWitness, made: &Circuit, property: u32) -> FoundLasso
+        ensures { (c : CircuitRecord) → IsWellFormed c → made.now ≡ live property c
+            → result ≡ lasso_within property (length c.latches) (length c.inputs) witness }
+    {
+        let (latches, inputs) = own_sizes(made);
+        FoundLasso {
+            property,
+            latches,
+            inputs,
+            witness,
+        }
+    }
+
+    fn put<W: Sink>(&self, output: &mut Output<W>)
+        ensures { Appended output.old output.new (lasso_text self.now) }
+    {
+        let first = self.witness.first();
+        let shown = self.latches.min(first.len());
+        output.put(b"1\nj");
+        output.put_number(u64::from(self.property));
+        output.put(b"\n");
+        put_line(output, &first[..shown]);
+        put_first_steps(output, self.inputs, self.witness.steps());
+        output.put(b".\n");
+    }
+
+    /// Writes the witness file. It fails only where the sink fails, which then took a beginning of
+    /// the text, and is not called again.
+    pub fn write<W: Sink>(self, sink: &mut W) -> Result<(), DeviceFault>
+        ensures ok { OnOk result (W.history sink.new
+            ≡ took (lasso_text self) (W.history sink.old)) }
+        ensures err { OnErr result (TookBeginning (lasso_text self) (W.history sink.old)
+            (W.history sink.new)) }
+    {
+        let mut output = Output::new(sink);
+        self.put(&mut output);
+        let (sent, _sink) = output.finish();
+        sent?;
+        Ok(())
+    }
+}
