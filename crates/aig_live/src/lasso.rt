@@ -1,13 +1,10 @@
 //! A lasso out of a witness of the circuit that stands for a justice property.
-ghost use Rattle.std.specs.Prelude.{◌≡◌, ◌≤◌, List, OnErr, OnOk, length, map, take};
+ghost use Rattle.std.specs.Prelude.{◌≡◌, ◌-◌, List, OnErr, OnOk, length, map, take};
 ghost use Rattle.std.specs.List.{flat_map};
-ghost use Rattle.aig_circuit.specs.declared.circuit.Circuit.{Circuit as CircuitRecord};
 ghost use Rattle.aig_circuit.specs.declared.value.Val.{Val as Value};
-ghost use Rattle.aig_circuit.specs.Wellformed.{IsWellFormed};
 ghost use Rattle.aig_io.specs.Devices.{TookBeginning, took};
 ghost use Rattle.aig_io.specs.Output.{Appended};
-ghost use Rattle.aig_live.specs.FoundLasso.{lasso_within, latches_up_to};
-ghost use Rattle.aig_live.specs.Laws.{live};
+ghost use Rattle.aig_live.specs.FoundLasso.{lasso_in, last_input, latches_up_to};
 ghost use Rattle.aig_replay.specs.Finding.{SaysSteps};
 ghost use Rattle.aig_replay.specs.WitnessLines.{lasso_text, step_line};
 
@@ -46,50 +43,48 @@ fn latches_up_to(latches: &[Latch], variable: u32) -> usize
     latches.len()
 }
 
-/// How many latches and inputs of the circuit for a justice property are those of the model.
-fn own_sizes(made: &Circuit) -> (usize, usize)
-    ensures { (c : CircuitRecord) (property : ℕ) → IsWellFormed c → made.now ≡ live property c
-        → result ≡ (length c.latches, length c.inputs) }
+/// The variable of the last input, which tells where the loop begins.
+fn last_input(made: &Circuit) -> u32
+    ensures { result ≡ last_input made.now }
 {
     let inputs = made.inputs.as_slice();
-    let Some(save) = inputs.last() else {
-        return (0, 0);
-    };
-    (
-        latches_up_to(made.latches.as_slice(), save.0),
-        inputs.len() - 1,
-    )
+    if inputs.is_empty() {
+        return 0;
+    }
+    inputs[inputs.len() - 1].0
 }
 
 /// Puts all steps but the last, of each the first so many inputs.
 fn put_first_steps<W: Sink>(output: &mut Output<W>, shown: usize, steps: HeldSteps<'_>)
     ensures { (vectors : List (List Value))
-        → SaysSteps steps.inputs steps.count steps.characters.now vectors → shown ≤ steps.inputs
+        → SaysSteps steps.inputs steps.count steps.characters.now vectors
         → Appended output.old output.new
         (flat_map step_line (map (take shown) (take (length vectors - 1) vectors))) }
 {
+    if steps.count == 0 {
+        return;
+    }
+    let width = shown.min(steps.inputs);
     let mut rest = steps.characters;
-    for step in 1..steps.count {
-        if rest.len() < steps.inputs || steps.inputs < shown {
+    for step in 0..steps.count - 1 {
+        if rest.len() < steps.inputs {
             return;
         }
         let (text, more) = rest.split_at(steps.inputs);
         rest = more;
-        put_line(output, &text[..shown]);
+        put_line(output, &text[..width]);
     }
 }
 
 impl FoundLasso {
-    /// The lasso that a witness of the circuit for the justice property of this number has.
+    /// The lasso in a witness of the circuit for the justice property of this number.
     pub fn new(witness: FoundWitness, made: &Circuit, property: u32) -> FoundLasso
-        ensures { (c : CircuitRecord) → IsWellFormed c → made.now ≡ live property c
-            → result ≡ lasso_within property (length c.latches) (length c.inputs) witness }
+        ensures { result ≡ lasso_in property made.now witness }
     {
-        let (latches, inputs) = own_sizes(made);
         FoundLasso {
             property,
-            latches,
-            inputs,
+            latches: latches_up_to(made.latches.as_slice(), last_input(made)),
+            inputs: made.inputs.len().saturating_sub(1),
             witness,
         }
     }

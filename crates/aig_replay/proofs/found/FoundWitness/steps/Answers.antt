@@ -16,5 +16,7 @@ returns c =
     let size = w.count * w.inputs in
     let end : w.used + size - w.used ≡ size = omega arith in
     let same = ap₂ take end (ap (drop w.used) c.deref.ensures.value) in
-    subst (λ (claim : Claim). SaysSteps w.inputs w.count _ claim.steps) c.self.view_is
-    (subst (λ (bytes : List ℕ). SaysSteps w.inputs w.count bytes (steps_held w.inputs w.count left)) (sym same) said)
+    let text = take (w.used + size - w.used) (drop w.used c.deref.result.now) in
+    let held : SaysSteps w.inputs w.count text (steps_held w.inputs w.count left) =
+    subst (λ (bytes : List ℕ). SaysSteps w.inputs w.count bytes (steps_held w.inputs w.count left)) (sym same) said in
+    subst (λ (claim : Claim). SaysSteps w.inputs w.count text claim.steps) c.self.view_is held
