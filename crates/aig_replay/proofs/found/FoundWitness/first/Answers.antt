@@ -1,4 +1,4 @@
-use Rattle.std.proofs.Common.{◌≡◌, ◌∙◌, List, ℕ, subst}
+use Rattle.std.proofs.Common.{◌≡◌, ◌∙◌, subst}
 use Rattle.aig_step.specs.TraceText.{values_text}
 use Rattle.aig_witness.specs.Witness.{Claim}
 use Rattle.aig_replay.proofs.Keeping.{characters_back}

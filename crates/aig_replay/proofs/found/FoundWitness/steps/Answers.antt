@@ -1,4 +1,4 @@
-use Rattle.std.proofs.Common.{◌≡◌, ◌+◌, ◌*◌, ◌-◌, ◌∙◌, List, ℕ, ap, ap₂, arith, drop, length-drop, subst, sym, take}
+use Rattle.std.proofs.Common.{◌≡◌, ◌+◌, ◌*◌, ◌-◌, List, ℕ, ap, ap₂, arith, drop, length-drop, subst, sym, take}
 use Rattle.aig_witness.specs.Witness.{Claim}
 use Rattle.aig_replay.specs.Finding.{SaysSteps}
 use Rattle.aig_replay.specs.Held.{steps_held}
