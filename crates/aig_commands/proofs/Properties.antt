@@ -1,5 +1,5 @@
 -- What stands for a property of a circuit, and what is known of the circuit by it.
-use Rattle.std.proofs.Common.{◌≡◌, ◌+◌, ◌<◌, ◌∙◌, ℕ, Bool, List, Option, None, Some, ap, ap₂, arith, length, refl, subst}
+use Rattle.std.proofs.Common.{◌≡◌, ◌+◌, ◌<◌, ◌∙◌, ℕ, Bool, List, Option, None, Some, Result, Ok, Err, IfErr, ap, ap₂, arith, length, refl, subst}
 use Rattle.std.proofs.Common.{sym}
 use Rattle.aig_circuit.specs.declared.circuit.Circuit.{Circuit}
 use Rattle.aig_circuit.specs.declared.circuit.TheConstants.{LARGEST}
@@ -41,17 +41,27 @@ model_is_well_formed (Justice number) c has good = made_is_well_formed c number 
 
 -- ---- what an error says
 
-pub no_bad_state : (number : ℕ) (c : Circuit) (stopped : Stopped) → NotSelected (Some number) c stopped
+no_bad_state : (number : ℕ) (c : Circuit) (stopped : Stopped) → NotSelected (Some number) c stopped
     → NotModelled (Bad number) c stopped
 no_bad_state number c stops.OutOfMemory why = why
 no_bad_state number c (stops.Refused fault) why = why
 no_bad_state number c stopped why = why
 
-pub no_justice : (number : ℕ) (c : Circuit) (stopped : Stopped) → MakesNone number c stopped
+no_justice : (number : ℕ) (c : Circuit) (stopped : Stopped) → MakesNone number c stopped
     → NotModelled (Justice number) c stopped
 no_justice number c stops.OutOfMemory why = why
 no_justice number c (stops.Refused fault) why = why
 no_justice number c stopped why = why
+
+pub bad_state_err : (number : ℕ) (c : Circuit) (r : Result Circuit Stopped) → IfErr r (NotSelected (Some number) c)
+    → IfErr r (NotModelled (Bad number) c)
+bad_state_err number c (Ok made) why = tt
+bad_state_err number c (Err stopped) why = no_bad_state number c stopped why
+
+pub justice_err : (number : ℕ) (c : Circuit) (r : Result Circuit Stopped) → IfErr r (MakesNone number c)
+    → IfErr r (NotModelled (Justice number) c)
+justice_err number c (Ok made) why = tt
+justice_err number c (Err stopped) why = no_justice number c stopped why
 
 -- ---- bad states
 
@@ -61,10 +71,6 @@ any_claim claim number some = cc
 pub model_of_bad : (bad : Option ℕ) (c : Circuit) → property_model (bad_property bad) c ≡ selected_of bad c
 model_of_bad None c = refl
 model_of_bad (Some number) c = refl
-
-pub has_bad : (bad : Option ℕ) (c : Circuit) → HasSelected bad c → HasProperty (bad_property bad) c
-has_bad None c has = has
-has_bad (Some number) c has = has
 
 pub bad_had : (bad : Option ℕ) (c : Circuit) → HasProperty (bad_property bad) c → HasSelected bad c
 bad_had None c has = has
