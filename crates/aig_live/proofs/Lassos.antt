@@ -1,9 +1,10 @@
 -- The lasso that is taken out of a witness, and its lines.
-use Rattle.std.proofs.Common.{◌≡◌, ◌+◌, ◌-◌, ◌<◌, ◌≤◌, ◌++◌, ◌∙◌, ℕ, zero, suc, List, [], ◌∷◌, ap, ap₂, arith, cond}
-use Rattle.std.proofs.Common.{codes, false, length, map, nat_lt, refl, slice_index_or, subst, sym, take, true}
+use Rattle.std.proofs.Common.{◌≡◌, ◌+◌, ◌-◌, ◌<◌, ◌≤◌, ◌++◌, ◌∙◌, ℕ, zero, suc, List, [], ◌∷◌, add-one, ap, ap₂, arith}
+use Rattle.std.proofs.Common.{codes, cond, drop, drop-cons, false, get_or, length, map, nat_lt, refl, slice_index_or, subst}
+use Rattle.std.proofs.Common.{sym, take}
 use Rattle.std.specs.List.{AllByRecursion, flat_map}
 use Rattle.std.proofs.lemmas.Bool.{le-ltb, lt-ltb}
-use Rattle.std.proofs.lemmas.List.{length-append, map-append}
+use Rattle.std.proofs.lemmas.List.{length-append, length-map, length-take-le, map-append}
 use Rattle.aig_circuit.specs.declared.circuit.Circuit.{Circuit}
 use Rattle.aig_circuit.specs.declared.circuit.Gate.{Gate}
 use Rattle.aig_circuit.specs.declared.circuit.Latch.{Latch}
@@ -38,6 +39,28 @@ up_to v top (l ∷ ls) back low all =
     let test : nat_lt v l.var ≡ false = le-ltb v l.var (omega (arith, low, all.0.1)) in
     ap (λ b. cond b 0 (latches_up_to v (ls ++ back) + 1)) test
     ∙ omega (arith, up_to v top ls back low all.1)
+
+module _ (v : ℕ) (ls : List Latch) (place : ℕ) (l : Latch) (below : place < length ls) (is : l ≡ get_or ls place l) where
+  next_latch : drop place ls ≡ l ∷ drop (place + 1) ls
+  next_latch =
+      drop-cons ls place l below
+      ∙ ap₂ (λ (k : Latch) (ks : List Latch). k ∷ ks) (sym is) (ap (λ (n : ℕ). drop n ls) (sym (add-one place)))
+
+  pub stops_there : v < l.var → latches_up_to v (drop place ls) ≡ 0
+  stops_there less =
+      ap (latches_up_to v) next_latch
+      ∙ ap (λ b. cond b 0 (latches_up_to v (drop (place + 1) ls) + 1)) (lt-ltb v l.var less)
+
+  pub goes_on : l.var ≤ v → latches_up_to v (drop place ls) ≡ latches_up_to v (drop (place + 1) ls) + 1
+  goes_on low =
+      ap (latches_up_to v) next_latch
+      ∙ ap (λ b. cond b 0 (latches_up_to v (drop (place + 1) ls) + 1)) (le-ltb v l.var low)
+
+pub none_left : (v place : ℕ) (ls : List Latch) → length ls ≤ place → latches_up_to v (drop place ls) ≡ 0
+none_left v zero [] high = refl
+none_left v (suc place) [] high = refl
+none_left v zero (l ∷ ls) high = absurd (omega (arith, high))
+none_left v (suc place) (l ∷ ls) high = none_left v place ls (omega (arith, high))
 
 last_of : (xs : List ℕ) (x : ℕ) → slice_index_or (xs ++ x ∷ []) (length xs) 0 ≡ x
 last_of [] x = refl
@@ -94,20 +117,22 @@ first_characters_of (suc n) (suc k) (v ∷ vs) low fits all =
     (first_characters_of n k vs (omega (arith, low)) (omega (arith, fits))
     (λ less. let more = all (omega (arith, less)) in omega (arith, more)))
 
-but_last : (done left : List (List Val)) → length left ≡ 1 → done ≡ take (length (done ++ left) - 1) (done ++ left)
-but_last [] [] one = absurd (omega (arith, one))
-but_last [] (v ∷ []) one = refl
-but_last [] (v ∷ w ∷ vs) one = absurd (omega (arith, one))
-but_last (d ∷ ds) left one =
-    let rest = but_last ds left one in
-    let size : length (d ∷ ds ++ left) - 1 ≡ suc (length (ds ++ left) - 1) =
-    omega (arith, length-append ds left, one) in
-    ap (λ (xs : List (List Val)). d ∷ xs) rest ∙ ap (λ (n : ℕ). take n (d ∷ ds ++ left)) (sym size)
+but_last : (done left : List (List Val)) → length left ≤ 1 → (length left ≡ 0 → length done ≡ 0)
+    → done ≡ take (length (done ++ left) - 1) (done ++ left)
+but_last [] [] few none = refl
+but_last [] (v ∷ []) few none = refl
+but_last [] (v ∷ w ∷ vs) few none = absurd (omega (arith, few))
+but_last (d ∷ ds) [] few none = absurd (omega (arith, none refl))
+but_last (d ∷ ds) (v ∷ vs) few none =
+    let rest = but_last ds (v ∷ vs) few (λ (no : suc (length vs) ≡ 0). absurd (omega (arith, no))) in
+    let size : suc (length (ds ++ v ∷ vs) - 1) ≡ length (ds ++ v ∷ vs) = omega (arith, length-append ds (v ∷ vs)) in
+    ap (λ (xs : List (List Val)). d ∷ xs) rest ∙ ap (λ (n : ℕ). take n (d ∷ ds ++ v ∷ vs)) size
 
-pub all_but_last : (inputs count step : ℕ) (rest : List ℕ) (all done : List (List Val)) → count ≡ step + 1
-    → AreAppended inputs count step rest all done → done ≡ take (length all - 1) all
-all_but_last inputs count step rest all done last is =
-    but_last done is.left (omega (arith, is.many, last))
+pub all_but_last : (inputs count step : ℕ) (rest : List ℕ) (all done : List (List Val)) → step ≡ count - 1
+    → length all ≡ count → AreAppended inputs count step rest all done → done ≡ take (length all - 1) all
+all_but_last inputs count step rest all done last many is =
+    let size = ap length is.parted ∙ length-append done is.left in
+    but_last done is.left (omega (arith, is.many, last)) (λ none. omega (arith, is.many, last, size, many, none))
     ∙ ap (λ (xs : List (List Val)). take (length xs - 1) xs) (sym is.parted)
 
 module _ {W : Type 0} where
@@ -119,3 +144,17 @@ module _ {W : Type 0} where
       subst (λ (vs : List (List Val)). Appended a c (flat_map step_line vs))
       (sym (map-append (take shown) done (given ∷ [])))
       (line_more a b c (map (take shown) done) (take shown given) text is p q)
+
+-- what is shown of the characters of a step
+pub shown_text : (inputs shown width : ℕ) (text : List ℕ) (given : List Val) → length given ≡ inputs
+    → width ≤ shown → width ≤ inputs → (width < shown → inputs ≤ width) → text ≡ values_text given
+    → take width text ≡ values_text (take shown given)
+shown_text inputs shown width text given long low fits all is =
+    ap (take width) is
+    ∙ first_characters_of shown width given low (omega (arith, long, fits))
+    (λ less. let high = all less in omega (arith, long, high))
+
+pub given_long : (inputs : ℕ) (rest : List ℕ) (given : List Val) → inputs ≤ length rest
+    → take inputs rest ≡ values_text given → length given ≡ inputs
+given_long inputs rest given room is =
+    omega (arith, length-map given character_of, ap length is, length-take-le inputs rest room)

@@ -36,7 +36,8 @@ fn latches_up_to(latches: &[Latch], variable: u32) -> usize
     ensures { result ≡ latches_up_to variable latches.now }
 {
     for place in 0..latches.len() {
-        if variable < latches[place].var.0 {
+        let latch = latches[place];
+        if variable < latch.var.0 {
             return place;
         }
     }
@@ -51,7 +52,8 @@ fn last_input(made: &Circuit) -> u32
     if inputs.is_empty() {
         return 0;
     }
-    inputs[inputs.len() - 1].0
+    let last = inputs[inputs.len() - 1];
+    last.0
 }
 
 /// Puts all steps but the last, of each the first so many inputs.
@@ -61,16 +63,15 @@ fn put_first_steps<W: Sink>(output: &mut Output<W>, shown: usize, steps: HeldSte
         → Appended output.old output.new
         (flat_map step_line (map (take shown) (take (length vectors - 1) vectors))) }
 {
-    if steps.count == 0 {
-        return;
-    }
-    let width = shown.min(steps.inputs);
+    let inputs = steps.inputs;
+    let width = shown.min(inputs);
+    let last = steps.count.saturating_sub(1);
     let mut rest = steps.characters;
-    for step in 0..steps.count - 1 {
-        if rest.len() < steps.inputs {
+    for step in 0..last {
+        if rest.len() < inputs {
             return;
         }
-        let (text, more) = rest.split_at(steps.inputs);
+        let (text, more) = rest.split_at(inputs);
         rest = more;
         put_line(output, &text[..width]);
     }
