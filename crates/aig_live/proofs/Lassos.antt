@@ -1,6 +1,6 @@
 -- The lasso that is taken out of a witness, and its lines.
 use Rattle.std.proofs.Common.{◌≡◌, ◌+◌, ◌-◌, ◌<◌, ◌≤◌, ◌++◌, ◌∙◌, ℕ, zero, suc, List, [], ◌∷◌, add-one, ap, ap₂, arith}
-use Rattle.std.proofs.Common.{codes, cond, drop, drop-cons, false, get_or, length, map, nat_lt, refl, slice_index_or, subst}
+use Rattle.std.proofs.Common.{append_assoc, codes, cond, decimal, drop, drop-cons, false, get_or, length, map, nat_lt, refl, slice_index_or, subst}
 use Rattle.std.proofs.Common.{sym, take}
 use Rattle.std.specs.List.{AllByRecursion, flat_map}
 use Rattle.std.proofs.lemmas.Bool.{le-ltb, lt-ltb}
@@ -11,11 +11,12 @@ use Rattle.aig_circuit.specs.declared.circuit.Latch.{Latch}
 use Rattle.aig_circuit.specs.declared.value.Val.{Val}
 use Rattle.aig_circuit.specs.Wellformed.{IsVariableUpTo, IsWellFormed, defined_variables}
 use Rattle.aig_io.specs.Output.{Appended, Out}
+use Rattle.aig_io.proofs.Puts.{put_twice}
 use Rattle.aig_lasso.specs.Goals.{with_goals}
 use Rattle.aig_step.specs.TraceText.{character_of, values_text}
 use Rattle.aig_witness.specs.Witness.{Claim}
 use Rattle.aig_replay.specs.Parts.{AreAppended}
-use Rattle.aig_replay.specs.WitnessLines.{step_line}
+use Rattle.aig_replay.specs.WitnessLines.{lasso_text, step_line}
 use Rattle.aig_replay.proofs.WitnessPut.{line_more}
 use Rattle.aig_live.specs.FoundLasso.{last_input, lasso_within, latches_up_to}
 use Rattle.aig_live.specs.Laws.{LassosAreInWitnesses, live}
@@ -34,7 +35,7 @@ back_of P (x ∷ xs) ys all = back_of P xs ys all.1
 up_to : (v top : ℕ) (front back : List Latch) → top ≤ v
     → AllByRecursion (IsVariableUpTo top) (map (λ (l : Latch). l.var) front)
     → latches_up_to v (front ++ back) ≡ length front + latches_up_to v back
-up_to v top [] back low all = refl
+up_to v top [] back low all = omega arith
 up_to v top (l ∷ ls) back low all =
     let test : nat_lt v l.var ≡ false = le-ltb v l.var (omega (arith, low, all.0.1)) in
     ap (λ b. cond b 0 (latches_up_to v (ls ++ back) + 1)) test
@@ -76,10 +77,9 @@ module _ (c : Circuit) (property : ℕ) (good : IsWellFormed c) where
 
   low : AllByRecursion (IsVariableUpTo c.max_var) (map (λ (l : Latch). l.var) c.latches)
   low =
-      front_of (IsVariableUpTo c.max_var) (map (λ (l : Latch). l.var) c.latches)
-      (map (λ (g : Gate). g.var) c.gates)
-      (back_of (IsVariableUpTo c.max_var) c.inputs
-      (map (λ (l : Latch). l.var) c.latches ++ map (λ (g : Gate). g.var) c.gates) good.in_range)
+      back_of (IsVariableUpTo c.max_var) c.inputs (map (λ (l : Latch). l.var) c.latches)
+      (front_of (IsVariableUpTo c.max_var) (c.inputs ++ map (λ (l : Latch). l.var) c.latches)
+      (map (λ (g : Gate). g.var) c.gates) good.in_range)
 
   none_new : latches_up_to (c.max_var + 1) (new_latches (with_goals property c)) ≡ 0
   none_new = rw (lt-ltb (c.max_var + 1) (c.max_var + 2) (omega arith)) refl
@@ -125,7 +125,8 @@ but_last [] (v ∷ w ∷ vs) few none = absurd (omega (arith, few))
 but_last (d ∷ ds) [] few none = absurd (omega (arith, none refl))
 but_last (d ∷ ds) (v ∷ vs) few none =
     let rest = but_last ds (v ∷ vs) few (λ (no : suc (length vs) ≡ 0). absurd (omega (arith, no))) in
-    let size : suc (length (ds ++ v ∷ vs) - 1) ≡ length (ds ++ v ∷ vs) = omega (arith, length-append ds (v ∷ vs)) in
+    let size : suc (length (ds ++ v ∷ vs) - 1) ≡ suc (length (ds ++ v ∷ vs)) - 1 =
+    omega (arith, length-append ds (v ∷ vs)) in
     ap (λ (xs : List (List Val)). d ∷ xs) rest ∙ ap (λ (n : ℕ). take n (d ∷ ds ++ v ∷ vs)) size
 
 pub all_but_last : (inputs count step : ℕ) (rest : List ℕ) (all done : List (List Val)) → step ≡ count - 1
@@ -144,6 +145,21 @@ module _ {W : Type 0} where
       subst (λ (vs : List (List Val)). Appended a c (flat_map step_line vs))
       (sym (map-append (take shown) done (given ∷ [])))
       (line_more a b c (map (take shown) done) (take shown given) text is p q)
+
+  pub lasso_put : (a b c d e f h : Out W) (claim : Claim) (first : List ℕ) → first ≡ values_text claim.first
+      → Appended a b (codes "1\nj") → Appended b c (decimal claim.property) → Appended c d (codes "\n")
+      → Appended d e (first ++ codes "\n") → Appended e f (flat_map step_line claim.steps) → Appended f h (codes ".\n")
+      → Appended a h (lasso_text claim)
+  lasso_put a b c d e f h claim first same p q r s t u =
+      let state = values_text claim.first in
+      let steps = flat_map step_line claim.steps in
+      let last : Appended e h (steps ++ codes ".\n") = put_twice e f h steps (codes ".\n") t u in
+      let line : Appended d e (state ++ codes "\n") = subst (λ (x : List ℕ). Appended d e (x ++ codes "\n")) same s in
+      let third : Appended d h (state ++ (codes "\n" ++ (steps ++ codes ".\n"))) =
+      subst (λ (x : List ℕ). Appended d h x) (append_assoc state (codes "\n") (steps ++ codes ".\n"))
+      (put_twice d e h (state ++ codes "\n") (steps ++ codes ".\n") line last) in
+      put_twice a b h (codes "1\nj") _ p
+      (put_twice b c h (decimal claim.property) _ q (put_twice c d h (codes "\n") _ r third))
 
 -- what is shown of the characters of a step
 pub shown_text : (inputs shown width : ℕ) (text : List ℕ) (given : List Val) → length given ≡ inputs

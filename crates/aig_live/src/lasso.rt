@@ -10,7 +10,7 @@ ghost use Rattle.aig_replay.specs.WitnessLines.{lasso_text, step_line};
 
 use aig_circuit::{Circuit, Latch};
 use aig_io::{DeviceFault, Output, Sink};
-use aig_replay::{FoundWitness, HeldSteps, put_line};
+use aig_replay::{FoundWitness, put_line};
 use std::marker::Model;
 
 /// A lasso, in the memory of the witness by which it was found.
@@ -31,13 +31,19 @@ impl Model for FoundLasso {
     ghost view = { λ l. within l.property l.latches l.inputs l.witness };
 }
 
+fn own_variable(latch: &Latch) -> u32
+    ensures { result ≡ latch.now.var }
+{
+    latch.var.0
+}
+
 /// How many latches stand before the first whose variable is behind this one.
 fn latches_up_to(latches: &[Latch], variable: u32) -> usize
     ensures { result ≡ latches_up_to variable latches.now }
 {
     for place in 0..latches.len() {
-        let latch = latches[place];
-        if variable < latch.var.0 {
+        let own = own_variable(&latches[place]);
+        if variable < own {
             return place;
         }
     }
@@ -57,16 +63,20 @@ fn last_input(made: &Circuit) -> u32
 }
 
 /// Puts all steps but the last, of each the first so many inputs.
-fn put_first_steps<W: Sink>(output: &mut Output<W>, shown: usize, steps: HeldSteps<'_>)
-    ensures { (vectors : List (List Value))
-        → SaysSteps steps.inputs steps.count steps.characters.now vectors
+fn put_first_steps<W: Sink>(
+    output: &mut Output<W>,
+    shown: usize,
+    inputs: usize,
+    count: usize,
+    steps: &[u8],
+)
+    ensures { (vectors : List (List Value)) → SaysSteps inputs count steps.now vectors
         → Appended output.old output.new
         (flat_map step_line (map (take shown) (take (length vectors - 1) vectors))) }
 {
-    let inputs = steps.inputs;
     let width = shown.min(inputs);
-    let last = steps.count.saturating_sub(1);
-    let mut rest = steps.characters;
+    let last = count.saturating_sub(1);
+    let mut rest = steps;
     for step in 0..last {
         if rest.len() < inputs {
             return;
@@ -95,11 +105,12 @@ impl FoundLasso {
     {
         let first = self.witness.first();
         let shown = self.latches.min(first.len());
+        let steps = self.witness.steps();
         output.put(b"1\nj");
         output.put_number(u64::from(self.property));
         output.put(b"\n");
         put_line(output, &first[..shown]);
-        put_first_steps(output, self.inputs, self.witness.steps());
+        put_first_steps(output, self.inputs, steps.inputs, steps.count, steps.characters);
         output.put(b".\n");
     }
 

@@ -3,12 +3,12 @@ use Rattle.aig_circuit.specs.declared.circuit.Latch.{Latch}
 use Rattle.aig_live.proofs.Lassos.{goes_on, none_left, stops_there}
 use Rattle.aig_live.proofs.lasso.latches_up_to.Goals as goal
 
-pub returns-then-variable-latch : goal.returns-then-variable-latch
-returns-then-variable-latch c =
+pub returns-then-variable-own : goal.returns-then-variable-own
+returns-then-variable-own c =
     let loop = c.loop-place in
     let l = c.index-latches-place.result in
     let stop = stops_there c.args.variable c.args.latches.now loop.place l c.loop-place-test.true
-    c.index-latches-place.is c.if-variable-latch.true in
+    c.index-latches-place.is (omega (arith, c.own_variable-own.ensures, c.if-variable-own.true)) in
     omega (arith, stop, loop.invariant)
 
 pub loop-place-preserved : goal.loop-place-preserved
@@ -16,7 +16,7 @@ loop-place-preserved c =
     let loop = c.loop-place in
     let l = c.index-latches-place.result in
     let more = goes_on c.args.variable c.args.latches.now loop.place l c.loop-place-test.true
-    c.index-latches-place.is c.if-variable-latch.false in
+    c.index-latches-place.is (omega (arith, c.own_variable-own.ensures, c.if-variable-own.false)) in
     omega (arith, more, loop.invariant)
 
 pub returns : goal.returns
