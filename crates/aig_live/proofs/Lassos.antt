@@ -9,7 +9,7 @@ use Rattle.aig_circuit.specs.declared.circuit.Circuit.{Circuit}
 use Rattle.aig_circuit.specs.declared.circuit.Gate.{Gate}
 use Rattle.aig_circuit.specs.declared.circuit.Latch.{Latch}
 use Rattle.aig_circuit.specs.declared.value.Val.{Val}
-use Rattle.aig_circuit.specs.Wellformed.{IsVariableUpTo, IsWellFormed, defined_variables}
+use Rattle.aig_circuit.specs.Wellformed.{IsVariableUpTo, IsWellFormed}
 use Rattle.aig_io.specs.Output.{Appended, Out}
 use Rattle.aig_io.proofs.Puts.{put_twice}
 use Rattle.aig_lasso.specs.Goals.{with_goals}

@@ -1,4 +1,4 @@
-use Rattle.std.proofs.Common.{◌≡◌, ◌+◌, ◌-◌, ◌<◌, ◌++◌, ◌∙◌, List, [], ◌∷◌, ap, arith, map, subst, take}
+use Rattle.std.proofs.Common.{◌++◌, ◌∙◌, List, [], ◌∷◌, arith, map, subst, take}
 use Rattle.std.specs.List.{flat_map}
 use Rattle.aig_circuit.specs.declared.value.Val.{Val}
 use Rattle.aig_io.specs.Output.{Appended}
