@@ -1,5 +1,5 @@
 -- What stands for a property of a circuit, and what is known of the circuit by it.
-use Rattle.std.proofs.Common.{◌≡◌, ◌+◌, ◌<◌, ◌∙◌, ℕ, Bool, List, Option, None, Some, Result, Ok, Err, IfErr, ap, ap₂, arith, length, refl, subst}
+use Rattle.std.proofs.Common.{◌≡◌, ◌+◌, ◌<◌, ◌≤◌, ◌∙◌, ℕ, Bool, List, Option, None, Some, Result, Ok, Err, IfErr, ap, ap₂, arith, length, refl, subst}
 use Rattle.std.proofs.Common.{sym}
 use Rattle.aig_circuit.specs.declared.circuit.Circuit.{Circuit}
 use Rattle.aig_circuit.specs.declared.circuit.TheConstants.{LARGEST}

@@ -3,7 +3,9 @@ use Rattle.aig_commands.proofs.property.property_model.Goals as goal
 
 pub returns-in-Bad-clause-err : goal.returns-in-Bad-clause-err
 returns-in-Bad-clause-err c =
-    bad_state_err c.in-Bad.number c.args.found c.with_selected_bad.result c.with_selected_bad.ensures.err
+    rw c.in-Bad.is
+    (bad_state_err c.in-Bad.number c.args.found c.with_selected_bad.result c.with_selected_bad.ensures.err)
 
 pub returns-in-Justice-clause-err : goal.returns-in-Justice-clause-err
-returns-in-Justice-clause-err c = justice_err c.in-Justice.number c.args.found c.live.result c.live.ensures.err
+returns-in-Justice-clause-err c =
+    rw c.in-Justice.is (justice_err c.in-Justice.number c.args.found c.live.result c.live.ensures.err)
