@@ -117,8 +117,14 @@ answers_are_lassos request number c selected model answer text is_justice file o
       is.claim,
       lasso.0,
       ap (λ (k : Claim). k.property) claimed.2,
-      omega (arith, size, length-map front (take (length p.found.inputs)), length-take step claimed.0.steps,
-          claimed.1.long, claimed.1.low),
+      omega (
+        arith,
+        size,
+        length-map front (take (length p.found.inputs)),
+        length-take step claimed.0.steps,
+        claimed.1.long,
+        claimed.1.low,
+      ),
       subst (λ (k : Circuit). IsLasso k is.claim lasso.0) (one_circuit model request.max_var p.found c p.read file)
           (subst (λ (k : Claim). IsLasso p.found k lasso.0) (sym claimed.2) lasso.1),
       is.written_as ∙ ap (λ (property : Property). claimed_text property is.claim) is_justice,
