@@ -1,0 +1,4 @@
+pub mod Lines
+pub mod Folds
+pub mod Ends
+pub mod Files
