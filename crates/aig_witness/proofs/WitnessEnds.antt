@@ -82,7 +82,7 @@ module _ (c : Circuit) (few : length c.bad ≤ LARGEST) (source source_now : His
     -- the source failed
     pub cut_off : (fault : DeviceFault) → CameAt longest (Err fault) → Answers (Err stops.ReadFailed)
     cut_off fault r =
-        let right = none_line_wrong r.bytes false r.stands r.refused in
+        let right = no_line_wrong r.bytes false r.stands r.refused in
         let lines = length (judged_lines r.bytes false) in
         record {
           bytes = r.bytes;
@@ -95,7 +95,7 @@ module _ (c : Circuit) (few : length c.bad ≤ LARGEST) (source source_now : His
     pub wrong_behind : CameAt longest (Ok true) → w.due ≢ due.Nothing
         → Answers (Err (stops.Refused (bad_witness f.number)))
     wrong_behind r some =
-        let right = none_line_wrong r.bytes true r.stands r.refused in
+        let right = no_line_wrong r.bytes true r.stands r.refused in
         let lines = length (judged_lines r.bytes true) in
         let first = ap (wrong_line lines true) right.says ∙ one_missing lines w right.said right.has_state.1 some
         ∙ ap (λ (n : ℕ). Some n) (sym right.number) in
@@ -122,7 +122,7 @@ module _ (c : Circuit) (few : length c.bad ≤ LARGEST) (source source_now : His
     pub judged : (v : Verdict) → CameAt longest (Ok true) → w.due ≡ due.Nothing → v ≡ verdict_of w.search.found
         → Answers (Ok v)
     judged v r none is =
-        let right = none_line_wrong r.bytes true r.stands r.refused in
+        let right = no_line_wrong r.bytes true r.stands r.refused in
         let judged = whole v r.bytes right.said right.has_state.1 none right.has_state.0 right.says is in
         record { bytes = r.bytes; ending = AtEnd; says = (refl, judged); came = r.history }
 
