@@ -1,6 +1,6 @@
 -- What comes of the bytes of a witness file of either kind.
-use Rattle.std.proofs.Common.{◌≡◌, ◌≢◌, ◌∙◌, ◌+◌, ◌≤◌, ◌⊎◌, ℕ, List, [], Bool, true, false, None, Some, IfSome, Option, Result, Ok}
-use Rattle.std.proofs.Common.{Err, ap, arith, inl, inr, length, refl, subst, sym}
+use Rattle.std.proofs.Common.{◌≡◌, ◌≢◌, ◌∙◌, ◌+◌, ◌≤◌, ◌⊎◌, ℕ, List, [], Bool, true, false, None, Some, IfSome, Option}
+use Rattle.std.proofs.Common.{Result, Ok, Err, ap, arith, inl, inr, length, refl, subst, sym}
 use Rattle.aig_circuit.specs.declared.circuit.Circuit.{Circuit}
 use Rattle.aig_circuit.specs.declared.circuit.TheConstants.{LARGEST}
 use Rattle.aig_fault.specs.declared.stopped.Stopped.{Stopped}
@@ -20,8 +20,8 @@ use Rattle.aig_meaning.specs.Trace.{IsTrace}
 use Rattle.aig_verdicts.proofs.Folds.{folded_all}
 use Rattle.aig_verdicts.specs.Judged.{JudgedBadState, JudgedJustice, WitnessSays}
 use Rattle.aig_verdicts.specs.Kinds.{SaysJustice, first_bad_file_line, is_of_justice, shape_by, shape_if}
-use Rattle.aig_verdicts.specs.Parts.Reading.{FileSays, HoldsClaim, IsDone, IsOfClaim, IsRead, IsReadOf, IsReading, Reading}
-use Rattle.aig_verdicts.specs.Parts.Reading.{StandsIn, NotJudged, ReadingState, reading_state, reading_step, run_of}
+use Rattle.aig_verdicts.specs.Parts.Reading.{FileSays, HoldsClaim, IsDone, IsOfClaim, IsRead, IsReadOf, IsReading}
+use Rattle.aig_verdicts.specs.Parts.Reading.{Reading, StandsIn, NotJudged, ReadingState, reading_state, reading_step, run_of}
 use Rattle.aig_verdicts.specs.declared.reader.Stage.TheVariants as stage
 use Rattle.aig_verdicts.specs.declared.verdict.WitnessVerdict.{WitnessVerdict}
 use Rattle.aig_verdicts.specs.declared.verdict.WitnessVerdict.TheVariants.{BadState, Justice}
@@ -29,8 +29,8 @@ use Rattle.aig_witness.proofs.WitnessEnds.{same_shape, verdict_too}
 use Rattle.aig_witness.proofs.WitnessState.{IsRight, none_wrong, one_wrong}
 use Rattle.aig_witness.specs.Confirming.{bad_witness}
 use Rattle.aig_witness.specs.Parts.Witnessing.{longest_line, verdict_of}
-use Rattle.aig_witness.specs.Witness.{Claim, IsVerdict, IsVerdictOf, Nothing, Property, Said, Says, Shape, Steps, Version, Whole}
-use Rattle.aig_witness.specs.Witness.{first_bad_line, missing_line, shape_of, witness_of, wrong_line}
+use Rattle.aig_witness.specs.Witness.{Claim, IsVerdict, IsVerdictOf, Nothing, Property, Said, Says, Shape, Steps}
+use Rattle.aig_witness.specs.Witness.{Version, Whole, first_bad_line, missing_line, shape_of, witness_of, wrong_line}
 use Rattle.aig_witness.specs.declared.checker.Due.TheVariants as due
 use Rattle.aig_witness.specs.declared.verdict.Verdict.{Verdict}
 
@@ -218,8 +218,7 @@ module _ (c : Circuit) (r : Reading) (bytes : List ℕ) (is : IsReadOf c r bytes
       → WitnessSays c (Ok (BadState v)) bytes AtEnd
   bad_judged v stage_is found =
       let kind = is_bad (is_of_justice bytes true) refl stage_is in
-      let follows = (stands_here false kind).stands.1 in
-      (
+      let follows = (stands_here false kind).stands.1 in (
         refl,
         none_wrong_here,
         record {
@@ -238,7 +237,7 @@ module _ (c : Circuit) (r : Reading) (bytes : List ℕ) (is : IsReadOf c r bytes
   is_held holds None same = tt
   is_held holds (Some run) same =
       let run_is = subst (λ (o : Option StartedRun). IfSome o (λ run. run
-          ≡ run_of (length r.checker.circuit.inputs) claim)) same holds.held in
+      ≡ run_of (length r.checker.circuit.inputs) claim)) same holds.held in
       record {
         property = sym holds.property;
         first = ap (λ (s : StartedRun). s.first) run_is;
@@ -249,8 +248,7 @@ module _ (c : Circuit) (r : Reading) (bytes : List ℕ) (is : IsReadOf c r bytes
       → ((k : Claim) → IfSome r.held (IsOfClaim r.property k) → IsLassoVerdict c k v)
       → WitnessSays c (Ok (Justice v)) bytes AtEnd
   justice_judged v other verdict =
-      let kind = not_bad (is_of_justice bytes true) refl other in
-      (
+      let kind = not_bad (is_of_justice bytes true) refl other in (
         refl,
         none_wrong_here,
         record {

@@ -1,7 +1,7 @@
 -- Telling the lines of a witness file is saying what they say, by its kind.
 use Rattle.std.proofs.Common.{◌≡◌, ◌+◌, ◌<◌, ◌≤◌, ◌∷◌, ◌∙◌, if◌then◌else◌, rules, ℕ, suc, List, [], Bool, true, false}
-use Rattle.std.proofs.Common.{Option, None, Some, Result, Ok, Err, ap, arith, bytes_eq, codes, length, nat_le, option_map}
-use Rattle.std.proofs.Common.{refl, subst, sym}
+use Rattle.std.proofs.Common.{Option, None, Some, Result, Ok, Err, ap, arith, bytes_eq, codes, length, nat_le}
+use Rattle.std.proofs.Common.{option_map, refl, subst, sym}
 use Rattle.std.proofs.lemmas.Bool.{cases_lt, le-leb, lt-leb}
 use Rattle.aig_circuit.specs.declared.circuit.Circuit.{Circuit}
 use Rattle.aig_circuit.specs.declared.circuit.TheConstants.{LARGEST}
@@ -10,7 +10,8 @@ use Rattle.aig_lines.specs.Feeding.{Folded, Turn, checked_line, fold_lines, fold
 use Rattle.aig_lines.specs.Lines.{Line}
 use Rattle.aig_step.specs.Stimulus.{Entry, Step, Stop, entry_in, text_of}
 use Rattle.aig_verdicts.specs.Kinds.{are_of_justice, begins_with, shape_if}
-use Rattle.aig_verdicts.specs.Parts.Reading.{ReadingState, kind_with, reading_state, reading_step, reading_turn, said_in}
+use Rattle.aig_verdicts.specs.Parts.Reading.{ReadingState, kind_with, reading_state, reading_step, reading_turn}
+use Rattle.aig_verdicts.specs.Parts.Reading.{said_in}
 use Rattle.aig_witness.proofs.WitnessState.{IsSaid, long_due}
 use Rattle.aig_witness.specs.Parts.Witnessing.{longest_line}
 use Rattle.aig_witness.specs.Witness.{Claim, Nothing, Property, Said, Steps, Version, Whole, begun_at, first_state_in}
@@ -146,7 +147,8 @@ module _ (c : Circuit) (justices : ℕ) where
         let same : suc number + length ls ≡ next = omega arith in
         let rest = said_rest (said_in c justices justice said text) justice now kind said number next ls
         (leads justice kind said l ls is)
-        (λ s so. subst (λ (n : ℕ). AreOne now kind s (suc number) n ls) same (folded_said ls now kind s (suc number) so)) in
+        (λ s so. subst (λ (n : ℕ). AreOne now kind s (suc number) n ls) same
+        (folded_said ls now kind s (suc number) so)) in
         subst (IsSaid (reading_state c justices kind) next (said_by (shape_if justices c kind) number said (l ∷ ls)))
         (ap on (sym (checked_is justice said text)))
         (subst (λ (o : Option Said). IsSaid (reading_state c justices kind) next

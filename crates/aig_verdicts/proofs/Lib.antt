@@ -1,3 +1,4 @@
+pub mod Held
 pub mod Lines
 pub mod Folds
 pub mod Ends

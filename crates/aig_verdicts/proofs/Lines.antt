@@ -1,5 +1,5 @@
 -- Lines of a witness file of either kind, and what follows them.
-use Rattle.std.proofs.Common.{◌≡◌, ◌≢◌, ◌<◌, ◌++◌, ◌∷◌, ◌∙◌, ◌⊎◌, ℕ, List, [], Bool, true, false, Option, None, Some, IfSome}
+use Rattle.std.proofs.Common.{◌≡◌, ◌<◌, ◌++◌, ◌∷◌, ◌∙◌, ◌⊎◌, ℕ, List, [], Bool, true, false, Option, None, Some, IfSome}
 use Rattle.std.proofs.Common.{ap, ap₂, inl, inr, length, option_map, refl, subst, sym}
 use Rattle.aig_circuit.specs.declared.circuit.Circuit.{Circuit}
 use Rattle.aig_circuit.specs.declared.value.Val.{Val}
@@ -8,8 +8,8 @@ use Rattle.aig_lines.specs.Feeding.{TookTurn}
 use Rattle.aig_step.proofs.LineValues.{vector_says}
 use Rattle.aig_step.specs.Stimulus.{Entry, Step, Stop, entry_in}
 use Rattle.aig_verdicts.specs.Kinds.{begins_with, shape_if}
-use Rattle.aig_verdicts.specs.Parts.Reading.{HoldsClaim, IsReading, IsSame, Reading, ReadingState, StandsAtBad, StandsIn}
-use Rattle.aig_verdicts.specs.Parts.Reading.{TookAs, TookEntry, TookFirstState, TookLine, TookProperty, TookStep}
+use Rattle.aig_verdicts.specs.Parts.Reading.{HoldsClaim, IsReading, IsSame, Reading, ReadingState, StandsAtBad}
+use Rattle.aig_verdicts.specs.Parts.Reading.{StandsIn, TookAs, TookEntry, TookFirstState, TookLine, TookProperty, TookStep}
 use Rattle.aig_verdicts.specs.Parts.Reading.{kind_with, reading_step, reading_turn, run_of, said_in, with_step}
 use Rattle.aig_verdicts.specs.declared.reader.Stage.TheVariants as stage
 use Rattle.aig_witness.proofs.Witnessing.{property_read}

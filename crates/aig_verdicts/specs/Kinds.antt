@@ -1,5 +1,5 @@
--- Witness files of justice properties (this project's profile): like those of bad states, but the second line is `j` with
--- the number of a justice property. The second line of a file decides which of the two it is.
+-- Witness files of justice properties (this project's profile): like those of bad states, but the second line is `j`
+-- with the number of a justice property. The second line of a file decides which of the two it is.
 use Rattle.std.specs.Prelude.{ℕ, List, [], ◌∷◌, ◌==◌, Bool, true, false, Option, length, map}
 use Rattle.aig_circuit.specs.declared.circuit.Circuit.{Circuit}
 use Rattle.aig_circuit.specs.declared.circuit.Latch.{Latch}

@@ -6,7 +6,8 @@ use Rattle.aig_lasso.specs.Lasso.{IsLasso}
 use Rattle.aig_verdicts.specs.Kinds.{SaysJustice}
 use Rattle.aig_witness.specs.Witness.{Claim}
 
--- each claim that is a lasso of a well-formed circuit, and of a justice property that it has, is said by some witness file
+-- each claim that is a lasso of a well-formed circuit, and of a justice property that it has, is said by some witness
+-- file
 abbrev pub LassosHaveFiles : Type 0
 LassosHaveFiles = (c : Circuit) (claim : Claim) (start : ℕ) → IsWellFormed c → claim.property < length c.justice.sizes
     → IsLasso c claim start → (bytes : List ℕ) × SaysJustice c bytes claim

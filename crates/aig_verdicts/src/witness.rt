@@ -42,11 +42,7 @@ fn read_all<R: Source>(
 }
 
 /// The verdict on a file that was read, each line of which is right.
-fn judge_read(
-    alloc: Global,
-    checked: &Checked,
-    reader: &Reader,
-) -> Result<WitnessVerdict, Stopped>
+fn judge_read(alloc: Global, checked: &Checked, reader: &Reader) -> Result<WitnessVerdict, Stopped>
     ensures { (bytes : List ℕ) → IsReadOf checked.now reader.now bytes
         → WitnessSays checked.now result bytes AtEnd }
 {

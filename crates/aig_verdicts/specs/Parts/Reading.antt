@@ -1,6 +1,6 @@
 -- How far a witness file of either kind was read. Only private functions cite this.
-use Rattle.std.specs.Prelude.{◌≡◌, ◌⊎◌, ◌<◌, ◌++◌, ℕ, List, [], ◌∷◌, Bool, true, false, Option, None, Some, IfSome, Result}
-use Rattle.std.specs.Prelude.{◌≤◌, Ok, Err, length}
+use Rattle.std.specs.Prelude.{◌≡◌, ◌⊎◌, ◌<◌, ◌++◌, ℕ, List, [], ◌∷◌, Bool, true, false, Option, None, Some, IfSome}
+use Rattle.std.specs.Prelude.{Result, ◌≤◌, Ok, Err, length}
 use Rattle.aig_circuit.specs.declared.circuit.Circuit.{Circuit}
 use Rattle.aig_circuit.specs.declared.value.Val.{Val}
 use Rattle.aig_fault.specs.declared.stopped.Stopped.{Stopped}
@@ -21,8 +21,8 @@ use Rattle.aig_witness.specs.Witness.{Claim, Nothing, Property, Said, Says, Step
 use Rattle.aig_witness.specs.Witness.{first_state_in, property_by, said_with, shape_of}
 use Rattle.aig_witness.specs.declared.checker.Due.TheVariants as due
 
--- what reads: the checker of a bad state, how many justice properties there are, which lines are due, and what was said of
--- one of them so far
+-- what reads: the checker of a bad state, how many justice properties there are, which lines are due, and what was said
+-- of one of them so far
 pub record Reading : Type 0 where
   pub checker : Witnessing
   pub justices : ℕ
