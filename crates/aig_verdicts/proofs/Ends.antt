@@ -15,12 +15,11 @@ use Rattle.aig_lasso.specs.declared.verdict.LassoVerdict.{LassoVerdict}
 use Rattle.aig_lines.specs.Feeders.{Feeder, FoldedSource, HasFoldedLines}
 use Rattle.aig_lines.specs.Feeding.{fold_lines}
 use Rattle.aig_lines.specs.Texts.{judged_lines}
-use Rattle.aig_meaning.specs.Meaning.{MeansTheSame}
 use Rattle.aig_meaning.specs.Trace.{IsTrace}
 use Rattle.aig_verdicts.proofs.Folds.{folded_all}
 use Rattle.aig_verdicts.specs.Judged.{JudgedBadState, JudgedJustice, WitnessSays}
 use Rattle.aig_verdicts.specs.Kinds.{SaysJustice, first_bad_file_line, is_of_justice, shape_by, shape_if}
-use Rattle.aig_verdicts.specs.Parts.Reading.{FileSays, HoldsClaim, IsDone, IsOfClaim, IsRead, IsReadOf, IsReading}
+use Rattle.aig_verdicts.specs.Parts.Reading.{FileSays, HoldsClaim, IsDone, IsLike, IsOfClaim, IsReadOf, IsReading}
 use Rattle.aig_verdicts.specs.Parts.Reading.{Reading, StandsIn, NotJudged, ReadingState, reading_state, reading_step, run_of}
 use Rattle.aig_verdicts.specs.declared.reader.Stage.TheVariants as stage
 use Rattle.aig_verdicts.specs.declared.verdict.WitnessVerdict.{WitnessVerdict}
@@ -164,13 +163,13 @@ module _ (c : Circuit) (justices : ℕ) (few : length c.bad ≤ LARGEST) (few_ju
       }
 
 -- circuits that mean the same, with as many bad states, have the same witness files
-module _ (c d : Circuit) (means : MeansTheSame c d) (bad : length d.bad ≡ length c.bad) where
+module _ (c d : Circuit) (like : IsLike c d) where
   abbrev justices : ℕ
   justices = length c.justice.sizes
 
   shape_too : (kind : Bool) → shape_if justices d kind ≡ shape_if justices c kind
-  shape_too true = rw (means.resets, means.inputs) refl
-  shape_too false = same_shape c d means bad
+  shape_too true = rw (like.means.resets, like.means.inputs) refl
+  shape_too false = same_shape c d like.means like.bad
 
   wrong_too : (bytes : List ℕ) (ended : Bool)
       → first_bad_line (shape_by justices d bytes ended) bytes ended ≡ first_bad_file_line c bytes ended
@@ -197,7 +196,7 @@ module _ (c : Circuit) (r : Reading) (bytes : List ℕ) (is : IsReadOf c r bytes
   claim = is.read.claim
 
   says_here : (kind : Bool) → is_of_justice bytes true ≡ kind → Says (shape_if count c kind) bytes claim
-  says_here kind same = says_if c is.circuit is.means is.bad kind bytes claim
+  says_here kind same = says_if c is.circuit is.like kind bytes claim
       (subst (λ (k : Bool). Says (shape_if count is.circuit k) bytes claim) same is.read.says)
 
   none_wrong_here : first_bad_file_line c bytes true ≡ None
@@ -224,7 +223,7 @@ module _ (c : Circuit) (r : Reading) (bytes : List ℕ) (is : IsReadOf c r bytes
         record {
           claim = claim;
           says = says_here false kind;
-          is_verdict = verdict_too c is.circuit is.means is.bad claim v (record {
+          is_verdict = verdict_too c is.circuit is.like.means is.like.bad claim v (record {
             rows = follows.rows;
             trace = subst (λ (d : Circuit). IsTrace d claim.first claim.steps follows.rows) is.read.same.circuit
                 follows.trace;

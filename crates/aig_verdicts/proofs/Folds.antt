@@ -18,12 +18,12 @@ use Rattle.aig_witness.specs.Witness.{Claim, Nothing, Property, Said, Steps, Ver
 use Rattle.aig_witness.specs.Witness.{property_by, said_behind, said_by, said_with, shape_of, with_entry}
 
 -- the kind of a file by its second line, where there is one
-kind_second : Bool → List Line → Bool
+pub kind_second : Bool → List Line → Bool
 kind_second justice [] = justice
 kind_second justice (l ∷ ls) = begins_with 106 (text_of l)
 
 -- the kind of a file by what was said and the lines behind that
-kind_by : Bool → Said → List Line → Bool
+pub kind_by : Bool → Said → List Line → Bool
 kind_by justice Nothing [] = justice
 kind_by justice Nothing (l ∷ ls) = kind_second justice ls
 kind_by justice Version ls = kind_second justice ls

@@ -1,4 +1,4 @@
-pub mod Held
+pub mod HeldClaims
 pub mod Lines
 pub mod Folds
 pub mod Ends

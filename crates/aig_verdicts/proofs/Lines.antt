@@ -75,8 +75,8 @@ module _ (r v : Reading) (text : List ℕ) where
       → (result ≡ true → TookProperty r v text) → (result ≡ false → property_by 106 r.justices text ≡ None)
       → (result ≡ false → v ≡ r)
       → TookLine r v false k Version result (said_with (shape_if r.justices c k) Version text)
-  named false result is yes stands good bad stays = cc
-  named true true is yes stands good bad stays =
+  named false result is begins stands good bad stays = cc
+  named true true is begins stands good bad stays =
       let took = good refl in
       subst (λ (o : Option ℕ). TookLine r v false true Version true (option_map Property o)) (sym took.said) (
         refl,
@@ -91,7 +91,7 @@ module _ (r v : Reading) (text : List ℕ) where
               (property_read 106 r.justices text took.property took.said).below,
         ),
       )
-  named true false is yes stands good bad stays =
+  named true false is begins stands good bad stays =
       let same = stays refl in
       subst (λ (o : Option ℕ). TookLine r v false true Version false (option_map Property o)) (sym (bad refl)) (
         refl,

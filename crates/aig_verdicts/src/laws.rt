@@ -3,7 +3,6 @@ ghost use Rattle.aig_verdicts.specs.Laws.{LassosHaveFiles};
 
 /// Each claim of a justice property that can be made of a well-formed circuit, by a trace of it, is
 /// said by the witness file that has its texts.
-#[tactic(auto, using(crate::proofs::Files::lassos_have_files))]
 pub fn lassos_have_files()
     ensures { LassosHaveFiles }
 {}

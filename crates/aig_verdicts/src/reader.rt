@@ -126,6 +126,19 @@ impl Reader {
         true
     }
 
+    /// Whether the line is due that names the property, and begins as that of a justice property.
+    fn names_justice(&self, text: &[u8]) -> bool
+        ensures due { result ≡ true → self.now.checker.due ≡ due.Property }
+        ensures yes { result ≡ true → begins_with 106 text.now ≡ true }
+        ensures no { result ≡ false → self.now.checker.due ≡ due.Property
+            → begins_with 106 text.now ≡ false }
+    {
+        if !self.checker.awaits_property() {
+            return false;
+        }
+        begins_with_j(text)
+    }
+
     /// Takes a line while no justice property is named, and answers whether it is good.
     fn take_early(&mut self, text: &[u8]) -> bool
         requires { self.old.checker.search.steps < 2 ^ 64 - 1 }
@@ -134,10 +147,8 @@ impl Reader {
         ensures counted { self.new.checker.search.steps
             ≤ self.old.checker.search.steps + (if result then 1 else 0) }
     {
-        if self.checker.awaits_property() {
-            if begins_with_j(text) {
-                return self.take_property(text);
-            }
+        if self.names_justice(text) {
+            return self.take_property(text);
         }
         self.checker.take(text)
     }
@@ -194,7 +205,6 @@ impl Reader {
     }
 
     /// Takes a line, and answers whether it is one that is due.
-    #[tactic(auto, using(crate::proofs::Lines::took_first_state, crate::proofs::Lines::took_entry, crate::proofs::Lines::took_nothing))]
     fn take_line(&mut self, text: &[u8]) -> bool
         requires { self.old.checker.search.steps < 2 ^ 64 - 1 }
         ensures took { (justice : Bool) (said : Said)

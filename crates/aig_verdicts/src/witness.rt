@@ -1,10 +1,11 @@
 //! A witness file of either kind, judged for a circuit.
 ghost use Rattle.std.specs.Prelude.{◌≡◌, ◌≤◌, ℕ, List, length};
 ghost use Rattle.aig_circuit.specs.declared.circuit.TheConstants.{LARGEST};
-ghost use Rattle.aig_io.specs.Runs.{AtEnd, Read};
+ghost use Rattle.aig_circuit.specs.declared.circuit.Circuit.{Circuit as CircuitRecord};
+ghost use Rattle.aig_io.specs.Runs.{AtEnd, Ending, Read};
 ghost use Rattle.aig_lines.specs.Feeders.{IsInitial};
 ghost use Rattle.aig_verdicts.specs.Judged.{WitnessSays};
-ghost use Rattle.aig_verdicts.specs.Parts.Reading.{FileSays, IsBegun, IsReadOf};
+ghost use Rattle.aig_verdicts.specs.Parts.Reading.{FileSays, IsBegun, IsLike, IsReadOf};
 ghost use Rattle.aig_witness.specs.Parts.Witnessing.{longest_line};
 ghost use Rattle.aig_witness.specs.Witness.{shape_of};
 
@@ -55,6 +56,24 @@ fn judge_read(alloc: Global, checked: &Checked, reader: &Reader) -> Result<Witne
     }
 }
 
+/// The same, if the file was read.
+fn judge_if_read(
+    alloc: Global,
+    checked: &Checked,
+    reader: &Reader,
+    read: Result<(), Stopped>,
+) -> Result<WitnessVerdict, Stopped>
+    ensures { (circuit : CircuitRecord) (bytes : List ℕ) (ending : Ending)
+        → IsLike checked.now circuit
+        → FileSays circuit (length checked.now.justice.sizes) reader.now read bytes ending
+        → WitnessSays checked.now result bytes ending }
+{
+    match read {
+        Ok(()) => judge_read(alloc, checked, reader),
+        Err(stopped) => Err(stopped),
+    }
+}
+
 /// Reads a witness file, of a bad state or of a justice property, and tells whether the circuit's
 /// trace confirms what it claims: that the bad state is reached, or that the trace is a lasso that
 /// meets the goals of the property. The whole file is judged before there is a verdict. For a bad
@@ -76,10 +95,7 @@ pub fn judge_witness<R: Source>(
     };
     let read = read_all(&mut feeder, &mut reader, source);
     drop(feeder); // for the proof
-    let judged = match read {
-        Ok(()) => judge_read(alloc, checked, &reader),
-        Err(stopped) => Err(stopped),
-    };
+    let judged = judge_if_read(alloc, checked, &reader, read);
     drop(reader); // for the proof
     judged
 }

@@ -185,9 +185,13 @@ FileSays c justices r (Err stops.ReadFailed) bytes ending =
     (ending ≡ Broken) × (first_bad_line (shape_by justices c bytes false) bytes false ≡ None)
 FileSays c justices r (Err stops.WriteFailed) bytes ending = ⊥
 
--- it is a file of this circuit, as it means the same as the one that was followed
+-- the circuits mean the same, and have as many bad states
+pub record IsLike (c d : Circuit) : Type 0 where
+  pub means : MeansTheSame c d
+  pub bad : length d.bad ≡ length c.bad
+
+-- it is a file of this circuit, as it is like the one that was followed
 pub record IsReadOf (c : Circuit) (r : Reading) (bytes : List ℕ) : Type 0 where
   pub circuit : Circuit
-  pub means : MeansTheSame c circuit
-  pub bad : length circuit.bad ≡ length c.bad
+  pub like : IsLike c circuit
   pub read : IsRead circuit (length c.justice.sizes) r bytes
