@@ -27,7 +27,8 @@ use Rattle.aig_step.specs.Stimulus.{judged_lines, text_of, without_return}
 use Rattle.aig_step.specs.TraceText.{values_text, character_of}
 use Rattle.aig_witness.specs.Laws.{FirstWrongLinesAreFound, OneVerdict, ClaimsHaveFiles}
 use Rattle.aig_witness.specs.Witness.{Nothing, Property, Said, Shape, Steps, Version, Whole, is_whole, said_behind}
-use Rattle.aig_witness.specs.Witness.{said_with, shape_of, wrong_line, IsVerdictOf, is_canonical, Claim, Says, SaysClaim}
+use Rattle.aig_witness.specs.Witness.{said_with, shape_of, wrong_line, IsVerdictOf, is_canonical, Claim, Says}
+use Rattle.aig_witness.specs.Witness.{SaysClaim}
 use Rattle.aig_witness.specs.WrongLine.{HaveEnd, IsFirstWrong}
 use Rattle.aig_witness.specs.declared.search.StepSearch.{StepSearch}
 use Rattle.aig_witness.specs.declared.verdict.Verdict.{Verdict}

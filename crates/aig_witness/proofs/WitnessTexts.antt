@@ -241,7 +241,8 @@ pub record AreTexts (shape : Shape) (bytes : List ℕ) (claim : Claim) : Type 0 
   pub each : AllByRecursion (λ (given : List Val). length given ≡ shape.inputs) claim.steps
   pub texts : map text_of (lines_of bytes) ≡ property_texts shape.letter digits claim
 
-named_too : (letter count : ℕ) (digits : List ℕ) → property_by letter count (letter ∷ digits) ≡ number_below count digits
+named_too : (letter count : ℕ) (digits : List ℕ)
+    → property_by letter count (letter ∷ digits) ≡ number_below count digits
 named_too letter count digits =
     ap (λ (b : Bool). if b then number_below count digits else None) (eq-eqb letter letter refl)
 

@@ -27,8 +27,8 @@ pub record Claim : Type 0 where
   pub first : List Val
   pub steps : List (List Val)
 
--- what decides which lines a witness file may have: the letter of the properties that it may name, how many of them there
--- are, and the resets and the number of inputs of the circuit
+-- what decides which lines a witness file may have: the letter of the properties that it may name, how many of them
+-- there are, and the resets and the number of inputs of the circuit
 pub record Shape : Type 0 where
   pub letter : ℕ
   pub properties : ℕ

@@ -23,11 +23,15 @@ fn verdict(alloc: Global, file: &[u8]) -> Option<Result<WitnessVerdict, Stopped>
 /// The line that is wrong or missing.
 fn bad_line(alloc: Global, file: &[u8]) -> Option<u64> {
     match verdict(alloc, file)? {
-        Err(Stopped::Refused(Fault {
-            kind: Kind::BadWitness,
-            place: Place::Line(line),
-            ..
-        })) => Some(line),
+        Err(
+            Stopped::Refused(
+                Fault {
+                    kind: Kind::BadWitness,
+                    place: Place::Line(line),
+                    ..
+                },
+            ),
+        ) => Some(line),
         _ => None,
     }
 }
