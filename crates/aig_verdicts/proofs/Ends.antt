@@ -1,5 +1,5 @@
 -- What comes of the bytes of a witness file of either kind.
-use Rattle.std.proofs.Common.{◌≡◌, ◌≢◌, ◌∙◌, ◌+◌, ◌≤◌, ◌⊎◌, ℕ, List, [], Bool, true, false, None, Some, IfSome, Option}
+use Rattle.std.proofs.Common.{◌≡◌, ◌≢◌, ◌∙◌, ◌+◌, ◌≤◌, ℕ, List, Bool, true, false, None, Some, IfSome, Option}
 use Rattle.std.proofs.Common.{Result, Ok, Err, ap, arith, inl, inr, length, refl, subst, sym}
 use Rattle.aig_circuit.specs.declared.circuit.Circuit.{Circuit}
 use Rattle.aig_circuit.specs.declared.circuit.TheConstants.{LARGEST}
@@ -17,19 +17,19 @@ use Rattle.aig_lines.specs.Feeding.{fold_lines}
 use Rattle.aig_lines.specs.Texts.{judged_lines}
 use Rattle.aig_meaning.specs.Trace.{IsTrace}
 use Rattle.aig_verdicts.proofs.Folds.{folded_all}
-use Rattle.aig_verdicts.specs.Judged.{JudgedBadState, JudgedJustice, WitnessSays}
-use Rattle.aig_verdicts.specs.Kinds.{SaysJustice, first_bad_file_line, is_of_justice, shape_by, shape_if}
+use Rattle.aig_verdicts.specs.Judged.{WitnessSays}
+use Rattle.aig_verdicts.specs.Kinds.{first_bad_file_line, is_of_justice, shape_by, shape_if}
 use Rattle.aig_verdicts.specs.Parts.Reading.{FileSays, HoldsClaim, IsDone, IsLike, IsOfClaim, IsReadOf, IsReading}
-use Rattle.aig_verdicts.specs.Parts.Reading.{Reading, StandsIn, NotJudged, ReadingState, reading_state, reading_step, run_of}
+use Rattle.aig_verdicts.specs.Parts.Reading.{Reading, StandsIn, NotJudged, ReadingState, reading_state, reading_step}
+use Rattle.aig_verdicts.specs.Parts.Reading.{run_of}
 use Rattle.aig_verdicts.specs.declared.reader.Stage.TheVariants as stage
-use Rattle.aig_verdicts.specs.declared.verdict.WitnessVerdict.{WitnessVerdict}
 use Rattle.aig_verdicts.specs.declared.verdict.WitnessVerdict.TheVariants.{BadState, Justice}
 use Rattle.aig_witness.proofs.WitnessEnds.{same_shape, verdict_too}
 use Rattle.aig_witness.proofs.WitnessState.{IsRight, none_wrong, one_wrong}
 use Rattle.aig_witness.specs.Confirming.{bad_witness}
 use Rattle.aig_witness.specs.Parts.Witnessing.{longest_line, verdict_of}
-use Rattle.aig_witness.specs.Witness.{Claim, IsVerdict, IsVerdictOf, Nothing, Property, Said, Says, Shape, Steps}
-use Rattle.aig_witness.specs.Witness.{Version, Whole, first_bad_line, missing_line, shape_of, witness_of, wrong_line}
+use Rattle.aig_witness.specs.Witness.{Claim, IsVerdictOf, Nothing, Property, Said, Says, Shape, Steps}
+use Rattle.aig_witness.specs.Witness.{Version, Whole, first_bad_line, missing_line, shape_of, wrong_line}
 use Rattle.aig_witness.specs.declared.checker.Due.TheVariants as due
 use Rattle.aig_witness.specs.declared.verdict.Verdict.{Verdict}
 

@@ -1,6 +1,5 @@
 -- A lasso that is claimed is written in a file.
-use Rattle.std.proofs.Common.{◌<◌, ◌^◌, arith, length}
-use Rattle.aig_circuit.specs.declared.circuit.Circuit.{Circuit}
+use Rattle.std.proofs.Common.{arith, length}
 use Rattle.aig_lasso.specs.Goals.{with_goals}
 use Rattle.aig_verdicts.specs.Kinds.{justice_shape}
 use Rattle.aig_verdicts.specs.Laws.{LassosHaveFiles}

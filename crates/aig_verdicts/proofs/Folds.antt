@@ -1,12 +1,12 @@
 -- Telling the lines of a witness file is saying what they say, by its kind.
 use Rattle.std.proofs.Common.{◌≡◌, ◌+◌, ◌<◌, ◌≤◌, ◌∷◌, ◌∙◌, if◌then◌else◌, rules, ℕ, suc, List, [], Bool, true, false}
-use Rattle.std.proofs.Common.{Option, None, Some, Result, Ok, Err, ap, arith, bytes_eq, codes, length, nat_le}
+use Rattle.std.proofs.Common.{Option, None, Some, ap, arith, bytes_eq, codes, length}
 use Rattle.std.proofs.Common.{option_map, refl, subst, sym}
 use Rattle.std.proofs.lemmas.Bool.{cases_lt, le-leb, lt-leb}
 use Rattle.aig_circuit.specs.declared.circuit.Circuit.{Circuit}
 use Rattle.aig_circuit.specs.declared.circuit.TheConstants.{LARGEST}
 use Rattle.aig_circuit.specs.declared.value.Val.{Val}
-use Rattle.aig_lines.specs.Feeding.{Folded, Turn, checked_line, fold_lines, folded_to, turn}
+use Rattle.aig_lines.specs.Feeding.{Folded, Turn, checked_line, fold_lines, folded_to}
 use Rattle.aig_lines.specs.Lines.{Line}
 use Rattle.aig_step.specs.Stimulus.{Entry, Step, Stop, entry_in, text_of}
 use Rattle.aig_verdicts.specs.Kinds.{are_of_justice, begins_with, shape_if}

@@ -1,5 +1,5 @@
 -- A claim that is held, and what its run comes to.
-use Rattle.std.proofs.Common.{◌≡◌, ◌∙◌, ℕ, List, Option, None, Some, IfSome, ap, ap₂, inl, inr, option_map, refl, subst, sym}
+use Rattle.std.proofs.Common.{◌≡◌, ◌∙◌, ℕ, List, Option, Some, IfSome, ap, ap₂, inl, inr, option_map, refl, subst, sym}
 use Rattle.aig_circuit.specs.declared.circuit.Circuit.{Circuit}
 use Rattle.aig_circuit.specs.declared.value.Val.{Val}
 use Rattle.aig_fault.specs.declared.stopped.Stopped.{Stopped}
@@ -38,7 +38,8 @@ pub verdict_held : (c goals : Circuit) (number : ℕ) (run : StartedRun) (v : La
 verdict_held c goals number run v shown is claim of =
     let on_goals = subst (λ (g : Circuit). IsVerdictOn g run.first run.steps v)
     (shown ∙ ap (λ (n : ℕ). with_goals n c) (sym of.property)) is in
-    let on_first = subst (λ (vs : List Val). IsVerdictOn (with_goals claim.property c) vs run.steps v) of.first on_goals in
+    let on_first = subst (λ (vs : List Val). IsVerdictOn (with_goals claim.property c) vs run.steps v) of.first
+    on_goals in
     verdicts_are_on_claims c claim v
     (subst (λ (ss : List (List Val)). IsVerdictOn (with_goals claim.property c) claim.first ss v) of.steps on_first)
 

@@ -1,19 +1,18 @@
 -- Lines of a witness file of either kind, and what follows them.
-use Rattle.std.proofs.Common.{◌≡◌, ◌<◌, ◌++◌, ◌∷◌, ◌∙◌, ◌⊎◌, ℕ, List, [], Bool, true, false, Option, None, Some, IfSome}
+use Rattle.std.proofs.Common.{◌≡◌, ◌<◌, ◌∙◌, ℕ, List, [], Bool, true, false, Option, None, Some, IfSome}
 use Rattle.std.proofs.Common.{ap, ap₂, inl, inr, length, option_map, refl, subst, sym}
 use Rattle.aig_circuit.specs.declared.circuit.Circuit.{Circuit}
 use Rattle.aig_circuit.specs.declared.value.Val.{Val}
-use Rattle.aig_lasso.specs.Runs.{StartedRun}
 use Rattle.aig_lines.specs.Feeding.{TookTurn}
 use Rattle.aig_step.proofs.LineValues.{vector_says}
-use Rattle.aig_step.specs.Stimulus.{Entry, Step, Stop, entry_in}
+use Rattle.aig_step.specs.Stimulus.{Entry, entry_in}
 use Rattle.aig_verdicts.specs.Kinds.{begins_with, shape_if}
-use Rattle.aig_verdicts.specs.Parts.Reading.{HoldsClaim, IsReading, IsSame, Reading, ReadingState, StandsAtBad}
-use Rattle.aig_verdicts.specs.Parts.Reading.{StandsIn, TookAs, TookEntry, TookFirstState, TookLine, TookProperty, TookStep}
+use Rattle.aig_verdicts.specs.Parts.Reading.{HoldsClaim, IsReading, Reading, ReadingState, StandsAtBad}
+use Rattle.aig_verdicts.specs.Parts.Reading.{StandsIn, TookAs, TookEntry, TookFirstState, TookLine, TookProperty}
 use Rattle.aig_verdicts.specs.Parts.Reading.{kind_with, reading_step, reading_turn, run_of, said_in, with_step}
 use Rattle.aig_verdicts.specs.declared.reader.Stage.TheVariants as stage
 use Rattle.aig_witness.proofs.Witnessing.{property_read}
-use Rattle.aig_witness.specs.Parts.Witnessing.{HasWitnessState, StandsWhen, WitnessState, Witnessing, said_turn}
+use Rattle.aig_witness.specs.Parts.Witnessing.{HasWitnessState, StandsWhen, WitnessState, said_turn}
 use Rattle.aig_witness.specs.Parts.Witnessing.{witness_state, witness_step}
 use Rattle.aig_witness.specs.Witness.{Claim, Nothing, Property, Said, Steps, Version, Whole, begun_at, first_state_in}
 use Rattle.aig_witness.specs.Witness.{property_by, said_with, shape_of, with_entry}
