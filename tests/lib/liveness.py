@@ -1,10 +1,11 @@
-"""Compares the circuits that the program makes of justice properties with those of a plain model, and with a search of all
-runs.
+"""Compares the circuits that the program makes of justice properties with those of a plain model, and with a search
+of all runs.
 
-The circuits are those of images.py, small, with justice properties and fairness constraints. Of each property the program
-must write the circuit that is made here, variable by variable, from ASCII and from binary; or refuse it. Where the circuit
-has few states, its bad state must be reached exactly where some loop of the model, which a first state leads to with all
-constraints kept, meets all goals; and the run that reaches it must be such a loop, turned back.
+The circuits are those of images.py, small, with justice properties and fairness constraints. Of each property the
+program must write the circuit that is made here, variable by variable, from ASCII and from binary; or refuse it.
+Where the circuit has few states, its bad state must be reached exactly where some loop of the model, which a first
+state leads to with all constraints kept, meets all goals; and the run that reaches it must be such a loop, turned
+back.
 """
 import dataclasses
 import itertools

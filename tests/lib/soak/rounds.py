@@ -10,7 +10,8 @@ from lib.soak.oracles import relations, same_answer, same_miter, same_trace, und
 
 LARGEST = 2**31 - 1
 WORDS = """aigtoaig aigtoaig aigsim aigsim aigunroll aigunroll aigmiter aigmiter --ascii --strip --keep-map --undo-map
-    --outputs-as-bad --justice-as-bad --justice-as-bad=0 --max-var --max-var=9 --max-var=2147483648 --frames --frames=2 --frames=0 --batch --properties
+    --outputs-as-bad --justice-as-bad --justice-as-bad=0
+    --max-var --max-var=9 --max-var=2147483648 --frames --frames=2 --frames=0 --batch --properties
     --vcd --witness --cnf --cnf --bad=0 --bad=1 --answer=source --answer
     --refutation=source --refutation --lrat --invariant=source --invariant --by-name --sync --help -h -- - source source source out.aag
     out.aig out.gz 3 --unknown""".split() + [""]
@@ -79,7 +80,8 @@ def hostile_circuit(here):
 def refused_alike(here, text, errors, limit):
     """Every tool refuses the text with these words, and with the file's name where it has one."""
     steps, old = {"steps": b"0\n"}, {"out.aag": b"as it was\n"}
-    for words in ([], ["--strip"], ["--keep-map"], ["--undo-map"], ["--undo-map", "--ascii"], ["--outputs-as-bad"], ["--justice-as-bad", "0"]):
+    as_bad = ["--outputs-as-bad"], ["--justice-as-bad", "0"]
+    for words in ([], ["--strip"], ["--keep-map"], ["--undo-map"], ["--undo-map", "--ascii"], *as_bad):
         here.expect("a refusal is one of all tools", Call(["aigtoaig", *words, *limit], text), b"", errors, 1)
     for words in ([], ["--batch"], ["--properties"], ["--vcd"], ["--witness"], ["--witness", "--vcd"]):
         call = Call(["aigsim", *words, *limit, "-", "steps"], text, steps)
