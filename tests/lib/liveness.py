@@ -5,7 +5,7 @@ The circuits are those of images.py, small, with justice properties and fairness
 program must write the circuit that is made here, variable by variable, from ASCII and from binary; or refuse it.
 Where the circuit has few states, its bad state must be reached exactly where some loop of the model, which a first
 state leads to with all constraints kept, meets all goals; and the run that reaches it must be such a loop, turned
-back.
+back. Unrolled for the property, the model must give the clauses of that circuit.
 """
 import dataclasses
 import itertools
@@ -212,7 +212,21 @@ def judge(program, made, number):
             came = traces.ran(program, given, *arguments)
             if came != wanted:
                 return f"{arguments} of {given!r}: wanted {wanted!r}, came {came!r}"
-    return wrong_runs(image, number, with_loop(image, number))
+    return wrong_clauses(program, made, number) or wrong_runs(image, number, with_loop(image, number))
+
+
+def wrong_clauses(program, made, number):
+    """What is wrong with the clauses for a property, which are to be those of its circuit."""
+    model, live = images.ascii_text(made), with_loop(made, number)
+    if live.largest > LARGEST:
+        return None
+    for frames in (1, 2, 5):
+        words = ["aigunroll", "--frames", str(frames), "--cnf"]
+        came = traces.ran(program, model, *words, "--justice", str(number))
+        wanted = traces.ran(program, images.ascii_text(live), *words)
+        if came != wanted:
+            return f"{words} of j{number} of {model!r}: wanted {wanted!r}, came {came!r}"
+    return None
 
 
 def refused(program, made):

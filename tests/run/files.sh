@@ -658,6 +658,9 @@ refused 'clauses of an answer' 'aiger: --answer excludes --cnf and --ascii' aigu
 refused 'a refutation and an answer' 'aiger: --refutation excludes --cnf, --ascii and --answer' \
     aigunroll --frames 2 --refutation a --answer b
 refused 'a bad state alone' 'aiger: --bad needs --cnf, --answer or --refutation' aigunroll --frames 2 --bad 0
+refused 'a justice property alone' 'aiger: --justice needs --cnf, --answer or --refutation' aigunroll --frames 2 --justice 0
+refused 'a bad state and a justice property' 'aiger: --bad excludes --justice' aigunroll --frames 2 --cnf --bad 0 --justice 0
+refused 'a justice property above the largest' '2147483648 is not in 0..=2147483647' aigunroll --frames 2 --cnf --justice 2147483648
 refused 'an invariant over frames' 'aiger: --invariant excludes --frames, --ascii and --answer' \
     aigunroll --invariant a --frames 2 --cnf
 refused 'an invariant alone' 'aiger: --invariant needs --cnf or --refutation' aigunroll --invariant a b

@@ -2,7 +2,7 @@
 ghost use Rattle.std.specs.Prelude.{IfOk, codes};
 ghost use Rattle.clap.specs.Words.{App, Rule, new_app, new_rule, with_rule, with_subcommand};
 ghost use Rattle.aig_command.specs.Aiger.{HasApp, HasRule, above, aiger, aigmiter, aigsim};
-ghost use Rattle.aig_command.specs.Aiger.{aigunroll, flag, frames, max_var, property};
+ghost use Rattle.aig_command.specs.Aiger.{aigunroll, flag, frames, max_var, property_option};
 ghost use Rattle.aig_command.specs.Aiger.{required_file, solver_file, to_aig};
 
 use clap::{Arg, ArgAction, Command, value_parser};
@@ -116,9 +116,9 @@ frame and in those before. There are no symbols and no comment.
 
 The output is ASCII where --ascii is given or the name of the destination ends
 in .aag, and else binary. A circuit with justice properties or fairness
-constraints is refused. Nothing is written before the whole circuit was read
-and only the destination can still fail, so the destination may be the source;
-it is lost if writing fails.
+constraints is refused, but with --justice. Nothing is written before the whole
+circuit was read and only the destination can still fail, so the destination may
+be the source; it is lost if writing fails.
 
 With --cnf clauses in DIMACS are written, for a SAT solver: they can be
 satisfied exactly if a run of at most K steps reaches a bad state with all
@@ -142,6 +142,14 @@ runs of any length: a PLA with a column for each latch, as ABC writes one by
 satisfied is checked. If it is right, 'never' is written: no run reaches a bad
 state with all constraints kept. The invariant itself is not believed.
 
+With --justice N all this is done for justice property N, counted from 0, in the
+place of bad states: for a run that comes back to a state in which it was, and
+on the way meets each literal of the property and each fairness constraint. The
+clauses are those of the circuit that aigtoaig --justice-as-bad N makes, and the
+witness has jN in the place of bN. 'none within K' then says that no such run
+has fewer than K steps, and 'never' that no run without end meets them all again
+and again.
+
 Exit status:
   0  done, also for --help
   1  the input was refused, a file or stream failed, or memory ran out; or the
@@ -161,7 +169,8 @@ Examples:
   berkeley-abc -c 'read model.aig; pdr -d -e -I model.pla'
   aiger aigunroll --invariant model.pla --cnf model.aig never.cnf
   cadical -q never.cnf never.drat
-  aiger aigunroll --invariant model.pla --refutation never.drat model.aig";
+  aiger aigunroll --invariant model.pla --refutation never.drat model.aig
+  aiger aigunroll --frames 20 --justice 0 --cnf model.aig live.cnf   liveness";
 
 const MITER_ABOUT: &str = "Make one circuit of two, to show that they are equal";
 
@@ -242,6 +251,11 @@ standard input. With --cnf or --refutation";
 const BAD_HELP: &str = "\
 Of the bad states take that of number N alone,
 counted from 0; with --cnf, --answer or --refutation";
+
+const JUSTICE_HELP: &str = "\
+In the place of bad states take justice property N,
+counted from 0; with --cnf, --answer or
+--refutation. Not with --bad";
 
 const BATCH_HELP: &str = "\
 Read the whole stimulus first, and write nothing if a line
@@ -347,8 +361,8 @@ fn frames<'a>(alloc: Global) -> Arg<'a>
         .help(FRAMES_HELP)
 }
 
-fn property<'a>(alloc: Global, name: &'a str, help: &'a str) -> Arg<'a>
-    ensures { HasRule (property name.now) result }
+fn property_option<'a>(alloc: Global, name: &'a str, help: &'a str) -> Arg<'a>
+    ensures { HasRule (property_option name.now) result }
 {
     Arg::new(alloc, name)
         .long(name)
@@ -414,7 +428,7 @@ fn to_aig<'a>(alloc: Global) -> Result<Command<'a>, AllocError>
     let command = with_argument(command, flag(alloc, "outputs-as-bad", OUTPUTS_AS_BAD_HELP));
     let command = with_argument(
         command,
-        property(alloc, "justice-as-bad", JUSTICE_AS_BAD_HELP),
+        property_option(alloc, "justice-as-bad", JUSTICE_AS_BAD_HELP),
     );
     let command = with_argument(command, flag(alloc, "sync", SYNC_HELP));
     let command = with_argument(command, max_var(alloc));
@@ -452,7 +466,8 @@ fn aigunroll<'a>(alloc: Global) -> Result<Command<'a>, AllocError>
     let command = with_argument(command, solver_file(alloc, "refutation", REFUTATION_HELP));
     let command = with_argument(command, flag(alloc, "lrat", LRAT_HELP));
     let command = with_argument(command, solver_file(alloc, "invariant", INVARIANT_HELP));
-    let command = with_argument(command, property(alloc, "bad", BAD_HELP));
+    let command = with_argument(command, property_option(alloc, "bad", BAD_HELP));
+    let command = with_argument(command, property_option(alloc, "justice", JUSTICE_HELP));
     let command = with_argument(command, flag(alloc, "sync", SYNC_HELP));
     let command = with_argument(command, max_var(alloc));
     let command = with_argument(command, file(alloc, "source", SOURCE_HELP));

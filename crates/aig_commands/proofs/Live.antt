@@ -1,5 +1,6 @@
--- A justice property that became a bad state.
-use Rattle.std.proofs.Common.{◌≡◌, ◌≤◌, ◌∙◌, ℕ, length, subst, sym}
+-- A justice property that became a bad state, and what is written of one.
+use Rattle.std.proofs.Common.{◌≡◌, ◌≤◌, ◌<◌, ◌∙◌, ℕ, List, ap, arith, length, map, subst, sym, take}
+use Rattle.std.proofs.lemmas.List.{length-map, length-take}
 use Rattle.aig_circuit.specs.declared.circuit.Circuit.{Circuit}
 use Rattle.aig_circuit.specs.declared.circuit.TheConstants.{LARGEST}
 use Rattle.aig_circuit.specs.Wellformed.{IsWellFormed}
@@ -8,7 +9,13 @@ use Rattle.aig_live.proofs.Back.{confirmed_means_lasso}
 use Rattle.aig_live.proofs.Formed.{made_is_well_formed}
 use Rattle.aig_live.proofs.Never.{liveness_is_safety}
 use Rattle.aig_command.specs.declared.request.BadStates.{BadStates}
-use Rattle.aig_live.specs.Laws.{live}
+use Rattle.aig_circuit.specs.declared.value.Val.{Val}
+use Rattle.aig_command.specs.declared.request.Property.{Property}
+use Rattle.aig_command.specs.declared.request.Property.TheVariants.{Justice}
+use Rattle.aig_invariant.specs.Invariant.{with_invariant}
+use Rattle.aig_invariant.specs.Outcome.{HasCubes}
+use Rattle.aig_lasso.specs.Lasso.{IsLasso}
+use Rattle.aig_live.specs.Laws.{lasso_of, live}
 use Rattle.aig_live.specs.Outcome.{HasLive}
 use Rattle.aig_meaning.specs.Meaning.{MeansTheSame}
 use Rattle.aig_meaning.proofs.Traces.{same_back}
@@ -17,7 +24,11 @@ use Rattle.aig_witness.specs.Witness.{Claim, IsVerdict}
 use Rattle.aig_witness.proofs.WitnessEnds.{verdict_too}
 use Rattle.aig_witness.proofs.Witnessing.{same_bad}
 use Rattle.aig_commands.specs.Conversion.{CanTurn, turned}
-use Rattle.aig_commands.specs.LiveLaws.{ConfirmedClaimsAreLassos, NeverExactlyWithoutFairRun, TurnsJustice}
+use Rattle.aig_commands.specs.LiveLaws.{AnswersAreLassos, ConfirmedClaimsAreLassos, NeverExactlyWithoutFairRun}
+use Rattle.aig_commands.specs.LiveLaws.{NeverMeansNoneIsFair, RefutationsMeanNoLasso, TurnsJustice}
+use Rattle.aig_commands.specs.Proving.{NoRunHas}
+use Rattle.aig_commands.specs.Reaching.{IsClaimedBy, claimed_text}
+use Rattle.aig_commands.specs.Refuting.{HasNoLassoWithin, NoRunHasWithin}
 use Rattle.aig_commands.proofs.Meant.{turned_file}
 use Rattle.aig_commands.proofs.TripsExist.{well_formed_file}
 
@@ -69,3 +80,52 @@ never_exactly_without_fair_run property c d t =
 pub confirmed_claims_are_lassos : ConfirmedClaimsAreLassos
 confirmed_claims_are_lassos property c d t claim step is =
     confirmed_means_lasso c property claim step (back property c d t claim _ is)
+
+-- ---- what is written of one
+
+pub refutations_mean_no_lasso : RefutationsMeanNoLasso
+refutations_mean_no_lasso request number c selected model text is_justice file of_model is =
+    let p = of_model.has_clauses in
+    let good = well_formed_file model request.max_var p.found p.read in
+    subst (λ (k : Circuit). HasNoLassoWithin k number request.frames)
+    (one_circuit model request.max_var p.found c p.read file)
+    (subst (λ (property : Property). NoRunHasWithin p.found property request.frames) is_justice
+    (is.none p.found good p.is_unrolled.has_property of_model.selected_is))
+
+pub never_means_none_is_fair : NeverMeansNoneIsFair
+never_means_none_is_fair request number c selected strengthened model invariant text is_justice file of_model shown is =
+    let p = of_model.has_clauses in
+    let good = well_formed_file model request.max_var p.found p.read in
+    let never = is.never p.found invariant shown.cubes good p.is_unrolled.has_property
+    (subst (λ (k : Circuit). HasCubes k invariant shown.cubes) of_model.selected_is shown.has_cubes)
+    (shown.strengthened_is ∙ ap (λ (k : Circuit). with_invariant shown.cubes k) of_model.selected_is) in
+    subst (λ (k : Circuit). NoRunHas k (Justice number)) (one_circuit model request.max_var p.found c p.read file)
+    (subst (λ (property : Property). NoRunHas p.found property) is_justice never)
+
+pub answers_are_lassos : AnswersAreLassos
+answers_are_lassos request number c selected model answer text is_justice file of_model is =
+    let p = of_model.has_clauses in
+    let good = well_formed_file model request.max_var p.found p.read in
+    let claimed : IsClaimedBy p.found (Justice number) request.frames answer is.claim =
+    subst (λ (property : Property). IsClaimedBy p.found property request.frames answer is.claim) is_justice
+    (is.claimed p.found good p.is_unrolled.has_property of_model.selected_is) in
+    let step = claimed.1.hit.step in
+    let lasso = confirmed_means_lasso p.found number claimed.0 step claimed.1.is_verdict in
+    let front : List (List Val) = take step claimed.0.steps in
+    let size : length is.claim.steps ≡ length (map (take (length p.found.inputs)) front) =
+    ap (λ (k : Claim). length k.steps) claimed.2 in (
+      is.claim,
+      lasso.0,
+      ap (λ (k : Claim). k.property) claimed.2,
+      omega (
+        arith,
+        size,
+        length-map front (take (length p.found.inputs)),
+        length-take step claimed.0.steps,
+        claimed.1.long,
+        claimed.1.low,
+      ),
+      subst (λ (k : Circuit). IsLasso k is.claim lasso.0) (one_circuit model request.max_var p.found c p.read file)
+          (subst (λ (k : Claim). IsLasso p.found k lasso.0) (sym claimed.2) lasso.1),
+      is.written_as ∙ ap (λ (property : Property). claimed_text property is.claim) is_justice,
+    )

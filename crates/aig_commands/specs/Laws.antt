@@ -1,6 +1,6 @@
 -- What the definitions of this crate say of one another.
 use Rattle.std.specs.Prelude.{◌≡◌, ◌↔◌, ◌<◌, ◌+◌, ◌*◌, ℕ, List, [], ◌∷◌, None, Some, Ok, true, false, length}
-use Rattle.std.specs.Prelude.{◌≤◌, ◌-◌, ◌==◌, Bool, map, not, slice_index_or, take, ⊤}
+use Rattle.std.specs.Prelude.{◌≤◌, ◌-◌, ◌==◌, Bool, map, Option, not, slice_index_or, take, ⊤}
 use Rattle.std.specs.List.{AllByRecursion, list_any}
 use Rattle.aig_answer.specs.declared.reader.Signed.{Signed}
 use Rattle.aig_answer.specs.AnswerText.{AreComments, AreValues, IsLine, Line, all_values, answer_text}
@@ -22,7 +22,6 @@ use Rattle.aig_command.specs.declared.request.Reach.{Reach}
 use Rattle.aig_command.specs.declared.request.Unroll.{Unroll}
 use Rattle.aig_command.specs.declared.request.UnrolledForm.{UnrolledForm}
 use Rattle.aig_command.specs.declared.request.UnrolledForm.TheVariants.{Ascii, Binary, Clauses}
-use Rattle.aig_replay.specs.Alone.{HasSelected, selected_of}
 use Rattle.aig_replay.specs.Laws.{IsOfSelected}
 use Rattle.aig_meaning.specs.Meaning.{Row}
 use Rattle.aig_meaning.specs.Trace.{IsTrace}
@@ -39,9 +38,10 @@ use Rattle.aig_commands.specs.Conversion.{IsConversionText}
 use Rattle.aig_commands.specs.OutputsAsBad.{row_with_outputs_as_bad}
 use Rattle.aig_commands.specs.Simulation.{IsSimulationText}
 use Rattle.aig_commands.specs.Proving.{IsInvariantModel, IsInvariantText, IsNeverText, IsStrengthened}
+use Rattle.aig_commands.specs.Property.{HasProperty, bad_property, property_model}
 use Rattle.aig_commands.specs.Reaching.{IsReachText, IsSelectedModel}
 use Rattle.aig_commands.specs.Refuting.{IsNoneText}
-use Rattle.aig_commands.specs.Unrolling.{IsUnrollingText, IsWritable, bad_of}
+use Rattle.aig_commands.specs.Unrolling.{IsUnrollingText, IsWritable, property_of}
 use Rattle.aig_commands.specs.WitnessOutcome.{IsWitnessAnswer}
 
 -- what is read of a text is exactly the circuit whose file it is, of either kind
@@ -78,7 +78,7 @@ UnrollingsAreUnambiguous = (request : Unroll) (bytes text other : List ℕ)
 abbrev pub IsOfCircuit : UnrolledForm → Type 0
 IsOfCircuit Binary = ⊤
 IsOfCircuit Ascii = ⊤
-IsOfCircuit (Clauses bad) = ⊥
+IsOfCircuit (Clauses property) = ⊥
 
 -- an unrolling text of the file of a circuit, other than clauses, is, at the default limit, the file of exactly the
 -- unrolled circuit
@@ -88,12 +88,13 @@ UnrolledTextsAreFiles = (request : Unroll) (c d : Circuit) (file text : List ℕ
     → (other : Circuit) → IsFileOf text LARGEST other ↔ (other ≡ d)
 
 -- every file of a circuit that is supported and not too large to unroll has an unrolling text; and clauses, where it
--- has the selected bad state and they can be made
+-- has the property and they can be made
 abbrev pub UnrolledTextsExist : Type 0
 UnrolledTextsExist = (request : Unroll) (c : Circuit) (file : List ℕ) → IsFileOf file request.max_var c
-    → HasSelected (bad_of request.form) c → ¬ IsUnsupported c
-    → ¬ IsTooLarge (selected_of (bad_of request.form) c) request.frames
-    → ((d : Circuit) → IsUnrolled (selected_of (bad_of request.form) c) request.frames d → IsWritable request.form d)
+    → HasProperty (property_of request.form) c → ¬ IsUnsupported (property_model (property_of request.form) c)
+    → ¬ IsTooLarge (property_model (property_of request.form) c) request.frames
+    → ((d : Circuit) → IsUnrolled (property_model (property_of request.form) c) request.frames d
+    → IsWritable request.form d)
     → (text : List ℕ) × IsUnrollingText request file text
 
 -- a canonical binary file: the canonical text of a well-formed circuit in binary order
@@ -243,19 +244,20 @@ RightAnswersHaveWitnesses = (request : Reach) (selected : Circuit) (model : List
 -- What is written for a model and a solver's answer is a witness file: of the model it is confirmed, at one of the
 -- frames, and what it claims is that the selected bad state is reached, if one was selected.
 abbrev pub SolverAnswersAreConfirmed : Type 0
-SolverAnswersAreConfirmed = (request : Reach) (judging : Sim) (selected : Circuit) (model answer text : List ℕ)
-    → judging.max_var ≡ request.max_var → IsSelectedModel request model selected
+SolverAnswersAreConfirmed = (request : Reach) (bad : Option ℕ) (judging : Sim) (selected : Circuit)
+    (model answer text : List ℕ) → request.property ≡ bad_property bad → judging.max_var ≡ request.max_var → IsSelectedModel request model selected
     → IsReachText request selected answer text
     → (step : ℕ) × (step < request.frames) × (confirmed : IsWitnessAnswer judging model text (Confirmed step))
-    × ((number : ℕ) → request.bad ≡ Some number → confirmed.claim.property ≡ number)
+    × ((number : ℕ) → bad ≡ Some number → confirmed.claim.property ≡ number)
 
 -- Where it is written for a model that there is none, no witness file of the selected bad state, or of any where none
 -- is selected, is confirmed of the model at one of the frames, however many steps it has.
 abbrev pub RefutationsMeanNone : Type 0
-RefutationsMeanNone = (request : Reach) (judging : Sim) (selected : Circuit) (model text witness : List ℕ) (step : ℕ)
+RefutationsMeanNone = (request : Reach) (bad : Option ℕ) (judging : Sim) (selected : Circuit)
+    (model text witness : List ℕ) (step : ℕ) → request.property ≡ bad_property bad
     → judging.max_var ≡ request.max_var → IsSelectedModel request model selected → IsNoneText request selected text
     → step < request.frames → (confirmed : IsWitnessAnswer judging model witness (Confirmed step))
-    → ¬ IsOfSelected request.bad confirmed.claim
+    → ¬ IsOfSelected bad confirmed.claim
 
 -- a model and an invariant have one text of clauses at most
 abbrev pub InvariantTextsAreUnambiguous : Type 0
@@ -266,11 +268,11 @@ InvariantTextsAreUnambiguous = (request : Invariant) (selected again : Circuit) 
 -- Where it is written for a model and an invariant that none is ever reached, no witness file of the selected bad
 -- state, or of any where none is selected, is confirmed of the model, at whatever step.
 abbrev pub NeverIsNever : Type 0
-NeverIsNever = (request : Invariant) (judging : Sim) (selected strengthened : Circuit)
-    (model invariant text witness : List ℕ) (step : ℕ) → judging.max_var ≡ request.max_var
+NeverIsNever = (request : Invariant) (bad : Option ℕ) (judging : Sim) (selected strengthened : Circuit)
+    (model invariant text witness : List ℕ) (step : ℕ) → request.property ≡ bad_property bad → judging.max_var ≡ request.max_var
     → IsInvariantModel request model selected → IsStrengthened selected invariant strengthened
     → IsNeverText request strengthened text → (confirmed : IsWitnessAnswer judging model witness (Confirmed step))
-    → ¬ IsOfSelected request.bad confirmed.claim
+    → ¬ IsOfSelected bad confirmed.claim
 
 -- A witness that is confirmed at a step sets the unrolled circuit of as many frames and one more. Where that is given
 -- the first values of the uninitialised latches and then the inputs of the witness's steps, it has exactly one trace,

@@ -1,9 +1,12 @@
 -- What it says of a file that one of its justice properties became a bad state (AIGER 1.9; the reduction is that of
--- Biere, Artho and Schuppan, 2002).
-use Rattle.std.specs.Prelude.{◌≡◌, ◌↔◌, ℕ, List, false}
+-- Biere, Artho and Schuppan, 2002), and what is written of one.
+use Rattle.std.specs.Prelude.{◌≡◌, ◌↔◌, ◌<◌, ℕ, List, false, length}
 use Rattle.aig_circuit.specs.declared.circuit.Circuit.{Circuit}
 use Rattle.aig_circuit.specs.declared.circuit.TheConstants.{LARGEST}
 use Rattle.aig_command.specs.declared.request.BadStates.TheVariants.{Justice}
+use Rattle.aig_command.specs.declared.request.Invariant.{Invariant}
+use Rattle.aig_command.specs.declared.request.Property.TheVariants as properties
+use Rattle.aig_command.specs.declared.request.Reach.{Reach}
 use Rattle.aig_command.specs.declared.request.ToAig.{ToAig}
 use Rattle.aig_lasso.specs.Endless.{IsFairRun}
 use Rattle.aig_lasso.specs.Goals.{with_goals}
@@ -14,6 +17,10 @@ use Rattle.aig_witness.specs.declared.verdict.Verdict.TheVariants.{Confirmed}
 use Rattle.aig_witness.specs.Witness.{Claim, IsVerdict}
 use Rattle.aig_commands.specs.Conversion.{IsConversionText}
 use Rattle.aig_commands.specs.File.{IsFileOf}
+use Rattle.aig_commands.specs.Proving.{IsInvariantModel, IsNeverText, IsStrengthened}
+use Rattle.aig_commands.specs.Reaching.{IsReachText, IsSelectedModel}
+use Rattle.aig_commands.specs.Refuting.{HasNoLassoWithin, IsNoneText}
+use Rattle.aig_replay.specs.WitnessLines.{lasso_text}
 
 -- a conversion of the file of a circuit, at the default limit, makes the file of another one, whose bad state stands for
 -- this justice property
@@ -41,3 +48,27 @@ abbrev pub ConfirmedClaimsAreLassos : Type 0
 ConfirmedClaimsAreLassos = (property : ℕ) (c d : Circuit) → TurnsJustice property c d
     → (claim : Claim) (step : ℕ) → IsVerdict d claim (Confirmed step)
     → (start : ℕ) × IsLasso c (lasso_of c property claim step) start
+
+-- Where it is written for a model and one of its justice properties that there is none, no lasso of the model, without
+-- x, has fewer steps than there are frames.
+abbrev pub RefutationsMeanNoLasso : Type 0
+RefutationsMeanNoLasso = (request : Reach) (number : ℕ) (c selected : Circuit) (model text : List ℕ)
+    → request.property ≡ properties.Justice number → IsFileOf model request.max_var c
+    → IsSelectedModel request model selected → IsNoneText request selected text
+    → HasNoLassoWithin c number request.frames
+
+-- Where it is written that there never is one, the model has no fair run.
+abbrev pub NeverMeansNoneIsFair : Type 0
+NeverMeansNoneIsFair = (request : Invariant) (number : ℕ) (c selected strengthened : Circuit)
+    (model invariant text : List ℕ) → request.property ≡ properties.Justice number → IsFileOf model request.max_var c
+    → IsInvariantModel request model selected → IsStrengthened selected invariant strengthened
+    → IsNeverText request strengthened text → (rows : ℕ → Row) → ¬ IsFairRun (with_goals number c) rows
+
+-- What is written for a solver's answer is the witness file of a lasso of the model, of fewer steps than there are
+-- frames.
+abbrev pub AnswersAreLassos : Type 0
+AnswersAreLassos = (request : Reach) (number : ℕ) (c selected : Circuit) (model answer text : List ℕ)
+    → request.property ≡ properties.Justice number → IsFileOf model request.max_var c
+    → IsSelectedModel request model selected → IsReachText request selected answer text
+    → (claim : Claim) × (start : ℕ) × (claim.property ≡ number) × (length claim.steps < request.frames)
+    × IsLasso c claim start × (text ≡ lasso_text claim)

@@ -17,6 +17,7 @@ pub mod dump_laws;
 mod job;
 pub mod laws;
 mod outputs_as_bad;
+mod property;
 mod proving;
 mod reaching;
 mod refuting;

@@ -12,7 +12,6 @@ use Rattle.aig_witness.specs.declared.verdict.Verdict.TheVariants.{Confirmed, No
 use Rattle.aig_dump.specs.InMemory.{IsBadStimulus, IsBadWitness}
 use Rattle.aig_fault.specs.declared.fault.Fault.{Fault}
 use Rattle.aig_fault.specs.declared.stopped.Stopped.TheVariants as stops
-use Rattle.aig_invariant.specs.Laws.{IsNever}
 use Rattle.aig_commands.specs.Comparing.{IsFirst, IsMiterText, NotFirst, NotMiter}
 use Rattle.aig_commands.specs.Conversion.{IsConversionRefused, IsConversionText}
 use Rattle.aig_commands.specs.File.{IsFileOf}
@@ -20,7 +19,7 @@ use Rattle.aig_commands.specs.Proving.{IsInvariantModel, IsInvariantText, IsStre
 use Rattle.aig_commands.specs.Proving.{NotStrengthened}
 use Rattle.aig_commands.specs.Reaching.{IsModelRefused, IsReachRefused, IsReachText, IsSelectedModel}
 use Rattle.aig_commands.specs.Reading.{IsUnreadable}
-use Rattle.aig_commands.specs.Refuting.{IsNoneWithin, NotRefuted}
+use Rattle.aig_commands.specs.Refuting.{NoRunHasWithin, NotRefuted}
 use Rattle.aig_commands.specs.Simulation.{IsWrittenText}
 use Rattle.aig_commands.specs.Unrolling.{IsUnrollingRefused, IsUnrollingText}
 use Rattle.aig_commands.specs.WitnessDump.{IsWitnessDumpText}
@@ -106,7 +105,7 @@ ReachAnswers bad frames max_var model answer =
 pub record IsNoneWithinModel (request : Reach) (model : List ℕ) : Type 0 where
   pub selected : Circuit
   pub is_model : IsSelectedModel request model selected
-  pub none : IsNoneWithin is_model.has_clauses.found request.bad request.frames
+  pub none : NoRunHasWithin is_model.has_clauses.found request.property request.frames
 
 -- That is not known for this reason: the model has no clauses, or the refutation does not show it.
 abbrev pub IsNoneRefused : Reach → (model refutation : List ℕ) → Fault → Type 0
@@ -145,7 +144,7 @@ pub record IsNeverOfModel (request : Invariant) (model invariant : List ℕ) : T
   pub strengthened : Circuit
   pub is_model : IsInvariantModel request model selected
   pub is_strengthened : IsStrengthened selected invariant strengthened
-  pub never : IsNever is_model.has_clauses.found request.bad
+  pub never : NoRunHas is_model.has_clauses.found request.property
 
 -- That is not known for this reason: there are no clauses, or the refutation does not show it.
 abbrev pub IsNeverRefused : Invariant → (model invariant refutation : List ℕ) → Fault → Type 0

@@ -1,11 +1,13 @@
 -- What the numbers ask for that a call is given (this project's interface for C). Each option is a bit.
-use Rattle.std.specs.Prelude.{◌≡◌, ◌≤◌, ◌==◌, ◌+◌, ℕ, Bool, true, false, not, Option, None, Some, bit_and, bit_or}
+use Rattle.std.specs.Prelude.{◌≡◌, ◌≤◌, ◌==◌, ◌+◌, ℕ, Bool, true, false, not, bit_and, bit_or}
 use Rattle.std.specs.Prelude.{if◌then◌else◌}
 use Rattle.aig_command.specs.Aiger.{largest_index, most_frames}
 use Rattle.aig_command.specs.Answer.{HasFrames, IsDumpAlone, IsKeptAlone, IsWithoutMap}
 use Rattle.aig_command.specs.declared.request.BadStates.TheVariants.{Justice, Kept, Outputs}
 use Rattle.aig_command.specs.declared.request.Invariant.{Invariant}
 use Rattle.aig_command.specs.declared.request.Miter.{Miter}
+use Rattle.aig_command.specs.declared.request.Property.{Property}
+use Rattle.aig_command.specs.declared.request.Property.TheVariants.{AnyBad, Bad}
 use Rattle.aig_command.specs.declared.request.Reach.{Reach}
 use Rattle.aig_command.specs.declared.request.SolverFile.{SolverFile}
 use Rattle.aig_command.specs.declared.request.Sim.{Sim}
@@ -50,9 +52,9 @@ unrolling options frames max_var = record {
   max_var = max_var;
 }
 
--- the number of the selected bad state alone, unless it is all of them
-abbrev pub selected_bad : ℕ → Option ℕ
-selected_bad bad = if bad == numbers.all_bad then None else Some bad
+-- the selected bad state alone, unless it is all of them
+abbrev pub selected_bad : ℕ → Property
+selected_bad bad = if bad == numbers.all_bad then AnyBad else Bad bad
 
 abbrev pub clauses : (bad frames max_var : ℕ) → Unroll
 clauses bad frames max_var = record {
@@ -64,7 +66,7 @@ clauses bad frames max_var = record {
 abbrev pub reaching : SolverFile → (bad frames max_var : ℕ) → Reach
 reaching wrote bad frames max_var = record {
   frames = frames;
-  bad = selected_bad bad;
+  property = selected_bad bad;
   max_var = max_var;
   wrote = wrote;
   lrat = false;
@@ -73,7 +75,7 @@ reaching wrote bad frames max_var = record {
 -- an invariant: its clauses, or that a refutation of them is right
 abbrev pub proving : (refuted : Bool) (bad max_var : ℕ) → Invariant
 proving refuted bad max_var = record {
-  bad = selected_bad bad;
+  property = selected_bad bad;
   max_var = max_var;
   refuted = refuted;
   lrat = false;

@@ -3,7 +3,9 @@ ghost use Rattle.std.specs.Prelude.{◌≡◌, ◌↔◌, IsTrue};
 ghost use Rattle.aig_library.specs.Asked.{clauses, comparison, conversion, has, justice_conversion};
 ghost use Rattle.aig_library.specs.Asked.{OnlyHas, proving, reaching, selected_bad, unrolling};
 
-use aig_command::{BadStates, Invariant, Miter, Reach, SolverFile, ToAig, Unroll, UnrolledForm};
+use aig_command::{
+    BadStates, Invariant, Miter, Property, Reach, SolverFile, ToAig, Unroll, UnrolledForm,
+};
 
 /// ASCII is written, and not binary.
 pub const ASCII: u32 = 1;
@@ -98,10 +100,14 @@ pub(crate) fn unrolling(options: u32, frames: u32, max_var: u32) -> Unroll
 }
 
 /// The selected bad state alone.
-fn selected_bad(bad: u32) -> Option<u32>
+fn selected_bad(bad: u32) -> Property
     ensures { result ≡ selected_bad bad }
 {
-    if bad == ALL_BAD { None } else { Some(bad) }
+    if bad == ALL_BAD {
+        Property::AnyBad
+    } else {
+        Property::Bad(bad)
+    }
 }
 
 /// The clauses that are asked for.
@@ -111,7 +117,7 @@ pub(crate) fn clauses(bad: u32, frames: u32, max_var: u32) -> Unroll
     Unroll {
         frames,
         form: UnrolledForm::Clauses {
-            bad: selected_bad(bad),
+            property: selected_bad(bad),
         },
         max_var,
     }
@@ -123,7 +129,7 @@ pub(crate) fn reaching(wrote: SolverFile, bad: u32, frames: u32, max_var: u32) -
 {
     Reach {
         frames,
-        bad: selected_bad(bad),
+        property: selected_bad(bad),
         max_var,
         wrote,
         lrat: false,
@@ -136,7 +142,7 @@ pub(crate) fn proving(refuted: bool, bad: u32, max_var: u32) -> Invariant
     ensures { result ≡ proving refuted bad max_var }
 {
     Invariant {
-        bad: selected_bad(bad),
+        property: selected_bad(bad),
         max_var,
         refuted,
         lrat: false,
