@@ -1,0 +1,5 @@
+pub mod HeldClaims
+pub mod Lines
+pub mod Folds
+pub mod Ends
+pub mod Files

@@ -1,0 +1,4 @@
+pub mod Kinds
+pub mod Judged
+pub mod Parts
+pub mod Laws
