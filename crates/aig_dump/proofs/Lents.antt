@@ -96,7 +96,7 @@ module _ (input : List ℕ) (now : History) (given : HasGiven now) where
   unjudged c fault bytes ending is (inl (line, told, whole, first)) =
       inl (line, told, tt, wrong_line c bytes ending line whole is first)
   unjudged c fault bytes ending is (inr large) =
-      inr (subst (λ bs. HasLargeProperty c fault bs AtEnd) (all_read bytes (rw large.0 at is)) (refl, large.1))
+      inr (subst (λ bs. HasLargeProperty c fault bs AtEnd) (all_read bytes (rw large.0 at is)) (refl, large.1, large.2, large.3))
 
   pub judged : (c : Circuit) (r : Result WitnessVerdict Stopped) → Read (WitnessSays c r) (unused (lent input)) now
       → IfOk r (λ verdict. IsJudged c verdict input)

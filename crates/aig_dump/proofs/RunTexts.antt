@@ -1,6 +1,6 @@
 -- The texts of a run, in a witness file of either kind, and with the mark of a loop.
-use Rattle.std.proofs.Common.{◌≡◌, ◌+◌, ◌==◌, ◌++◌, ◌∙◌, ◌∷◌, ℕ, zero, suc, List, [], Bool, true, false, ap, ap₂, codes}
-use Rattle.std.proofs.Common.{append_assoc, bytes_eq, if◌then◌else◌, length, length-append, map, refl, subst, sym}
+use Rattle.std.proofs.Common.{◌≡◌, ◌-◌, ◌==◌, ◌++◌, ◌∙◌, ◌∷◌, ℕ, zero, suc, List, [], Bool, true, false, ap, ap₂, codes}
+use Rattle.std.proofs.Common.{append_assoc, arith, bytes_eq, ne_eqb, if◌then◌else◌, length, length-append, map, refl, subst, sym}
 use Rattle.std.specs.List.{AllByRecursion}
 use Rattle.std.proofs.lemmas.Slice.Eq.{bytes_eq-Decides}
 use Rattle.std.proofs.lemmas.List.{map-append}
@@ -46,7 +46,6 @@ three_lines (k ∷ l ∷ m ∷ ls) one two text texts is = record {
   third = cc;
   others = cc;
 }
-
 
 -- what is claimed by lines of these texts, where the third one and those behind it are known
 claimed : (c : Circuit) (claim : Claim) (witness first st one two : List ℕ)
@@ -114,7 +113,10 @@ marked_text zero (given ∷ steps) (l ∷ ls) are =
 marked_text (suc start) (given ∷ steps) (l ∷ ls) are =
     let here : text_of l ≡ values_text given = cc in
     let later : map text_of ls ≡ lines_text steps = cc in
-    ap₂ (λ (xs ys : List ℕ). xs ++ ys) (ap (marked_line 48) here ∙ marked_step Zero given) (marked_text start steps ls later)
+    let none : (suc start == 0) ≡ false = ne_eqb (suc start) 0 (λ e. omega (arith, e)) in
+    let less : suc start - 1 ≡ start = omega arith in
+    rw (none, less)
+    (ap₂ (λ (xs ys : List ℕ). xs ++ ys) (ap (marked_line 48) here ∙ marked_step Zero given) (marked_text start steps ls later))
 
 pub marked_texts : (c : Circuit) (claim : Claim) (start : ℕ) (first st made : List ℕ) → IsRunText c claim first st
     → made ≡ marked_lines start (lines_of st) → IsRunText (with_loop_mark c) (marked start claim) first made

@@ -11,11 +11,7 @@ use aig_verdicts::{WitnessVerdict, judge_witness};
 use std::alloc::Global;
 
 /// The verdict on a witness file, of a bad state or of a justice property.
-pub fn verdict_on(
-    alloc: Global,
-    found: &Checked,
-    witness: &[u8],
-) -> Result<WitnessVerdict, Stopped>
+pub fn verdict_on(alloc: Global, found: &Checked, witness: &[u8]) -> Result<WitnessVerdict, Stopped>
     ensures ok { IfOk result (λ verdict. IsJudged found.now verdict witness.now) }
     ensures err { IfErr result (StopsInMemory (IsUnjudged found.now witness.now)) }
 {

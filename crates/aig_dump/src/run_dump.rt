@@ -9,7 +9,7 @@ ghost use Rattle.aig_witness.specs.Witness.{Claim};
 ghost use Rattle.aig_claims.specs.LoopMark.{HasNoVariable, marked, with_loop_mark};
 ghost use Rattle.aig_claims.specs.RunDump.{IsRunDump, IsShownRun, IsUndumped, comment_line};
 ghost use Rattle.aig_dump.specs.InMemory.{JudgedRun, StopsInMemory};
-ghost use Rattle.aig_dump.specs.Parts.Showing.{IsRunText, LacksMark};
+ghost use Rattle.aig_dump.specs.Parts.Showing.{IsRunText, LacksMark, loop_start};
 ghost use Rattle.aig_verdicts.specs.Judged.{IsUnjudged, SaysFor};
 
 use crate::in_memory::{dump_as, verdict_on};
@@ -93,6 +93,16 @@ fn dump_lasso(
     }
 }
 
+/// The step at which the loop of a confirmed lasso begins.
+fn loop_start(verdict: WitnessVerdict) -> Option<u64>
+    ensures { result ≡ loop_start verdict }
+{
+    match verdict {
+        WitnessVerdict::Justice(LassoVerdict::Confirmed(start)) => Some(start),
+        _ => None,
+    }
+}
+
 /// The dump of the run that a witness file with this verdict claims.
 fn dump_run(
     alloc: Global,
@@ -105,11 +115,9 @@ fn dump_run(
     ensures err { IfErr result (StopsFor (LacksMark found verdict)) }
 {
     let (first, steps) = state_and_steps(witness);
-    match verdict {
-        WitnessVerdict::Justice(LassoVerdict::Confirmed(start)) => {
-            dump_lasso(alloc, found, start, first, steps)
-        }
-        _ => Ok(dump_from(alloc, found, first, steps)?),
+    match loop_start(verdict) {
+        Some(start) => dump_lasso(alloc, found, start, first, steps),
+        None => Ok(dump_from(alloc, found, first, steps)?),
     }
 }
 

@@ -1,18 +1,19 @@
 -- The run of a witness file as text, and what is made of it to mark a loop. Only private functions cite this.
-use Rattle.std.specs.Prelude.{◌≡◌, ◌-◌, ◌==◌, ◌++◌, ℕ, List, [], ◌∷◌, codes, length, map, if◌then◌else◌}
+use Rattle.std.specs.Prelude.{◌≡◌, ◌-◌, ◌==◌, ◌++◌, ℕ, List, [], ◌∷◌, Option, None, Some, codes, length, map}
+use Rattle.std.specs.Prelude.{if◌then◌else◌}
 use Rattle.std.specs.List.{AllByRecursion}
 use Rattle.std.specs.Str.{bytes_eq}
 use Rattle.aig_circuit.specs.declared.circuit.Circuit.{Circuit}
 use Rattle.aig_circuit.specs.declared.value.Val.{Val}
 use Rattle.aig_fault.specs.declared.fault.Fault.{Fault}
-use Rattle.aig_lasso.specs.declared.verdict.LassoVerdict.TheVariants.{Confirmed}
+use Rattle.aig_lasso.specs.declared.verdict.LassoVerdict.TheVariants.{Confirmed, NotConfirmed}
 use Rattle.aig_lines.specs.Lines.{Line, lines_of}
 use Rattle.aig_meaning.specs.Trace.{IsFirstState}
 use Rattle.aig_step.specs.Stimulus.{text_of}
 use Rattle.aig_step.specs.TraceText.{values_text}
 use Rattle.aig_claims.specs.LoopMark.{HasNoVariable}
 use Rattle.aig_verdicts.specs.declared.verdict.WitnessVerdict.{WitnessVerdict}
-use Rattle.aig_verdicts.specs.declared.verdict.WitnessVerdict.TheVariants.{Justice}
+use Rattle.aig_verdicts.specs.declared.verdict.WitnessVerdict.TheVariants.{BadState, Justice}
 use Rattle.aig_witness.specs.Witness.{Claim}
 
 -- the texts are those of a first state, and of the lines of the steps and the line that ends them
@@ -21,6 +22,12 @@ pub record IsRunText (c : Circuit) (claim : Claim) (first steps : List ℕ) : Ty
   pub each : AllByRecursion (λ (given : List Val). length given ≡ length c.inputs) claim.steps
   pub is_first : first ≡ values_text claim.first
   pub are_steps : map text_of (lines_of steps) ≡ map values_text claim.steps ++ codes "." ∷ []
+
+-- the step at which the loop of a confirmed lasso begins
+abbrev pub loop_start : WitnessVerdict → Option ℕ
+loop_start (BadState verdict) = None
+loop_start (Justice (Confirmed start)) = Some start
+loop_start (Justice NotConfirmed) = None
 
 -- a lasso's loop has no mark for this reason
 abbrev pub LacksMark : Circuit → WitnessVerdict → Fault → Type 0
