@@ -203,7 +203,12 @@ def changed(how, room):
 
 
 def another_run(kept):
-    (kept / "j0.loop").write_text("1\nb0\n00000\n00\n00\n.\n", encoding="ascii")
+    (kept / "j0.aiw").write_text("1\nj0\n0\n0\n0\n.\n", encoding="ascii")
+
+
+def another_property(kept):
+    run = (kept / "j0.aiw").read_text(encoding="ascii")
+    (kept / "j0.aiw").write_text(run.replace("j0", "j1"), encoding="ascii")
 
 
 def another_model(kept):
@@ -212,7 +217,7 @@ def another_model(kept):
 
 
 def no_run(kept):
-    (kept / "j0.loop").unlink()
+    (kept / "j0.aiw").unlink()
 
 
 AIGER = [("--justice-as-bad", "", 1), ("--justice-as-bad", "", 0), ("--justice-as-bad", "aig 0 0 0 0 0", 0)]
@@ -240,5 +245,5 @@ def rows():
     for frames, answer in ((4, "no lasso within 4"), (5, "no lasso within 5"), (6, "lasso at 4")):
         yield f"liveness within {frames}", each(bound, frames, answer)
     yield "a lasso that is too far", too_far
-    for how in (another_run, another_model, no_run):
+    for how in (another_run, another_property, another_model, no_run):
         yield f"a lasso with {how.__name__}", each(changed, how)
