@@ -4,8 +4,8 @@ are equal.
 
 Yosys writes the design as an AIGER model. For each assertion ABC looks for an invariant, and a SAT solver for a run
 that breaks it. What they say is not believed: each answer that is printed is one that the program ``aiger`` gave of
-the model, by a witness, a refutation or an invariant. For two designs the model is their miter: its bad states say where they
-differ.
+the model, by a witness, a refutation or an invariant. For two designs the model is their miter: its bad states say
+where they differ.
 """
 
 import argparse
@@ -33,7 +33,7 @@ from dataclasses import dataclass, replace
 from pathlib import Path
 from typing import Any, Dict, Iterable, Iterator, List, NamedTuple, Optional, Sequence, Set, Tuple
 
-VERSION = "1.3.0"
+VERSION = "1.4.0"
 PROGRAM = "aiger-check"
 
 HELP = """\

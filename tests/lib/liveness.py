@@ -208,7 +208,7 @@ def witness(number, state, steps):
 
 
 def changed(chance, lines, start):
-    """The lines of a lasso, whose loop begins at this step, with a value changed, a step left out, or the loop twice."""
+    """The lines of a lasso whose loop begins at this step, with a value changed, a step left out, or the loop twice."""
     first, steps = lines[:3], lines[3:-1]
     at, how = chance.randrange(len(steps)), chance.randrange(4)
     if how == 0:
@@ -237,12 +237,13 @@ def run_back(chance, made, number):
 def wrong_witness(program, made, model, lines):
     """What is wrong with the answer to a witness of these lines, if anything is."""
     text = "".join(f"{line}\n" for line in lines)
-    came, wanted = traces.ran(program, text.encode(), "aigsim", "--witness", str(model)), witnesses.wanted(made, "-", text)
+    came = traces.ran(program, text.encode(), "aigsim", "--witness", str(model))
+    wanted = witnesses.wanted(made, "-", text)
     return None if came == wanted else f"{images.ascii_text(made)!r} over {text!r}: wanted {wanted!r}, came {came!r}"
 
 
 def wrong_lasso(program, made, model, number, lines):
-    """What is wrong with the lasso that was found, if anything is, and with the witness of an answer that is this run."""
+    """What is wrong with a lasso that was found, and with the witness of an answer that is this run, if anything is."""
     state, steps = lines[2], lines[3:-1]
     begins = starts(made, number, state, steps)
     text = "".join(f"{line}\n" for line in lines).encode()

@@ -296,8 +296,7 @@ def judge_lasso(room_, kept, it, said):
         changes |= {step: line[0]} if line[1:] == code else {}
     begins = {0: "1"} if it.steps == 0 else {0: "0", it.steps: "1"}
     need(changes == {**begins, len(inputs) - 2: "z"}, f"the waveform of {it} tells the loop by {changes}", said)
-    names = subprocess.run(["grep", "-a", "^[il][0-9]* ", str(model_of(kept, "live"))], capture_output=True, check=False)
-    for name in re.findall(rb"^[il]\d+ ([A-Za-z_]\w*)$", names.stdout, re.MULTILINE):
+    for name in re.findall(rb"^[il]\d+ ([A-Za-z_]\w*)$", model_of(kept, "live").read_bytes(), re.MULTILINE):
         need(f" {name.decode()} $end" in waves, f"the waveform of {it} lacks the name {name}", said)
 
 
