@@ -151,6 +151,23 @@ module _ (c : Circuit) (good : IsWellFormed c) where
 
 -- ---- runs
 
+long_with_mark : (n start : ℕ) (steps : List (List Val))
+    → AllByRecursion (λ (given : List Val). length given ≡ n) steps
+    → AllByRecursion (λ (given : List Val). length given ≡ n + 1) (marked_from start steps)
+long_with_mark n start [] each = tt
+long_with_mark n zero (given ∷ steps) each =
+    (length-append given (One ∷ []) ∙ ap (λ (k : ℕ). k + 1) each.0, long_with_mark n zero steps each.1)
+long_with_mark n (suc start) (given ∷ steps) each =
+    (length-append given (Zero ∷ []) ∙ ap (λ (k : ℕ). k + 1) each.0, long_with_mark n start steps each.1)
+
+-- steps with the mark have a value for each input, where those without it do
+pub marked_long : (c : Circuit) (start : ℕ) (steps : List (List Val))
+    → AllByRecursion (λ (given : List Val). length given ≡ length c.inputs) steps
+    → AllByRecursion (λ (given : List Val). length given ≡ length (with_loop_mark c).inputs) (marked_from start steps)
+marked_long c start steps each =
+    subst (λ (n : ℕ). AllByRecursion (λ (given : List Val). length given ≡ n) (marked_from start steps))
+    (sym (length-append c.inputs ((c.max_var + 1) ∷ []))) (long_with_mark (length c.inputs) start steps each)
+
 last_same : {X : Type 0} (xs ys : List X) (x y : X) → xs ++ x ∷ [] ≡ ys ++ y ∷ [] → xs ≡ ys
 last_same [] [] x y is = refl
 last_same [] (w ∷ []) x y is = cc

@@ -11,6 +11,7 @@ use Rattle.aig_lines.specs.Lines.{Line, bytes_of, lines_of}
 use Rattle.aig_meaning.specs.Trace.{IsFirstState}
 use Rattle.aig_step.specs.Stimulus.{text_of}
 use Rattle.aig_step.specs.TraceText.{character_of, values_text}
+use Rattle.aig_claims.proofs.Marking.{marked_long}
 use Rattle.aig_claims.specs.LoopMark.{marked, marked_from, with_loop_mark, with_mark}
 use Rattle.aig_dump.specs.Parts.Showing.{IsRunText, marked_line, marked_lines}
 use Rattle.aig_verdicts.proofs.Files.{justice_files_are_read}
@@ -115,24 +116,13 @@ marked_text (suc start) (given ∷ steps) (l ∷ ls) are =
     let later : map text_of ls ≡ lines_text steps = cc in
     ap₂ (λ (xs ys : List ℕ). xs ++ ys) (ap (marked_line 48) here ∙ marked_step Zero given) (marked_text start steps ls later)
 
-long_with_mark : (n start : ℕ) (steps : List (List Val))
-    → AllByRecursion (λ (given : List Val). length given ≡ n) steps
-    → AllByRecursion (λ (given : List Val). length given ≡ n + 1) (marked_from start steps)
-long_with_mark n start [] each = tt
-long_with_mark n zero (given ∷ steps) each =
-    (length-append given (One ∷ []) ∙ ap (λ (k : ℕ). k + 1) each.0, long_with_mark n zero steps each.1)
-long_with_mark n (suc start) (given ∷ steps) each =
-    (length-append given (Zero ∷ []) ∙ ap (λ (k : ℕ). k + 1) each.0, long_with_mark n start steps each.1)
-
 pub marked_texts : (c : Circuit) (claim : Claim) (start : ℕ) (first st made : List ℕ) → IsRunText c claim first st
     → made ≡ marked_lines start (lines_of st) → IsRunText (with_loop_mark c) (marked start claim) first made
 marked_texts c claim start first st made text is =
-    let long : length (with_loop_mark c).inputs ≡ length c.inputs + 1 = length-append c.inputs ((c.max_var + 1) ∷ []) in
     let steps : List (List Val) = marked_from start claim.steps in
     record {
       starts = text.starts;
-      each = subst (λ (n : ℕ). AllByRecursion (λ (given : List Val). length given ≡ n) steps) (sym long)
-          (long_with_mark (length c.inputs) start claim.steps text.each);
+      each = marked_long c start claim.steps text.each;
       is_first = text.is_first;
       are_steps = ap (λ (bytes : List ℕ). map text_of (lines_of bytes))
           (is ∙ marked_text start claim.steps (lines_of st) text.are_steps)

@@ -1,7 +1,7 @@
 -- A lasso that is claimed is written in a file, and what is read of a file, line by line, is what it says as a whole.
 use Rattle.std.proofs.Common.{◌≡◌, ◌++◌, ◌∙◌, ◌∷◌, ℕ, suc, List, [], Bool, true, false, Decides, None, Ok, Option, Some}
 use Rattle.std.proofs.Common.{ap, ap₂, append_assoc, append-nil, arith, bytes_eq, codes, if◌then◌else◌, length, map, option_map}
-use Rattle.std.proofs.Common.{refl, sym}
+use Rattle.std.proofs.Common.{refl, subst, sym}
 use Rattle.std.specs.List.{AllByRecursion}
 use Rattle.std.proofs.lemmas.Slice.Eq.{bytes_eq-Decides}
 use Rattle.aig_circuit.specs.declared.circuit.Circuit.{Circuit}
@@ -135,8 +135,9 @@ module _ (c : Circuit) where
         text = t;
         behind = ts;
         parted = refl;
-        names = rw state.property_is (property_read 106 (length c.justice.sizes) t property says);
-        state = rw state.property_is state;
+        names = subst (λ (p : ℕ). NamesProperty 106 (length c.justice.sizes) t p) (sym state.property_is)
+            (property_read 106 (length c.justice.sizes) t property says);
+        state = subst (λ (p : ℕ). IsStateBehind p whole ts) (sym state.property_is) state;
       }
 
   property_back : (whole : Claim) (ts : List (List ℕ)) → said_texts shape 2 Version ts ≡ Ok (Whole whole)

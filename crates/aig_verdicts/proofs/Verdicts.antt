@@ -53,7 +53,8 @@ not_both c bytes claim other says justice =
     let bad = (witness_files_are_read c bytes claim).0 says in
     let file = (justice_files_are_read c bytes other).0 justice in
     let same = sym bad.texts ∙ file.texts in
-    cc
+    let letters : ◌≡◌ {A = ℕ} 98 106 = cc in
+    omega (arith, letters)
 
 pub one_verdict_at_most : OneVerdictAtMost
 one_verdict_at_most c bytes (BadState v) (BadState w) claim more formed says is says_too is_too =
