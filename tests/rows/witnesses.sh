@@ -1,6 +1,6 @@
-# The rows of aigsim --witness for bad states, for the table of all.sh. The witness comes by standard input, unless a row names
-# another; the model is the file that was made last. What is wanted was worked out by hand from docs/FORMAT.md,
-# "Witness".
+# The rows of aigsim --witness for bad states, for the table of all.sh. The witness comes by standard input, unless a
+# row names another; the model is the file that was made last. What is wanted was worked out by hand from
+# docs/FORMAT.md, "Witness".
 
 # confirms NAME WITNESS STEP, denies NAME WITNESS: the answer to a witness of the right form
 confirms() { row "$1" "$2" "confirmed $3\n" '' 0 aigsim --witness "$model"; }
