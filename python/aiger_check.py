@@ -837,6 +837,8 @@ class Search:
         self.assertion, self.tools, self.folder, self.progress = assertion, tools, folder, progress
         self.model, self.whole = model, Target(model.path, assertion.option)
         self.left = tools.limits.limit
+        #: what aiger says of witnesses
+        self.steps: Dict[Path, Optional[int]] = {}
         self.refuted = 0
         self.rows: List[str] = []
         #: of a miter the gates of its first half, and which latches are equal
@@ -948,10 +950,15 @@ class Search:
             return None
         path = self.folder / f"run{secrets.token_hex(4)}.aiw"
         path.write_text(text)
-        return path if self.step(path) is not None else None
+        self.steps[path] = self.tools.aiger.confirmed(self.model.path, path)
+        if self.steps[path] is None:
+            discard(path)
+            return None
+        return path
 
-    def step(self, witness: Path) -> Optional[int]:
-        return self.tools.aiger.confirmed(self.model.path, witness)
+    def step(self, witness: Path) -> int:
+        """The step that aiger said of a witness when it was written."""
+        return self.steps[witness]
 
     def length(self, witness: Path) -> int:
         """How many steps lead to what the witness claims."""
@@ -1165,7 +1172,7 @@ class Lassos(Search):
             return self.written(self.goals.witness(known, [*stem, *loop * rounds]))
 
         too_few, rounds, witness = 0, 1, behind(1)
-        while not witness and start + 2 * rounds * len(loop) <= self.MOST and time.monotonic() < end:
+        while loop and not witness and start + 2 * rounds * len(loop) <= self.MOST and time.monotonic() < end:
             too_few, rounds = rounds, 2 * rounds
             witness = behind(rounds)
         if not witness:
@@ -1175,6 +1182,8 @@ class Lassos(Search):
         while too_few + 1 < rounds:
             fewer = (too_few + rounds) // 2
             shorter = behind(fewer)
+            if shorter:
+                discard(witness)
             too_few, rounds, witness = (too_few, fewer, shorter) if shorter else (fewer, rounds, witness)
         return self.shortened(found.steps, witness)
 
