@@ -100,6 +100,15 @@ def read(text):
     return dataclasses.replace(reached.read(text.encode()), symbols=symbols)
 
 
+def need_shortest(room, found, wanted, said):
+    """That each lasso that is kept has as few steps as any, unless a note says that this is not proved."""
+    least = {it.name: it.step for it in wanted if it.has_lasso}
+    for it in found:
+        if it.answer == "lasso" and f"{it.name} ({it.source}): that no shorter lasso" not in said.err:
+            steps = len((room.here / it.witness).read_text(encoding="ascii").splitlines()) - 4
+            checked.need(steps == least[it.name], f"{it} has {steps} steps, and not {least[it.name]}", said)
+
+
 def of_model(which, has_tools, room):
     """A model in text and in binary, in lines and as an object, and what is kept."""
     text, steps, lassos = TEXTS[which]
@@ -110,7 +119,9 @@ def of_model(which, has_tools, room):
     (room.here / "model.aig").write_bytes(model_rows.binary(room, text))
     room.may_write.add("kept")
     said = room.run("--frames", "12", "--keep", "kept", "model.aag", changes=changes)
-    checked.judge_kept(room, room.here / "kept", checked.judge(said, found, frames=12), said)
+    answers = checked.judge(said, found, frames=12)
+    checked.judge_kept(room, room.here / "kept", answers, said)
+    need_shortest(room, answers, found, said)
     said = room.run("--frames", "12", "--json", "model.aig", changes=changes)
     checked.judge(said, truths(read(text), "model.aig"), frames=12)
 
@@ -122,8 +133,10 @@ def by_chance(at, has_tools, way, frames, room):
     (room.here / name).write_bytes(images.image(made) if at % 2 else images.ascii_text(made))
     room.may_write.add("kept")
     said = room.run("--keep", "kept", "--frames", str(frames), "--jobs", "1", name, changes=changes)
-    found = checked.judge(said, truths(made, name), way, frames)
+    wanted = truths(made, name)
+    found = checked.judge(said, wanted, way, frames)
     checked.judge_kept(room, room.here / "kept", found, said)
+    need_shortest(room, found, wanted, said)
 
 
 def in_design(design, room):
