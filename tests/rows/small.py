@@ -183,7 +183,7 @@ ROWS = [
     *simulated("a witness", "--witness", BAD, b"1\nb0\n0\n\n\n.\n", b"confirmed 1\n"),
     *simulated("the dump of a witness", "--witness --vcd", BAD, b"1\nb0\n0\n\n\n.\n", BAD_RUN),
     *simulated("a lasso", "--witness", LIVE, LASSO, b"confirmed 2\n"),
-    *simulated("a lasso that is none", "--witness", LIVE, b"1\nj0\n0\n1\n0\n1\n0\n0\n1\n.", b"confirmed 1\n"),
+    *simulated("a lasso of five steps behind a stem", "--witness", LIVE, b"1\nj0\n0\n1\n0\n1\n0\n0\n1\n.", b"confirmed 1\n"),
     *simulated("the dump of a lasso", "--witness --vcd", LIVE, LASSO, LASSO_RUN),
     Row("every section", "aigtoaig --ascii", EVERY + EVERY_NAMES, EVERY + EVERY_NAMES),
     Row("every section with its map", "aigtoaig --keep-map", EVERY + EVERY_NAMES + b"x", EVERY_MAPPED),
