@@ -23,7 +23,7 @@ use Rattle.aig_lasso.specs.declared.verdict.LassoVerdict.{LassoVerdict}
 use Rattle.aig_lasso.specs.declared.verdict.LassoVerdict.TheVariants.{Confirmed, NotConfirmed}
 use Rattle.aig_lasso.proofs.Round.{lassos_are_fair_runs}
 use Rattle.aig_replay.proofs.WitnessText.{text_is}
-use Rattle.aig_verdicts.proofs.Files.{lassos_have_files}
+use Rattle.aig_verdicts.proofs.Files.{lasso_file_says, lassos_have_files}
 use Rattle.aig_verdicts.proofs.Verdicts.{justice_claims_have_verdicts}
 use Rattle.aig_verdicts.specs.Kinds.{SaysJustice}
 use Rattle.aig_verdicts.specs.declared.verdict.WitnessVerdict.TheVariants as verdicts
@@ -160,7 +160,7 @@ confirmed_by judging c file witness claim start (Confirmed first) read says lass
   first,
   elim (cases_lt start first) [
     | inl earlier ↦ absurd (is.1 start earlier lasso)
-    | inr no ↦ omega (arith, no)
+    | inr other ↦ omega (arith, other)
   ],
   record { found = c; claim = claim; read = read; says = says; is_verdict = is },
 )
@@ -171,7 +171,8 @@ right_lassos_are_confirmed judging c file claim start read goals lasso =
     let good = well_formed_file file judging.max_var c read in
     let written = lassos_have_files c claim start good goals.0 lasso in
     let verdict = justice_claims_have_verdicts c written.0 claim good written.1 goals in
-    (written.0, written.1, confirmed_by judging c file written.0 claim start verdict.0 read written.1 lasso verdict.1)
+    let found = confirmed_by judging c file written.0 claim start verdict.0 read written.1 lasso verdict.1 in
+    (written.0, written.1, found.0, found.1, found.2)
 
 -- the model has the property, of not too many goals
 goals_there : (request : Reach) (number : ℕ) (c selected : Circuit) (model : List ℕ)
@@ -191,9 +192,9 @@ lasso_answers_are_confirmed request number judging c selected model answer text 
     answers_are_lassos request number c selected model answer text is_justice file of_model is in
     let has = goals_there request number c selected model is_justice file of_model in
     let goals : HasGoals claim.property c = subst (λ (n : ℕ). HasGoals n c) (sym property_is) has in
-    let written = lassos_have_files c claim start good goals.0 lasso in
-    let bytes : written.0 ≡ text = text_is 106 claim ∙ sym text_is_lasso in
-    let says : SaysJustice c text claim = subst (λ (bs : List ℕ). SaysJustice c bs claim) bytes written.1 in
+    let says : SaysJustice c text claim =
+    subst (λ (bs : List ℕ). SaysJustice c bs claim) (text_is 106 claim ∙ sym text_is_lasso)
+    (lasso_file_says c claim start good goals.0 lasso) in
     let verdict = justice_claims_have_verdicts c text claim good says goals in
     let found = confirmed_by judging c model text claim start verdict.0
     (subst (λ (n : ℕ). IsFileOf model n c) (sym limit) file) says lasso verdict.1 in

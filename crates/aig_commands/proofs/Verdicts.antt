@@ -61,7 +61,7 @@ judged_justice request c file witness claim read says =
     let good = well_formed_file file request.max_var c read in
     let there = ((justice_files_are_read c witness claim).0 says).below in
     elim (cases_lt LARGEST (length (goals_of claim.property c))) [
-      | inl many ↦ inr (fault_at TooLargeJustice Whole 0, refl, claim, says, refl, there, many)
+      | inl many ↦ inr (fault_at TooLargeJustice Whole 0, (refl, claim, says, (refl, there, many)))
       | inr few ↦
           let one = justice_claims_have_verdicts c witness claim good says (there, few) in
           inl (

@@ -1,12 +1,14 @@
 -- A lasso that is claimed is written in a file, and what is read of a file, line by line, is what it says as a whole.
-use Rattle.std.proofs.Common.{◌≡◌, ◌++◌, ◌∙◌, ◌∷◌, ℕ, suc, List, [], Bool, true, false, Decides, None, Ok, Option, Some}
+use Rattle.std.proofs.Common.{◌≡◌, ◌<◌, ◌++◌, ◌∙◌, ◌∷◌, ℕ, suc, List, [], Bool, true, false, Decides, None, Ok, Option, Some}
 use Rattle.std.proofs.Common.{ap, ap₂, append_assoc, append-nil, arith, bytes_eq, codes, if◌then◌else◌, length, map, option_map}
 use Rattle.std.proofs.Common.{refl, subst, sym}
 use Rattle.std.specs.List.{AllByRecursion}
 use Rattle.std.proofs.lemmas.Slice.Eq.{bytes_eq-Decides}
 use Rattle.aig_circuit.specs.declared.circuit.Circuit.{Circuit}
 use Rattle.aig_circuit.specs.declared.value.Val.{Val}
+use Rattle.aig_circuit.specs.Wellformed.{IsWellFormed}
 use Rattle.aig_lasso.specs.Goals.{with_goals}
+use Rattle.aig_lasso.specs.Lasso.{IsLasso}
 use Rattle.aig_lines.specs.Lines.{lines_of}
 use Rattle.aig_meaning.specs.Trace.{IsFirstState}
 use Rattle.aig_step.proofs.LineValues.{values_back}
@@ -22,17 +24,21 @@ use Rattle.aig_witness.proofs.Witnessing.{NamesProperty, may_start, property_rea
 use Rattle.aig_witness.specs.Witness.{Claim, Property, Nothing, Shape, Steps, Version, Whole, begun_at, first_state_in}
 use Rattle.aig_witness.specs.Witness.{property_by, said_behind, with_entry, Said}
 
+-- the file that is written of a lasso claims it
+pub lasso_file_says : (c : Circuit) (claim : Claim) (start : ℕ) → IsWellFormed c
+    → claim.property < length c.justice.sizes → IsLasso c claim start → SaysJustice c (file_by 106 claim) claim
+lasso_file_says c claim start formed below lasso =
+    file_by_says (justice_shape (length c.justice.sizes) c) claim (record {
+      letter = (λ e. omega (arith, e), λ e. omega (arith, e));
+      few = omega (arith, formed.limits.justice);
+      below = below;
+      starts = lasso.trace.0;
+      each = each_long (with_goals claim.property c) claim.first claim.steps lasso.rows lasso.trace.1;
+    })
+
 pub lassos_have_files : LassosHaveFiles
-lassos_have_files c claim start formed below lasso = (
-  file_by 106 claim,
-  file_by_says (justice_shape (length c.justice.sizes) c) claim (record {
-    letter = (λ e. omega (arith, e), λ e. omega (arith, e));
-    few = omega (arith, formed.limits.justice);
-    below = below;
-    starts = lasso.trace.0;
-    each = each_long (with_goals claim.property c) claim.first claim.steps lasso.rows lasso.trace.1;
-  }),
-)
+lassos_have_files c claim start formed below lasso =
+    (file_by 106 claim, lasso_file_says c claim start formed below lasso)
 
 -- ---- what lines say, from the last to the first
 
