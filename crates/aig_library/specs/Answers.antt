@@ -19,7 +19,7 @@ use Rattle.aig_fault.specs.declared.stopped.Stopped.TheVariants as stops
 use Rattle.aig_commands.specs.Comparing.{IsFirst, IsMiterText, NotFirst, NotMiter}
 use Rattle.aig_commands.specs.Conversion.{IsConversionRefused, IsConversionText}
 use Rattle.aig_commands.specs.File.{IsFileOf}
-use Rattle.aig_commands.specs.Proving.{IsInvariantModel, IsInvariantText, IsStrengthened, NotInvariantModel}
+use Rattle.aig_commands.specs.Proving.{IsInvariantModel, IsInvariantText, IsStrengthened, NoRunHas, NotInvariantModel}
 use Rattle.aig_commands.specs.Proving.{NotStrengthened}
 use Rattle.aig_commands.specs.Reaching.{IsModelRefused, IsReachRefused, IsReachText, IsSelectedModel}
 use Rattle.aig_commands.specs.Reading.{IsUnreadable}
