@@ -23,7 +23,7 @@ use Rattle.aig_simplify.specs.Folded.{folded_literal}
 use Rattle.aig_simplify.specs.Laws.{FoldedHasNothingToFold}
 use Rattle.aig_simplify.specs.Swept.{IsUsed}
 use Rattle.aig_simplify.proofs.SameMeaning.{same_next}
-use Rattle.aig_simplify.proofs.Sweeping.{among_of, later_contained}
+use Rattle.aig_simplify.proofs.Sweeping.{among_of}
 
 own_variable : (v : ℕ) → variable_of (literal_of v) ≡ v
 own_variable v = omega arith
@@ -72,13 +72,13 @@ among_mapped P (l ∷ ls) all v a =
     ⊎_elim (λ (e : v ≡ variable_of l). subst P (sym e) all.0)
     (λ (i : IsAmong v (map variable_of ls)). among_mapped P ls all.1 v i) a
 
-mapped_back : (f : Gate → Gate) (gs : List Gate) (h : Gate) → Contains (map f gs) h
-    → (g : Gate) × Contains gs g × (f g ≡ h)
-mapped_back f [] h (k, below, is) = absurd (omega (arith, below))
-mapped_back f (g ∷ gs) h (zero, below, is) = (g, (zero, omega arith, refl), is)
-mapped_back f (g ∷ gs) h (suc k, below, is) =
-    let there = mapped_back f gs h (k, omega (arith, below), is) in
-    (there.0, later_contained g there.0 gs there.1, there.2)
+pub mapped_back : {A B : Type 0} (f : A → B) (xs : List A) (y : B) → Contains (map f xs) y
+    → (x : A) × Contains xs x × (f x ≡ y)
+mapped_back f [] y (k, below, is) = absurd (omega (arith, below))
+mapped_back f (x ∷ xs) y (zero, below, is) = (x, (zero, omega arith, refl), is)
+mapped_back f (x ∷ xs) y (suc k, below, is) =
+    let there = mapped_back f xs y (k, omega (arith, below), is) in
+    (there.0, (suc there.1.0, omega (arith, there.1.1), there.1.2), there.2)
 
 module _ (f : ℕ → ℕ) (c d : Circuit) (is : IsFoldedBy f c d) (good : IsWellFormed c) where
   abbrev rank : ℕ → ℕ

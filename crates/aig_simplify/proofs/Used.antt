@@ -129,7 +129,7 @@ module _ (c : Circuit) where
       ⊎_elim (λ (m : is_marked m6 v ≡ true). inl (s6 v m)) (λ (n : IsNeedOfNeeded m7 c.gates v). inr n) (gates v marked)
 
 -- the operands of one of the gates
-operand_among : (v : ℕ) (gs : List Gate) (g : Gate) → Contains gs g → IsAmong v (map variable_of (operands g))
+pub operand_among : (v : ℕ) (gs : List Gate) (g : Gate) → Contains gs g → IsAmong v (map variable_of (operands g))
     → IsAmong v (map variable_of (flat_map operands gs))
 operand_among v [] g (k, below, is) a = absurd (omega (arith, below))
 operand_among v (x ∷ gs) g (zero, below, is) a =
