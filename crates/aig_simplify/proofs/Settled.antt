@@ -5,7 +5,6 @@ use Rattle.std.proofs.Common.{refl, sym, ap, subst, inl, inr, ⊎_elim, arith, e
 use Rattle.std.specs.List.{AllByRecursion, Contains, concat, flat_map}
 use Rattle.std.proofs.lemmas.Bool.{cond_both, false≢true}
 use Rattle.std.proofs.lemmas.Bool.Decides.{Decides-eqb}
-use Rattle.aig_circuit.specs.declared.circuit.Justice.{Justice}
 use Rattle.aig_circuit.specs.declared.circuit.Gate.{Gate}
 use Rattle.aig_circuit.specs.declared.circuit.Circuit.{Circuit}
 use Rattle.aig_circuit.specs.Literal.{literal_of, negation_of, variable_of}
@@ -18,7 +17,7 @@ use Rattle.aig_meaning.specs.Meaning.{latch_variables, next_literals}
 use Rattle.aig_meaning.proofs.Related.{gate_named, of_operands, variables_of}
 use Rattle.aig_image.proofs.Meaning.{larger_first}
 use Rattle.aig_image.proofs.Relabelling.Formed.{all_through}
-use Rattle.aig_simplify.specs.Folded.{HasNothingToFold, IsFoldedBy, NeedsGate, NeedsNoGate, StandsForItself, folded_gate}
+use Rattle.aig_simplify.specs.Folded.{HasGateFor, HasNothingToFold, IsFoldedBy, NeedsGate, NeedsNoGate, StandsForItself, folded_gate}
 use Rattle.aig_simplify.specs.Folded.{folded_literal}
 use Rattle.aig_simplify.specs.Laws.{FoldedHasNothingToFold}
 use Rattle.aig_simplify.specs.Swept.{IsUsed}
@@ -90,6 +89,9 @@ module _ (f : ℕ → ℕ) (c d : Circuit) (is : IsFoldedBy f c d) (good : IsWel
   abbrev IsKnownThere : ℕ → Type 0
   IsKnownThere = IsKnown (defined_variables c)
 
+  its_gates : d.gates ≡ map (folded_gate f) c.gates
+  its_gates = ap (λ (x : Circuit). x.gates) is.same
+
   known_settled : (l : ℕ) → IsKnownThere l
       → ((h : Gate) → Contains c.gates h → variable_of l ≡ h.var → IsSettled f h.var) → IsSettled f (variable_of l)
   known_settled l known of_gate =
@@ -133,9 +135,8 @@ module _ (f : ℕ → ℕ) (c d : Circuit) (is : IsFoldedBy f c d) (good : IsWel
       (λ (o : (min x y ≡ max x y) × (f g.var ≡ max x y)). subst (IsOverOwn f) (sym o.1) larger)
       i)
       none)
-      (λ (h : (h : Gate) × Contains d.gates h × (h.left ≡ max x y) × (h.right ≡ min x y)
-      × NeedsGate h.left h.right × (f g.var ≡ literal_of h.var) × StandsForItself f h.var).
-      subst (IsOverOwn f) (sym h.5) (subst (StandsForItself f) (sym (own_variable h.0.var)) h.6))
+      (λ (h : HasGateFor f d.gates (folded_gate f g) (f g.var)).
+      subst (IsOverOwn f) (sym h.5) (subst (StandsForItself f) (sym (own_variable h.0.var)) h.4))
       (is.gates g g_in)
 
   known_stands : (l : ℕ) → IsKnownThere l → IsOverOwn f (folded_literal f l)
@@ -168,15 +169,15 @@ module _ (f : ℕ → ℕ) (c d : Circuit) (is : IsFoldedBy f c d) (good : IsWel
       subst AllOverOwn (sym (same_next f c d is))
       (list_stands (next_literals c) (front IsKnownThere (next_literals c) (concat (literal_lists c)) known_first)) in
       let lists_stand : AllByRecursion AllOverOwn (literal_lists d) = (
-        subst AllOverOwn (sym is.outputs) (list_stands c.outputs lists.0),
+        subst AllOverOwn (sym (ap (λ (x : Circuit). x.outputs) is.same)) (list_stands c.outputs lists.0),
         (
-          subst AllOverOwn (sym is.bad) (list_stands c.bad lists.1.0),
+          subst AllOverOwn (sym (ap (λ (x : Circuit). x.bad) is.same)) (list_stands c.bad lists.1.0),
           (
-            subst AllOverOwn (sym is.constraints) (list_stands c.constraints lists.1.1.0),
+            subst AllOverOwn (sym (ap (λ (x : Circuit). x.constraints) is.same)) (list_stands c.constraints lists.1.1.0),
             (
-              subst AllOverOwn (sym (ap (λ (j : Justice). j.literals) is.justice))
+              subst AllOverOwn (sym (ap (λ (x : Circuit). x.justice.literals) is.same))
                   (list_stands c.justice.literals lists.1.1.1.0),
-              (subst AllOverOwn (sym is.fairness) (list_stands c.fairness lists.1.1.1.1.0), tt),
+              (subst AllOverOwn (sym (ap (λ (x : Circuit). x.fairness) is.same)) (list_stands c.fairness lists.1.1.1.1.0), tt),
             ),
           ),
         ),
@@ -184,7 +185,7 @@ module _ (f : ℕ → ℕ) (c d : Circuit) (is : IsFoldedBy f c d) (good : IsWel
       joined (IsOverOwn f) (next_literals d ++ concat (literal_lists d)) (flat_map operands d.gates)
       (joined (IsOverOwn f) (next_literals d) (concat (literal_lists d)) nexts
       (joined_all (IsOverOwn f) (literal_lists d) lists_stand))
-      (subst (λ (gs : List Gate). AllOverOwn (flat_map operands gs)) (sym is.operands)
+      (subst (λ (gs : List Gate). AllOverOwn (flat_map operands gs)) (sym its_gates)
       (operands_stand c.gates
       (back IsKnownThere (next_literals c ++ concat (literal_lists c)) (flat_map operands c.gates) good.known)))
 
@@ -216,16 +217,15 @@ module _ (f : ℕ → ℕ) (c d : Circuit) (is : IsFoldedBy f c d) (good : IsWel
       (λ (o : (min x y ≡ max x y) × (f g.var ≡ max x y)). absurd (not_own o.1))
       i)
       none)
-      (λ (h : (h : Gate) × Contains d.gates h × (h.left ≡ max x y) × (h.right ≡ min x y)
-      × NeedsGate h.left h.right × (f g.var ≡ literal_of h.var) × StandsForItself f h.var).
-      subst (λ (l : ℕ). NeedsGate l (min x y)) h.2 (subst (λ (r : ℕ). NeedsGate h.0.left r) h.3 h.4))
+      (λ (h : HasGateFor f d.gates (folded_gate f g) (f g.var)).
+      subst (λ (l : ℕ). NeedsGate l (min x y)) h.2.0 (subst (λ (r : ℕ). NeedsGate h.0.left r) h.2.1 h.3))
       (is.gates g g_in)
 
   nothing_left : IsWellFormed d → HasNothingToFold d
   nothing_left good_too = record {
     needed = λ g g_in used.
         let source = mapped_back (folded_gate f) c.gates g
-        (subst (λ (gs : List Gate). Contains gs g) is.operands g_in) in
+        (subst (λ (gs : List Gate). Contains gs g) its_gates g_in) in
         let own : StandsForItself f source.0.var =
         subst (λ (h : Gate). StandsForItself f h.var) (sym source.2) (used_stands g.var used) in
         subst (λ (h : Gate). NeedsGate h.left h.right) source.2
