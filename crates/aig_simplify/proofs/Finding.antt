@@ -175,7 +175,8 @@ module _ (last before : List ℕ) (gates : List Gate) (at : ℕ) (knows : KnowsB
   same_place : (g : Gate) → place_of lasts g ≡ place_of last g
   same_place g = ap (λ (n : ℕ). bit_and (mark_of g) (n - 1)) (length-set last mark (at + 1))
 
-  like_still : (g : Gate) → ReachesLike before (link_for last g) gates g → ReachesLike befores (link_for lasts g) gates g
+  like_still : (g : Gate) → ReachesLike before (link_for last g) gates g
+      → ReachesLike befores (link_for lasts g) gates g
   like_still g like = (
     like.0,
     subst (λ (p : ℕ). IsReached befores (link_at lasts p) like.0) (sym (same_place g))

@@ -159,7 +159,8 @@ module _ (c : Circuit) (order : List ℕ) (good : IsWellFormed c) (least : IsLea
       mapped_first variable_of (f v) (next_literals new) (concat (literal_lists new))
       (subst (λ (ls : List ℕ). IsAmong (f v) (map variable_of ls)) (sym same_nexts) (list_there v (next_literals c) i)))
       (λ (i : IsAmong v (map variable_of (concat (literal_lists c)))).
-      mapped_last variable_of (f v) (next_literals new) (concat (literal_lists new)) (lists_there v (literal_lists c) i))
+      mapped_last variable_of (f v) (next_literals new) (concat (literal_lists new))
+      (lists_there v (literal_lists c) i))
       (among_either v (map variable_of (next_literals c)) (map variable_of (concat (literal_lists c)))
       (subst (IsAmong v) (map-append variable_of (next_literals c) (concat (literal_lists c))) a))
 
@@ -224,7 +225,8 @@ module _ (c : Circuit) (order : List ℕ) (good : IsWellFormed c) (least : IsLea
 
   operands_known : (g : Gate) → Contains c.gates g → IsKnownThere g.left × IsKnownThere g.right
   operands_known =
-      of_operands IsKnownThere c.gates (last_part IsKnownThere (shown_literals c) (flat_map operands c.gates) good.known)
+      of_operands IsKnownThere c.gates
+      (last_part IsKnownThere (shown_literals c) (flat_map operands c.gates) good.known)
 
   module _ (sorted : (g : Gate) → Contains c.gates g → g.right ≤ g.left) where
     still_needed : (g : Gate) → Contains c.gates g → NeedsGate g.left g.right

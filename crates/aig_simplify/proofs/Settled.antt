@@ -1,5 +1,5 @@
--- What stands for a variable stands for itself. So where a circuit is folded, each gate that is used needs a gate, and no
--- two are alike.
+-- What stands for a variable stands for itself. So where a circuit is folded, each gate that is used needs a gate, and
+-- no two are alike.
 use Rattle.std.proofs.Common.{◌≡◌, ◌≢◌, ◌+◌, ◌-◌, ◌%◌, ◌<◌, ◌≤◌, ◌∷◌, ◌++◌, ◌∙◌, ◌⊎◌, ℕ, zero, suc, List, [], map}
 use Rattle.std.proofs.Common.{refl, sym, ap, subst, inl, inr, ⊎_elim, arith, eqb, max, min}
 use Rattle.std.specs.List.{AllByRecursion, Contains, concat, flat_map}
@@ -8,8 +8,8 @@ use Rattle.std.proofs.lemmas.Bool.Decides.{Decides-eqb}
 use Rattle.aig_circuit.specs.declared.circuit.Gate.{Gate}
 use Rattle.aig_circuit.specs.declared.circuit.Circuit.{Circuit}
 use Rattle.aig_circuit.specs.Literal.{literal_of, negation_of, variable_of}
-use Rattle.aig_circuit.specs.Wellformed.{IsAmong, IsKnown, IsVariableUpTo, IsWellFormed, defined_variables, literal_lists}
-use Rattle.aig_circuit.specs.Wellformed.{operands, used_literals}
+use Rattle.aig_circuit.specs.Wellformed.{IsAmong, IsKnown, IsVariableUpTo, IsWellFormed, defined_variables}
+use Rattle.aig_circuit.specs.Wellformed.{literal_lists, operands, used_literals}
 use Rattle.aig_circuit.proofs.Checking.{back, each, each_of, front, joined, joined_all}
 use Rattle.aig_topo.proofs.Ordering.Counted.{among_either}
 use Rattle.aig_topo.proofs.Ordering.Cyclic.{among_last}
@@ -17,7 +17,8 @@ use Rattle.aig_meaning.specs.Meaning.{latch_variables, next_literals}
 use Rattle.aig_meaning.proofs.Related.{gate_named, of_operands, variables_of}
 use Rattle.aig_image.proofs.Meaning.{larger_first}
 use Rattle.aig_image.proofs.Relabelling.Formed.{all_through}
-use Rattle.aig_simplify.specs.Folded.{HasGateFor, HasNothingToFold, IsFoldedBy, NeedsGate, NeedsNoGate, StandsForItself, folded_gate}
+use Rattle.aig_simplify.specs.Folded.{HasGateFor, HasNothingToFold, IsFoldedBy, NeedsGate, NeedsNoGate}
+use Rattle.aig_simplify.specs.Folded.{StandsForItself, folded_gate}
 use Rattle.aig_simplify.specs.Folded.{folded_literal}
 use Rattle.aig_simplify.specs.Laws.{FoldedHasNothingToFold}
 use Rattle.aig_simplify.specs.Swept.{IsUsed}
@@ -143,7 +144,9 @@ module _ (f : ℕ → ℕ) (c d : Circuit) (is : IsFoldedBy f c d) (good : IsWel
   known_stands l known =
       literal_settled f l
       (known_settled l known
-      (λ h h_in same. let low : rank h.var < suc (rank h.var) = omega arith in gate_settled (suc (rank h.var)) h h_in low))
+      (λ h h_in same.
+      let low : rank h.var < suc (rank h.var) = omega arith in
+      gate_settled (suc (rank h.var)) h h_in low))
 
   abbrev AllOverOwn : List ℕ → Type 0
   AllOverOwn = AllByRecursion (IsOverOwn f)
@@ -164,7 +167,8 @@ module _ (f : ℕ → ℕ) (c d : Circuit) (is : IsFoldedBy f c d) (good : IsWel
       let known_first : AllByRecursion IsKnownThere (next_literals c ++ concat (literal_lists c)) =
       front IsKnownThere (next_literals c ++ concat (literal_lists c)) (flat_map operands c.gates) good.known in
       let lists : AllByRecursion (AllByRecursion IsKnownThere) (literal_lists c) =
-      each_of IsKnownThere (literal_lists c) (back IsKnownThere (next_literals c) (concat (literal_lists c)) known_first) in
+      each_of IsKnownThere (literal_lists c)
+      (back IsKnownThere (next_literals c) (concat (literal_lists c)) known_first) in
       let nexts : AllOverOwn (next_literals d) =
       subst AllOverOwn (sym (same_next f c d is))
       (list_stands (next_literals c) (front IsKnownThere (next_literals c) (concat (literal_lists c)) known_first)) in
@@ -173,11 +177,16 @@ module _ (f : ℕ → ℕ) (c d : Circuit) (is : IsFoldedBy f c d) (good : IsWel
         (
           subst AllOverOwn (sym (ap (λ (x : Circuit). x.bad) is.same)) (list_stands c.bad lists.1.0),
           (
-            subst AllOverOwn (sym (ap (λ (x : Circuit). x.constraints) is.same)) (list_stands c.constraints lists.1.1.0),
+            subst AllOverOwn (sym (ap (λ (x : Circuit). x.constraints) is.same))
+                (list_stands c.constraints lists.1.1.0),
             (
               subst AllOverOwn (sym (ap (λ (x : Circuit). x.justice.literals) is.same))
                   (list_stands c.justice.literals lists.1.1.1.0),
-              (subst AllOverOwn (sym (ap (λ (x : Circuit). x.fairness) is.same)) (list_stands c.fairness lists.1.1.1.1.0), tt),
+              (
+                subst AllOverOwn (sym (ap (λ (x : Circuit). x.fairness) is.same))
+                    (list_stands c.fairness lists.1.1.1.1.0),
+                tt,
+              ),
             ),
           ),
         ),

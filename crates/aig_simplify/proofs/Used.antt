@@ -1,6 +1,6 @@
 -- Only what a circuit shows and what gates need that are needed is marked, so each gate that is left is used.
-use Rattle.std.proofs.Common.{◌≡◌, ◌+◌, ◌<◌, ◌∷◌, ◌++◌, ◌∙◌, ℕ, zero, suc, List, [], length, get_or, map, set, Bool, true}
-use Rattle.std.proofs.Common.{refl, sym, ap, subst, inl, inr, ⊎_elim, arith}
+use Rattle.std.proofs.Common.{◌≡◌, ◌+◌, ◌<◌, ◌∷◌, ◌++◌, ◌∙◌, ℕ, zero, suc, List, [], length, get_or, map, set, Bool}
+use Rattle.std.proofs.Common.{true, refl, sym, ap, subst, inl, inr, ⊎_elim, arith}
 use Rattle.std.specs.List.{Contains, concat, filter, flat_map}
 use Rattle.std.proofs.lemmas.Bool.{cases_eq, false≢true}
 use Rattle.std.proofs.lemmas.List.{get_or_default, map-append}
@@ -16,8 +16,8 @@ use Rattle.aig_topo.proofs.Ordering.Cyclic.{among_last}
 use Rattle.aig_meaning.specs.Meaning.{next_literals}
 use Rattle.aig_simplify.specs.Swept.{UsesEachGate}
 use Rattle.aig_simplify.specs.Parts.Folding.{gate_at}
-use Rattle.aig_simplify.specs.Parts.Sweeping.{AreUnmarked, IsNeedOfNeeded, KeepMarks, OnlyMark, OnlyMarkNeeds, OnlyNeeded}
-use Rattle.aig_simplify.specs.Parts.Sweeping.{is_marked, shown_literals}
+use Rattle.aig_simplify.specs.Parts.Sweeping.{AreUnmarked, IsNeedOfNeeded, KeepMarks, OnlyMark, OnlyMarkNeeds}
+use Rattle.aig_simplify.specs.Parts.Sweeping.{OnlyNeeded, is_marked, shown_literals}
 use Rattle.aig_simplify.proofs.Marking.{keeps_marked, unmarked_still}
 use Rattle.aig_simplify.proofs.Stepping.{ordered_at}
 use Rattle.aig_simplify.proofs.Sweeping.{kept_contained, left_passes, with_gates}

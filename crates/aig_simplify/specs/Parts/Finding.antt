@@ -34,8 +34,8 @@ pub data IsReached (before : List ℕ) : ℕ → ℕ → Type 0 where
 abbrev pub ReachesLike : List ℕ → ℕ → List Gate → Gate → Type 0
 ReachesLike before link gates g = (j : ℕ) × IsReached before link j × HasSameOperands (gate_at gates j) g
 
--- The gates before a place are known: whichever needs a gate, one with its operands is reached from the link of its mark,
--- and what is reached is the first with its operands.
+-- The gates before a place are known: whichever needs a gate, one with its operands is reached from the link of its
+-- mark, and what is reached is the first with its operands.
 pub record KnowsBy (last before : List ℕ) (gates : List Gate) (at : ℕ) : Type 0 where
   pub marks : 0 < length last
   pub room : length before ≡ length gates
