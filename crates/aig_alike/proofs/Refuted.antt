@@ -1,4 +1,4 @@
--- Where nothing satisfies the clauses of a circuit, nothing satisfies those of one that means the same.
+-- What satisfies the clauses of a circuit goes over to those of one that means the same.
 use Rattle.std.proofs.Common.{◌≡◌, ◌∙◌, ◌∷◌, ◌||◌, ℕ, List, [], Bool, true, false, length, map, refl, sym, ap, ap₂}
 use Rattle.std.specs.List.{list_any}
 use Rattle.std.proofs.lemmas.List.{length-map}
@@ -14,7 +14,7 @@ use Rattle.aig_cnf.proofs.Steps.{clauses_are_steps}
 use Rattle.aig_cnf.proofs.Truths.{truth_literal}
 use Rattle.aig_meaning.specs.Meaning.{IsRow, Row, latch_variables, literal_value}
 use Rattle.aig_meaning.proofs.Traces.{one_row, row_shown}
-use Rattle.aig_alike.specs.Laws.{RefutedAlike}
+use Rattle.aig_alike.specs.Laws.{RefutedAlike, SatisfiedAlike}
 
 is_one : Val → Bool
 is_one Zero = false
@@ -45,8 +45,8 @@ row_is c a satisfied = (
 same_truths : (a b : ℕ → Bool) (xs ys : List ℕ) → map b ys ≡ map a xs → map (truths b) ys ≡ map (truths a) xs
 same_truths a b xs ys e = sym (map-map truth b ys) ∙ ap (map truth) e ∙ map-map truth a xs
 
-pub refuted_alike : RefutedAlike
-refuted_alike c d good good_too same none a satisfied =
+pub satisfied_alike : SatisfiedAlike
+satisfied_alike c d good good_too same a satisfied =
     let steps : Satisfies a (step_clauses c) = front (HasTrue a) (step_clauses c) (c.bad ∷ []) satisfied in
     let any : list_any (is_true a) c.bad ≡ true =
     (back (HasTrue a) (step_clauses c) (c.bad ∷ []) satisfied).0 in
@@ -70,4 +70,9 @@ refuted_alike c d good good_too same none a satisfied =
     ∙ sym (one.4 row refl refl (row_is c a steps)) in
     let any_too : list_any (is_true b) d.bad ≡ true =
     sym (any_true b d.bad) ∙ ap (λ (r : Row). list_any is_one r.bad) alike ∙ any_true a c.bad ∙ any in
-    none b (joined (HasTrue b) (step_clauses d) (d.bad ∷ []) set.3 (any_too, tt))
+    (b, joined (HasTrue b) (step_clauses d) (d.bad ∷ []) set.3 (any_too, tt), set.2, set.1)
+
+pub refuted_alike : RefutedAlike
+refuted_alike c d good good_too same none a satisfied =
+    let there = satisfied_alike c d good good_too same a satisfied in
+    none there.0 there.1
