@@ -64,18 +64,6 @@ only_operands first at gates needed gate l r ordered there on same l_is r_is kep
       ]
     ]
 
--- and so on, gate by gate
-pub needs_through : (a b c : List Bool) (gates : List Gate) → OnlyMarkNeeds a b gates → KeepMarks b c
-    → OnlyMarkNeeds b c gates → OnlyMarkNeeds a c gates
-needs_through a b c gates first kept second v marked =
-    ⊎_elim
-    (λ (m : is_marked b v ≡ true).
-    ⊎_elim (λ (o : is_marked a v ≡ true). inl o)
-    (λ (n : IsNeedOfNeeded b gates v). inr (n.0, n.1, kept (gate_at gates n.0).var n.2, n.3))
-    (first v m))
-    (λ (n : IsNeedOfNeeded c gates v). inr n)
-    (second v marked)
-
 in_lists : (v : ℕ) (lists : List (List ℕ)) (k : ℕ) → k < length lists → IsAmong v (map variable_of (get_or lists k []))
     → IsAmong v (map variable_of (concat lists))
 in_lists v [] k below a = absurd (omega (arith, below))

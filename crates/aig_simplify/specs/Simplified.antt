@@ -1,5 +1,5 @@
--- Circuits that are simplified (this project's profile): the same circuit to whoever looks at what it shows, with no gate
--- that could be left out by folding or sweeping.
+-- Circuits that are simplified (this project's profile): the same to whoever looks at what it shows, in binary order,
+-- with no gate that folding or sweeping would leave out.
 use Rattle.aig_circuit.specs.declared.circuit.Circuit.{Circuit}
 use Rattle.aig_checked.specs.BinaryOrder.{IsInBinaryOrder}
 use Rattle.aig_meaning.specs.Meaning.{MeansTheSame}
