@@ -739,10 +739,13 @@ if grep -q '^$comment confirmed 0 $end$' "$files/w.vcd"; then pass; else
     fail 'the example of help of aigsim writes the waveform of a witness'
 fi
 helps 'help of aigunroll' aigunroll --help
-# its examples too; the half adder has no latches, so each frame is a copy of it. In the place of the solver is one that knows
-# how its carry is 1 in the first frame, and that it is never 1 beside 0, which is the model of the last examples; and ABC's
-# invariant is empty.
-grep '^  aiger aigunroll \|^  cadical \|^  berkeley-abc ' "$work/out" | sed 's/^  aiger/"$program"/; s/   .*//' > "$work/examples"
+# its examples too; the half adder has no latches, so each frame is a copy of it. In the place of the solver is one that
+# knows how its carry is 1 in the first frame, and that it is never 1 beside 0, which is the model of the examples after
+# that; and ABC's invariant is empty. The model of the last one is a toggle that is to be 1 again and again.
+grep '^  aiger aigunroll \|^  cadical \|^  berkeley-abc ' "$work/out" |
+    sed 's/^  aiger/"$program"/; s/   .*//; /--justice/s/^/cp toggle.aag model.aig; /' > "$work/examples"
+printf 'aag 1 0 1 0 0 0 0 1\n2 3\n1\n2\n' > "$files/toggle.aag"
+"$program" aigtoaig --justice-as-bad 0 "$files/toggle.aag" | "$program" aigunroll --frames 20 --cnf > "$work/live_clauses"
 aig "$files/model.aag" "$files/model.aig"
 unroll 20 "$files/model.aig" > "$work/want_file"
 unroll 2 "$files/model.aag" --ascii > "$work/frames"
@@ -755,7 +758,8 @@ cadical() {
 }
 berkeley-abc() { [ "$*" = '-c read model.aig; pdr -d -e -I model.pla' ] && echo '.e' > model.pla; }
 ran=$(cd "$files" && set -e && . "$work/examples" 2>&1 && echo all)
-if [ "$ran" = $'none within 20\nnever\nall' ] && [ "$(wc -l < "$work/examples")" = 12 ] && cmp -s "$files/long.aig" "$work/want_file" &&
+if [ "$ran" = $'none within 20\nnever\nall' ] && [ "$(wc -l < "$work/examples")" = 13 ] &&
+    cmp -s "$files/long.aig" "$work/want_file" && cmp -s "$files/live.cnf" "$work/live_clauses" &&
     cmp -s "$files/out" "$work/want_file" && cmp -s "$files/two.aag" "$work/frames" &&
     [ "$(sim --witness "$files/model.aag" "$files/witness.txt")" = 'confirmed 0' ]; then pass; else
     fail 'the examples of help of aigunroll run' "came   $ran, of" "$(cat "$work/examples")"

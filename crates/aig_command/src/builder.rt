@@ -10,7 +10,7 @@ use std::alloc::{AllocError, Global};
 
 /// The program's version, the one place in the sources that has it. By its contract the library's
 /// number is the same.
-pub const VERSION: &str = "1.3.0";
+pub const VERSION: &str = "1.4.0";
 
 const ABOUT: &str = "Tools for circuits in the AIGER format";
 
@@ -26,8 +26,8 @@ succeeded, so the destination may be the source; it is lost if writing fails.
 
 With --outputs-as-bad each output is written as a bad state, by its name, and
 there are no outputs. It is for files before AIGER 1.9, and for those of ABC:
-their properties are outputs, and a witness speaks of bad states alone. A
-circuit that has bad states already is refused.
+their properties are outputs, and no witness speaks of outputs. A circuit that
+has bad states already is refused.
 
 With --justice-as-bad N the circuit gets an input and latches more, and one bad
 state in the place of its properties: it is reached exactly where the model has
@@ -70,12 +70,16 @@ go side by side, which is faster for a large circuit. This takes memory for the
 stimulus and the trace of 256 runs.
 
 With --witness a witness stands in the place of the stimulus: a run that is to
-reach a bad state. Its lines are 1, then b and the number of the bad state,
+reach a bad state, or to come round for a justice property. Its lines are 1,
+then b and the number of the bad state, or j and that of the justice property,
 counted from 0, then the first values of the latches, one character for each,
 then the steps, and at last a line of one dot. In place of a trace the answer
 is written, once the whole witness was read and found to have this form:
 'confirmed N' if step N, counted from 0, is the first in which the bad state is
-1 and all constraints are and have been 1; 'not confirmed' if there is none.
+1 and all constraints are and have been 1; of a justice property, if it is the
+first that begins in the state in which the run ends, all constraints always
+are 1, and from step N on each literal of the property and each fairness
+constraint once is; 'not confirmed' if there is none.
 
 With --vcd a Value Change Dump (IEEE 1364) goes to the standard output in the
 place of the trace, for a wave viewer. It has all that --properties shows, by
@@ -83,7 +87,8 @@ the names of the symbols, and each line of the trace takes 1 ns. At the end of
 a run the latches show the state that was reached, and all else is z. The
 variable run, of code r, is the number of the run, counted from 0. With
 --witness it is the run of the witness from its first state, after a comment
-with the answer, and all of it is held in memory.
+with the answer, and all of it is held in memory. For a justice property that
+is confirmed at step N, the signal loop is 1 from that step on.
 
 Exit status:
   0  done, also for --help; with --witness, confirmed
@@ -267,7 +272,8 @@ each line";
 
 const WITNESS_HELP: &str = "\
 Judge a witness in the place of the stimulus: does its run
-reach a bad state? Not with --batch or --properties";
+reach a bad state, or come round for a justice property?
+Not with --batch or --properties";
 
 const VCD_HELP: &str = "\
 Write a waveform, a Value Change Dump, in the place of the

@@ -1,5 +1,6 @@
 -- A justice property that became a bad state, and what is written of one.
-use Rattle.std.proofs.Common.{◌≡◌, ◌≤◌, ◌<◌, ◌∙◌, ℕ, List, ap, arith, length, map, subst, sym, take}
+use Rattle.std.proofs.Common.{◌≡◌, ◌≤◌, ◌<◌, ◌∙◌, ℕ, List, ap, arith, inl, inr, length, map, subst, sym, take}
+use Rattle.std.proofs.lemmas.Bool.{cases_lt}
 use Rattle.std.proofs.lemmas.List.{length-map, length-take}
 use Rattle.aig_circuit.specs.declared.circuit.Circuit.{Circuit}
 use Rattle.aig_circuit.specs.declared.circuit.TheConstants.{LARGEST}
@@ -14,7 +15,25 @@ use Rattle.aig_command.specs.declared.request.Property.{Property}
 use Rattle.aig_command.specs.declared.request.Property.TheVariants.{Justice}
 use Rattle.aig_invariant.specs.Invariant.{with_invariant}
 use Rattle.aig_invariant.specs.Outcome.{HasCubes}
-use Rattle.aig_lasso.specs.Lasso.{IsLasso}
+use Rattle.aig_lasso.specs.Endless.{IsFairRun}
+use Rattle.aig_lasso.specs.Goaled.{HasGoals}
+use Rattle.aig_lasso.specs.Goals.{with_goals}
+use Rattle.aig_lasso.specs.Lasso.{IsLasso, IsLassoVerdict}
+use Rattle.aig_lasso.specs.declared.verdict.LassoVerdict.{LassoVerdict}
+use Rattle.aig_lasso.specs.declared.verdict.LassoVerdict.TheVariants.{Confirmed, NotConfirmed}
+use Rattle.aig_lasso.proofs.Round.{lassos_are_fair_runs}
+use Rattle.aig_replay.proofs.WitnessText.{text_is}
+use Rattle.aig_verdicts.proofs.Files.{lasso_file_says, lassos_have_files}
+use Rattle.aig_verdicts.proofs.Verdicts.{justice_claims_have_verdicts}
+use Rattle.aig_verdicts.specs.Kinds.{SaysJustice}
+use Rattle.aig_verdicts.specs.declared.verdict.WitnessVerdict.TheVariants as verdicts
+use Rattle.aig_command.specs.declared.request.Reach.{Reach}
+use Rattle.aig_command.specs.declared.request.Sim.{Sim}
+use Rattle.aig_commands.specs.File.{IsFileOf}
+use Rattle.aig_commands.specs.Property.{HasProperty}
+use Rattle.aig_commands.specs.WitnessOutcome.{IsWitnessAnswer}
+use Rattle.aig_commands.specs.LiveLaws.{LassoAnswersAreConfirmed, NeverMeansNoneIsConfirmed, RightLassosAreConfirmed}
+use Rattle.aig_commands.specs.LiveLaws.{RefutationsMeanNoneIsConfirmed}
 use Rattle.aig_live.specs.Laws.{lasso_of, live}
 use Rattle.aig_live.specs.Outcome.{HasLive}
 use Rattle.aig_meaning.specs.Meaning.{MeansTheSame}
@@ -27,7 +46,7 @@ use Rattle.aig_commands.specs.Conversion.{CanTurn, turned}
 use Rattle.aig_commands.specs.LiveLaws.{AnswersAreLassos, ConfirmedClaimsAreLassos, NeverExactlyWithoutFairRun}
 use Rattle.aig_commands.specs.LiveLaws.{NeverMeansNoneIsFair, RefutationsMeanNoLasso, TurnsJustice}
 use Rattle.aig_commands.specs.Proving.{NoRunHas}
-use Rattle.aig_commands.specs.Reaching.{IsClaimedBy, claimed_text}
+use Rattle.aig_commands.specs.Reaching.{IsClaimedBy, IsSelectedModel, claimed_text}
 use Rattle.aig_commands.specs.Refuting.{HasNoLassoWithin, NoRunHasWithin}
 use Rattle.aig_commands.proofs.Meant.{turned_file}
 use Rattle.aig_commands.proofs.TripsExist.{well_formed_file}
@@ -129,3 +148,72 @@ answers_are_lassos request number c selected model answer text is_justice file o
           (subst (λ (k : Claim). IsLasso p.found k lasso.0) (sym claimed.2) lasso.1),
       is.written_as ∙ ap (λ (property : Property). claimed_text property is.claim) is_justice,
     )
+
+-- ---- what is confirmed of one
+
+-- a lasso that a file claims is confirmed, at a step that is no later
+confirmed_by : (judging : Sim) (c : Circuit) (file witness : List ℕ) (claim : Claim) (start : ℕ) (verdict : LassoVerdict)
+    → IsFileOf file judging.max_var c → SaysJustice c witness claim → IsLasso c claim start
+    → IsLassoVerdict c claim verdict
+    → (first : ℕ) × (first ≤ start) × IsWitnessAnswer judging file witness (verdicts.Justice (Confirmed first))
+confirmed_by judging c file witness claim start (Confirmed first) read says lasso is = (
+  first,
+  elim (cases_lt start first) [
+    | inl earlier ↦ absurd (is.1 start earlier lasso)
+    | inr other ↦ omega (arith, other)
+  ],
+  record { found = c; claim = claim; read = read; says = says; is_verdict = is },
+)
+confirmed_by judging c file witness claim start NotConfirmed read says lasso is = absurd (is start lasso)
+
+pub right_lassos_are_confirmed : RightLassosAreConfirmed
+right_lassos_are_confirmed judging c file claim start read goals lasso =
+    let good = well_formed_file file judging.max_var c read in
+    let written = lassos_have_files c claim start good goals.0 lasso in
+    let verdict = justice_claims_have_verdicts c written.0 claim good written.1 goals in
+    let found = confirmed_by judging c file written.0 claim start verdict.0 read written.1 lasso verdict.1 in
+    (written.0, written.1, found.0, found.1, found.2)
+
+-- the model has the property, of not too many goals
+goals_there : (request : Reach) (number : ℕ) (c selected : Circuit) (model : List ℕ)
+    → request.property ≡ Justice number → IsFileOf model request.max_var c → IsSelectedModel request model selected
+    → HasGoals number c
+goals_there request number c selected model is_justice file of_model =
+    let p = of_model.has_clauses in
+    let has : HasLive number p.found =
+    subst (λ (property : Property). HasProperty property p.found) is_justice p.is_unrolled.has_property in
+    let here = subst (HasLive number) (one_circuit model request.max_var p.found c p.read file) has in
+    (here.0, omega (arith, here.1))
+
+pub lasso_answers_are_confirmed : LassoAnswersAreConfirmed
+lasso_answers_are_confirmed request number judging c selected model answer text is_justice limit file of_model is =
+    let good = well_formed_file model request.max_var c file in
+    let (claim, start, property_is, few, lasso, text_is_lasso) =
+    answers_are_lassos request number c selected model answer text is_justice file of_model is in
+    let has = goals_there request number c selected model is_justice file of_model in
+    let goals : HasGoals claim.property c = subst (λ (n : ℕ). HasGoals n c) (sym property_is) has in
+    let says : SaysJustice c text claim =
+    subst (λ (bs : List ℕ). SaysJustice c bs claim) (text_is 106 claim ∙ sym text_is_lasso)
+    (lasso_file_says c claim start good goals.0 lasso) in
+    let verdict = justice_claims_have_verdicts c text claim good says goals in
+    let found = confirmed_by judging c model text claim start verdict.0
+    (subst (λ (n : ℕ). IsFileOf model n c) (sym limit) file) says lasso verdict.1 in
+    (found.0, found.2)
+
+pub refutations_mean_none_is_confirmed : RefutationsMeanNoneIsConfirmed
+refutations_mean_none_is_confirmed request number judging selected model text witness start is_justice limit of_model none
+    confirmed few without_x of_property =
+    let file : IsFileOf model request.max_var confirmed.found =
+    subst (λ (n : ℕ). IsFileOf model n confirmed.found) limit confirmed.read in
+    refutations_mean_no_lasso request number confirmed.found selected model text is_justice file of_model none
+    confirmed.claim start few of_property without_x confirmed.is_verdict.0
+
+pub never_means_none_is_confirmed : NeverMeansNoneIsConfirmed
+never_means_none_is_confirmed request number judging selected strengthened model invariant text witness start is_justice
+    limit of_model shown never confirmed of_property =
+    let file : IsFileOf model request.max_var confirmed.found =
+    subst (λ (n : ℕ). IsFileOf model n confirmed.found) limit confirmed.read in
+    let run = lassos_are_fair_runs confirmed.found confirmed.claim start confirmed.is_verdict.0 in
+    never_means_none_is_fair request number confirmed.found selected strengthened model invariant text is_justice file
+    of_model shown never run.0
+    (subst (λ (n : ℕ). IsFairRun (with_goals n confirmed.found) run.0) of_property run.1)

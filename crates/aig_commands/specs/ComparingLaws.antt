@@ -9,6 +9,7 @@ use Rattle.aig_command.specs.declared.request.Reach.{Reach}
 use Rattle.aig_command.specs.declared.request.Sim.{Sim}
 use Rattle.aig_equal.specs.Alike.{AreAlike, AreAlikeFor}
 use Rattle.aig_meaning.specs.Meaning.{MeansTheSame}
+use Rattle.aig_verdicts.specs.declared.verdict.WitnessVerdict.TheVariants.{BadState}
 use Rattle.aig_witness.specs.declared.verdict.Verdict.TheVariants.{Confirmed}
 use Rattle.aig_commands.specs.Comparing.{IsFirst, IsMiterText}
 use Rattle.aig_commands.specs.File.{IsFileOf}
@@ -48,4 +49,4 @@ NeverMeansAlike = (request : Miter) (proving : Invariant) (first selected streng
 abbrev pub ConfirmedMeansDifferent : Type 0
 ConfirmedMeansDifferent = (request : Miter) (judging : Sim) (first : Circuit) (one two text witness : List ℕ) (step : ℕ)
     → IsFirst request one first → (p : IsMiterText request first two text) → judging.max_var ≡ LARGEST
-    → IsWitnessAnswer judging text witness (Confirmed step) → ¬ AreAlikeFor (step + 1) first p.is_made.paired
+    → IsWitnessAnswer judging text witness (BadState (Confirmed step)) → ¬ AreAlikeFor (step + 1) first p.is_made.paired

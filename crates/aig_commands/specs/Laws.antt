@@ -1,5 +1,5 @@
 -- What the definitions of this crate say of one another.
-use Rattle.std.specs.Prelude.{◌≡◌, ◌↔◌, ◌<◌, ◌+◌, ◌*◌, ℕ, List, [], ◌∷◌, None, Some, Ok, true, false, length}
+use Rattle.std.specs.Prelude.{◌≡◌, ◌⊎◌, ◌↔◌, ◌<◌, ◌+◌, ◌*◌, ℕ, List, [], ◌∷◌, None, Some, Ok, true, false, length}
 use Rattle.std.specs.Prelude.{◌≤◌, ◌-◌, ◌==◌, Bool, map, Option, not, slice_index_or, take, ⊤}
 use Rattle.std.specs.List.{AllByRecursion, list_any}
 use Rattle.aig_answer.specs.declared.reader.Signed.{Signed}
@@ -30,7 +30,12 @@ use Rattle.aig_circuit.specs.declared.value.Val.TheVariants.{Zero, One}
 use Rattle.aig_witness.specs.declared.verdict.Verdict.{Verdict}
 use Rattle.aig_witness.specs.declared.verdict.Verdict.TheVariants.{Confirmed}
 use Rattle.aig_step.specs.Outcome.{first_bad_line}
-use Rattle.aig_witness.specs.Witness.{Claim, IsFirstConfirmed, IsVerdict, SaysClaim, first_bad_witness_line}
+use Rattle.aig_verdicts.specs.Judged.{HasLargeProperty}
+use Rattle.aig_verdicts.specs.Kinds.{first_bad_file_line}
+use Rattle.aig_verdicts.specs.declared.verdict.WitnessVerdict.{WitnessVerdict}
+use Rattle.aig_verdicts.specs.declared.verdict.WitnessVerdict.TheVariants.{BadState}
+use Rattle.aig_io.specs.Runs.{AtEnd}
+use Rattle.aig_witness.specs.Witness.{Claim, IsFirstConfirmed, IsVerdict, SaysClaim}
 use Rattle.aig_unroll.specs.SideBySide.{inputs_side_by_side}
 use Rattle.aig_unroll.specs.Unrolled.{IsTooLarge, IsUnrolled, IsUnsupported, all_inputs}
 use Rattle.aig_commands.specs.File.{IsFileOf, file_reading, first_fault}
@@ -66,7 +71,7 @@ SimulationsAreUnambiguous = (request : Sim) (model stimulus text other : List �
 
 -- a model and a witness file have one verdict at most
 abbrev pub WitnessAnswersAreUnambiguous : Type 0
-WitnessAnswersAreUnambiguous = (request : Sim) (model witness : List ℕ) (verdict other : Verdict)
+WitnessAnswersAreUnambiguous = (request : Sim) (model witness : List ℕ) (verdict other : WitnessVerdict)
     → IsWitnessAnswer request model witness verdict → IsWitnessAnswer request model witness other → verdict ≡ other
 
 -- bytes have one unrolling text at most
@@ -161,7 +166,7 @@ VerdictsAreKept = (request : ToAig) (before after : Sim) → request.bad_states 
     → request.max_var ≡ LARGEST → before.max_var ≡ LARGEST → after.max_var ≡ LARGEST
     → (file converted witness : List ℕ) (verdict : Verdict)
     → IsConversionText request file converted
-    → IsWitnessAnswer before file witness verdict ↔ IsWitnessAnswer after converted witness verdict
+    → IsWitnessAnswer before file witness (BadState verdict) ↔ IsWitnessAnswer after converted witness (BadState verdict)
 
 -- Where outputs became bad states, the traces are those of the circuit that was read, step by step with the outputs as
 -- bad states: of these first states, these inputs and these rows, and of no others. So the bad states show what the
@@ -191,10 +196,13 @@ abbrev pub SimulationTextsExist : Type 0
 SimulationTextsExist = (request : Sim) (c : Circuit) (file stimulus : List ℕ) → IsFileOf file request.max_var c
     → first_bad_line c stimulus true ≡ None → (text : List ℕ) × IsSimulationText request file stimulus text
 
--- every file of a circuit gets a verdict on each witness file of which no line is wrong or missing
+-- Every file of a circuit gets a verdict on each witness file of which no line is wrong or missing, unless that names a
+-- justice property of more goals than a circuit may have bad states.
 abbrev pub WitnessAnswersExist : Type 0
 WitnessAnswersExist = (request : Sim) (c : Circuit) (file witness : List ℕ) → IsFileOf file request.max_var c
-    → first_bad_witness_line c witness true ≡ None → (verdict : Verdict) × IsWitnessAnswer request file witness verdict
+    → first_bad_file_line c witness true ≡ None
+    → ((verdict : WitnessVerdict) × IsWitnessAnswer request file witness verdict)
+    ⊎ ((fault : Fault) × HasLargeProperty c fault witness AtEnd)
 
 -- Each run of a circuit that reaches a bad state, with all constraints kept, is claimed by some witness file. On that,
 -- every file of the circuit gets the verdict that it is confirmed, with the number of the first such step.
@@ -202,7 +210,7 @@ abbrev pub RightRunsAreConfirmed : Type 0
 RightRunsAreConfirmed = (request : Sim) (c : Circuit) (file : List ℕ) (claim : Claim) (rows : List Row) (step : ℕ)
     → IsFileOf file request.max_var c → claim.property < length c.bad → IsTrace c claim.first claim.steps rows
     → IsFirstConfirmed claim.property rows step
-    → (witness : List ℕ) × SaysClaim c witness claim × IsWitnessAnswer request file witness (Confirmed step)
+    → (witness : List ℕ) × SaysClaim c witness claim × IsWitnessAnswer request file witness (BadState (Confirmed step))
 
 -- every canonical binary file has a conversion text to ASCII, and that has one to binary
 abbrev pub BinaryFilesConvertThereAndBack : Type 0
@@ -247,7 +255,7 @@ abbrev pub SolverAnswersAreConfirmed : Type 0
 SolverAnswersAreConfirmed = (request : Reach) (bad : Option ℕ) (judging : Sim) (selected : Circuit)
     (model answer text : List ℕ) → request.property ≡ bad_property bad → judging.max_var ≡ request.max_var → IsSelectedModel request model selected
     → IsReachText request selected answer text
-    → (step : ℕ) × (step < request.frames) × (confirmed : IsWitnessAnswer judging model text (Confirmed step))
+    → (step : ℕ) × (step < request.frames) × (confirmed : IsWitnessAnswer judging model text (BadState (Confirmed step)))
     × ((number : ℕ) → bad ≡ Some number → confirmed.claim.property ≡ number)
 
 -- Where it is written for a model that there is none, no witness file of the selected bad state, or of any where none
@@ -256,7 +264,7 @@ abbrev pub RefutationsMeanNone : Type 0
 RefutationsMeanNone = (request : Reach) (bad : Option ℕ) (judging : Sim) (selected : Circuit)
     (model text witness : List ℕ) (step : ℕ) → request.property ≡ bad_property bad
     → judging.max_var ≡ request.max_var → IsSelectedModel request model selected → IsNoneText request selected text
-    → step < request.frames → (confirmed : IsWitnessAnswer judging model witness (Confirmed step))
+    → step < request.frames → (confirmed : IsWitnessAnswer judging model witness (BadState (Confirmed step)))
     → ¬ IsOfSelected bad confirmed.claim
 
 -- a model and an invariant have one text of clauses at most
@@ -271,7 +279,7 @@ abbrev pub NeverIsNever : Type 0
 NeverIsNever = (request : Invariant) (bad : Option ℕ) (judging : Sim) (selected strengthened : Circuit)
     (model invariant text witness : List ℕ) (step : ℕ) → request.property ≡ bad_property bad → judging.max_var ≡ request.max_var
     → IsInvariantModel request model selected → IsStrengthened selected invariant strengthened
-    → IsNeverText request strengthened text → (confirmed : IsWitnessAnswer judging model witness (Confirmed step))
+    → IsNeverText request strengthened text → (confirmed : IsWitnessAnswer judging model witness (BadState (Confirmed step)))
     → ¬ IsOfSelected bad confirmed.claim
 
 -- A witness that is confirmed at a step sets the unrolled circuit of as many frames and one more. Where that is given

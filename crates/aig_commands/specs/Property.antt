@@ -8,7 +8,7 @@ use Rattle.aig_fault.specs.declared.stopped.Stopped.{Stopped}
 use Rattle.aig_fault.specs.declared.stopped.Stopped.TheVariants.{OutOfMemory, Refused}
 use Rattle.aig_lasso.specs.Goaled.{HasNoJustice}
 use Rattle.aig_live.specs.Laws.{live}
-use Rattle.aig_live.specs.Outcome.{HasLive, IsTooLarge}
+use Rattle.aig_live.specs.Outcome.{HasLive, HasNoLive}
 use Rattle.aig_replay.specs.Alone.{HasNotSelected, with_bad_alone}
 
 -- the circuit as it is; with one bad state alone; or the one that reaches its bad state where a justice property is met
@@ -27,7 +27,7 @@ HasProperty (Justice number) c = HasLive number c
 abbrev pub HasNotProperty : Property → Circuit → Fault → Type 0
 HasNotProperty AnyBad c fault = ⊥
 HasNotProperty (Bad number) c fault = HasNotSelected (Some number) c fault
-HasNotProperty (Justice number) c fault = HasNoJustice number c fault ⊎ IsTooLarge number c fault
+HasNotProperty (Justice number) c fault = HasNoJustice number c fault ⊎ HasNoLive number c fault
 
 -- what an error says of the circuit; where memory was refused, the property is there
 abbrev pub NotModelled : Property → Circuit → Stopped → Type 0

@@ -16,6 +16,7 @@ mod conversion;
 pub mod dump_laws;
 mod job;
 pub mod laws;
+pub mod live_laws;
 mod outputs_as_bad;
 mod property;
 mod proving;

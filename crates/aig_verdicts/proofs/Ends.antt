@@ -219,9 +219,9 @@ module _ (c : Circuit) (r : Reading) (bytes : List ℕ) (is : IsReadOf c r bytes
       let kind = is_bad (is_of_justice bytes true) refl stage_is in
       let follows = (stands_here false kind).stands.1 in (
         refl,
-        none_wrong_here,
         record {
           claim = claim;
+          none_bad = none_wrong_here;
           says = says_here false kind;
           is_verdict = verdict_too c is.circuit is.like.means is.like.bad claim v (record {
             rows = follows.rows;
@@ -249,9 +249,9 @@ module _ (c : Circuit) (r : Reading) (bytes : List ℕ) (is : IsReadOf c r bytes
   justice_judged v other verdict =
       let kind = not_bad (is_of_justice bytes true) refl other in (
         refl,
-        none_wrong_here,
         record {
           claim = claim;
+          none_bad = none_wrong_here;
           says = says_here true kind;
           is_verdict = verdict claim (is_held (stands_here true kind).1 r.held refl);
         },

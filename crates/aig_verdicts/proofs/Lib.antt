@@ -3,3 +3,4 @@ pub mod Lines
 pub mod Folds
 pub mod Ends
 pub mod Files
+pub mod Verdicts

@@ -195,7 +195,7 @@ are_lines (t ∷ u ∷ us) kept =
     let rest = are_lines (u ∷ us) kept.1 in ((one_line t kept.0, rest.0), (refl, rest.1))
 
 -- the lines of a file have the texts that were written
-read_again : (texts : List (List ℕ)) → AllByRecursion IsKept texts
+pub read_again : (texts : List (List ℕ)) → AllByRecursion IsKept texts
     → map text_of (lines_of (bytes_of (as_lines texts))) ≡ texts
 read_again texts kept =
     let are = are_lines texts kept in
@@ -210,7 +210,7 @@ values_kept : (vs : List Val) → IsKept (values_text vs)
 values_kept [] = tt
 values_kept (v ∷ vs) = (value_stays v, values_kept vs)
 
-steps_kept : (steps : List (List Val)) → AllByRecursion IsKept (map values_text steps ++ codes "." ∷ [])
+pub steps_kept : (steps : List (List Val)) → AllByRecursion IsKept (map values_text steps ++ codes "." ∷ [])
 steps_kept [] = (((λ e. omega (arith, e), λ e. omega (arith, e)), tt), tt)
 steps_kept (given ∷ steps) = (values_kept given, steps_kept steps)
 

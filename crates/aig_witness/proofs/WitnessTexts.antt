@@ -55,7 +55,7 @@ all_judged [] = refl
 all_judged (l ∷ ls) = search (rules, or_true, all_judged ls)
 
 -- the texts of the lines that are judged at the end
-said_all : (shape : Shape) (bytes : List ℕ)
+pub said_all : (shape : Shape) (bytes : List ℕ)
     → said_by shape 1 Nothing (judged_lines bytes true) ≡ said_texts shape 1 Nothing (map text_of (lines_of bytes))
 said_all shape bytes = search (rules, all_judged, by_texts)
 
@@ -81,7 +81,7 @@ pub number_said : (bound : ℕ) (digits : List ℕ) (p : ℕ) → is_canonical d
 number_said bound digits p canonical number below = search (rules, nat_lt, lt-ltb)
 
 -- no step has the text of the end
-no_stop : (vs : List Val) → values_text vs ≢ codes "."
+pub no_stop : (vs : List Val) → values_text vs ≢ codes "."
 no_stop vs is = let says : values_of (codes ".") ≡ Some vs = ap values_of (sym is) ∙ says_values vs in cc
 
 pub no_end : (steps : List (List Val)) → ¬ Contains (map values_text steps) (codes ".")
