@@ -33,13 +33,15 @@ extern "C" {
 #endif
 
 /* The version of this header, as aigtools_version tells that of the library: a byte each for major, minor and patch. */
-#define AIGTOOLS_VERSION 0x010300u
+#define AIGTOOLS_VERSION 0x010400u
 
 /* The largest `max_var`: a file with a larger index, or with more of a kind, is refused with AIGTOOLS_TOO_LARGE. */
 #define AIGTOOLS_LARGEST 2147483647u
 
-/* The `bad` that is all bad states, where one of them could be taken alone. */
+/* What a `property` is: the position of a bad state, from 0; all bad states; or, added to the position of a justice
+   property, that one. */
 #define AIGTOOLS_ALL_BAD 4294967295u
+#define AIGTOOLS_JUSTICE 2147483648u
 
 /* How a call ended. */
 enum aigtools_status {
@@ -47,8 +49,8 @@ enum aigtools_status {
                                    is no run */
     AIGTOOLS_TOO_SHORT = 1,     /* there is no room for the text, which has outcome.length bytes; aigtools_read needs as
                                    many words, and aigtools_step as many bytes of values */
-    AIGTOOLS_REFUSED = 2,       /* the input has a fault, a solver's answer has no run into a bad state, or its
-                                   refutation shows nothing: see kind, place, number and subject */
+    AIGTOOLS_REFUSED = 2,       /* the input has a fault, a solver's answer has no run into a bad state and no lasso, or
+                                   its refutation shows nothing: see kind, place, number and subject */
     AIGTOOLS_OUT_OF_MEMORY = 3, /* memory was refused; nothing is said of the input */
     AIGTOOLS_BAD_OPTIONS = 4,   /* options exclude each other or are not known, or a number is out of its range */
     AIGTOOLS_NOT_CONFIRMED = 5, /* the witness file is right, and the model does not do what it claims: its waveform
@@ -102,7 +104,7 @@ enum aigtools_kind {
     AIGTOOLS_BAD_ANSWER = 28,         /* the model is right; the line is of the answer */
     AIGTOOLS_UNSATISFIABLE = 29,      /* this is the answer; nothing is proved by that */
     AIGTOOLS_UNKNOWN = 30,            /* so is this */
-    AIGTOOLS_NOT_REACHED = 31,        /* the run that the answer gives reaches no bad state */
+    AIGTOOLS_NOT_REACHED = 31,        /* the run that the answer gives reaches no bad state, or is no lasso */
     AIGTOOLS_NO_REFUTATION = 32,      /* the model is right; the refutation ends, and has shown nothing */
     AIGTOOLS_BAD_REFUTATION = 33,     /* the line is of the refutation */
     AIGTOOLS_DOES_NOT_FOLLOW = 34,    /* so is this line, whose clause does not follow by unit propagation */
@@ -120,7 +122,8 @@ enum aigtools_kind {
     AIGTOOLS_NAME_TWICE = 46,         /* it has the name of one before it */
     AIGTOOLS_NO_SUCH_NAME = 47,       /* nothing of the first circuit has its name */
     AIGTOOLS_NO_SUCH_JUSTICE = 48,    /* outcome.subject is the number of the justice property */
-    AIGTOOLS_TOO_LARGE_JUSTICE = 49   /* with the latches that find a loop there are too many variables */
+    AIGTOOLS_TOO_LARGE_JUSTICE = 49   /* with the latches that find a loop, or the input that marks one, there are too
+                                         many variables; or the property has too many goals */
 };
 
 /* Where it is wrong. */
@@ -141,9 +144,9 @@ typedef struct aigtools_outcome {
     uint32_t status;  /* enum aigtools_status */
     uint32_t kind;    /* enum aigtools_kind */
     uint32_t place;   /* enum aigtools_place */
-    uint32_t subject; /* the variable, the literal or the bad state that the fault names */
+    uint32_t subject; /* the variable, the literal, the bad state or the justice property that the fault names */
     uint64_t number;  /* the line, the gate, the word, the value, the input, the output or the bad state; or the step at
-                         which a witness is confirmed */
+                         which a witness is confirmed: that shows the bad state, or begins the loop */
     uint64_t length;  /* how long the text is, where it was written or has no room; so also the words or the values */
 } aigtools_outcome;
 
@@ -196,50 +199,59 @@ uint32_t aigtools_unroll(uint32_t options, uint32_t frames, uint32_t max_var,
                          uint8_t *output, size_t output_length, aigtools_outcome *outcome);
 
 /*
- * Writes clauses in DIMACS, for a SAT solver: they can be satisfied exactly if a run of at most so many steps, from 1 to
- * 1000000, reaches a bad state with all constraints kept, as `aiger aigunroll --cnf`. `bad` is the position of the bad
- * state, from 0, or AIGTOOLS_ALL_BAD.
+ * Writes clauses in DIMACS, for a SAT solver: they can be satisfied exactly if a run of at most so many steps, 1 to
+ * 1000000, reaches the bad state, or any, with all constraints kept, as `aiger aigunroll --cnf`; for a justice
+ * property, if a lasso has fewer steps: a run that comes back to one of its states, with all constraints kept, and
+ * meets each literal of the property and each fairness constraint on the way. A number from AIGTOOLS_JUSTICE on, of a
+ * justice property that there is not, is refused with AIGTOOLS_NO_SUCH_JUSTICE.
  */
-uint32_t aigtools_clauses(uint32_t bad, uint32_t frames, uint32_t max_var,
+uint32_t aigtools_clauses(uint32_t property, uint32_t frames, uint32_t max_var,
                           const uint8_t *input, size_t input_length,
                           uint8_t *output, size_t output_length, aigtools_outcome *outcome);
 
 /*
- * Follows the run that a solver's answer to these clauses gives, as `aiger aigunroll --answer`; pass the same `bad` and
- * frames. The text is a witness file of the run up to the bad state, which aigtools_witness confirms, whatever the
- * solver said.
+ * Follows the run that a solver's answer to these clauses gives, as `aiger aigunroll --answer`; pass the same
+ * `property` and frames. The text is a witness file of the run up to the bad state, or of the lasso, which
+ * aigtools_witness confirms, whatever the solver said.
  */
-uint32_t aigtools_answer(uint32_t bad, uint32_t frames, uint32_t max_var, const uint8_t *model, size_t model_length,
+uint32_t aigtools_answer(uint32_t property, uint32_t frames, uint32_t max_var,
+                         const uint8_t *model, size_t model_length,
                          const uint8_t *answer, size_t answer_length,
                          uint8_t *output, size_t output_length, aigtools_outcome *outcome);
 
 /*
  * Checks a refutation of these clauses (DRAT, text or binary) that a solver wrote, as `aiger aigunroll --refutation`;
- * pass the same `bad` and frames. AIGTOOLS_DONE: no run of at most so many steps reaches the bad state, or any, with all
- * constraints kept. That is proved, whatever the solver said.
+ * pass the same `property` and frames. AIGTOOLS_DONE: no run of at most so many steps reaches the bad state, or any,
+ * with all constraints kept; or no lasso of the justice property has fewer. That is proved, whatever the solver said.
  *
  *     if (aigtools_refute(0, 20, AIGTOOLS_LARGEST, model, model_length,
  *                         refutation, refutation_length, &outcome) == AIGTOOLS_DONE)
  *         puts("none within 20");
+ *     if (aigtools_refute(AIGTOOLS_JUSTICE + 0, 20, AIGTOOLS_LARGEST, live, live_length,
+ *                         refutation, refutation_length, &outcome) == AIGTOOLS_DONE)
+ *         puts("no lasso within 20");
  */
-uint32_t aigtools_refute(uint32_t bad, uint32_t frames, uint32_t max_var, const uint8_t *model, size_t model_length,
+uint32_t aigtools_refute(uint32_t property, uint32_t frames, uint32_t max_var,
+                         const uint8_t *model, size_t model_length,
                          const uint8_t *refutation, size_t refutation_length, aigtools_outcome *outcome);
 
 /*
  * Writes clauses in DIMACS in which an invariant of the circuit of an AIGER file is to be shown, as
- * `aiger aigunroll --invariant --cnf`: a PLA with a column for each latch, as pdr of ABC writes one. `bad` is as above.
- * If they cannot be satisfied, no run, however long, reaches the bad state, or any, with all constraints kept.
+ * `aiger aigunroll --invariant --cnf`: a PLA with a column for each latch, as pdr of ABC writes one; for
+ * a justice property one for each latch of what aigtools_justice_as_bad makes. If they cannot be satisfied, no run,
+ * however long, reaches the bad state, or any, with all constraints kept; or no run without end keeps them and meets
+ * each literal of the justice property and each fairness constraint again and again.
  */
-uint32_t aigtools_invariant_clauses(uint32_t bad, uint32_t max_var, const uint8_t *model, size_t model_length,
+uint32_t aigtools_invariant_clauses(uint32_t property, uint32_t max_var, const uint8_t *model, size_t model_length,
                                     const uint8_t *invariant, size_t invariant_length,
                                     uint8_t *output, size_t output_length, aigtools_outcome *outcome);
 
 /*
  * Checks a refutation of these clauses that a solver wrote, as `aiger aigunroll --invariant --refutation`; pass the
- * same `bad` and invariant. AIGTOOLS_DONE: no run, however long, reaches the bad state, or any, with all constraints
- * kept. That is proved, whatever the invariant and the solver said.
+ * same `property` and invariant. AIGTOOLS_DONE: what these say if they cannot be satisfied. That is proved, whatever
+ * the invariant and the solver said.
  */
-uint32_t aigtools_never(uint32_t bad, uint32_t max_var, const uint8_t *model, size_t model_length,
+uint32_t aigtools_never(uint32_t property, uint32_t max_var, const uint8_t *model, size_t model_length,
                         const uint8_t *invariant, size_t invariant_length,
                         const uint8_t *refutation, size_t refutation_length, aigtools_outcome *outcome);
 
@@ -273,8 +285,9 @@ uint32_t aigtools_simulate(uint32_t options, uint32_t max_var, const uint8_t *mo
                            uint8_t *output, size_t output_length, aigtools_outcome *outcome);
 
 /*
- * Judges a witness file for the circuit of an AIGER file, as `aiger aigsim --witness`: AIGTOOLS_DONE, and
- * outcome->number is the first step that shows the bad state, or AIGTOOLS_NOT_CONFIRMED.
+ * Judges a witness file, of a bad state or of a justice property, for the circuit of an AIGER file, as
+ * `aiger aigsim --witness`: AIGTOOLS_DONE, and outcome->number is the first step that shows the bad state, or at which
+ * a loop begins that meets the property; or AIGTOOLS_NOT_CONFIRMED.
  *
  *     if (aigtools_witness(AIGTOOLS_LARGEST, model, model_length, witness, witness_length, &outcome) == AIGTOOLS_DONE)
  *         printf("confirmed %lu\n", (unsigned long)outcome.number);
@@ -284,7 +297,8 @@ uint32_t aigtools_witness(uint32_t max_var, const uint8_t *model, size_t model_l
 
 /*
  * The same, and the text is the waveform of the run that the witness file claims, as `aiger aigsim --witness --vcd`.
- * Its first line has the verdict, too. With AIGTOOLS_DONE and with AIGTOOLS_NOT_CONFIRMED the text was written, and
+ * Its first line has the verdict, too; of a lasso that is confirmed it has an input more, `loop`, which is 1 from the
+ * step on at which the loop begins. With AIGTOOLS_DONE and with AIGTOOLS_NOT_CONFIRMED the text was written, and
  * outcome->length says how long it is. AIGTOOLS_TOO_SHORT tells no verdict.
  */
 uint32_t aigtools_dump(uint32_t max_var, const uint8_t *model, size_t model_length,

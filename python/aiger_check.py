@@ -4,8 +4,8 @@ are equal.
 
 Yosys writes the design as an AIGER model. For each assertion ABC looks for an invariant, and a SAT solver for a run
 that breaks it. What they say is not believed: each answer that is printed is one that the program ``aiger`` gave of
-the model, by a witness, a refutation or an invariant. For liveness the model is the circuit that ``aiger`` makes of a
-justice property, for two designs their miter: their bad states say where a run goes round, or where designs differ.
+the model, by a witness, a refutation or an invariant. For two designs the model is their miter: its bad states say
+where they differ.
 """
 
 import argparse
@@ -33,7 +33,7 @@ from dataclasses import dataclass, replace
 from pathlib import Path
 from typing import Any, Dict, Iterable, Iterator, List, NamedTuple, Optional, Sequence, Set, Tuple
 
-VERSION = "1.3.0"
+VERSION = "1.4.0"
 PROGRAM = "aiger-check"
 
 HELP = """\
@@ -192,6 +192,11 @@ class Assertion:
         return f"{visible(self.name)} ({visible(self.place)})"
 
     @property
+    def option(self) -> Tuple[str, int]:
+        """The words for it where aiger is asked of the model."""
+        return "--bad", self.bad
+
+    @property
     def file(self) -> str:
         """What its files are called, before that is made safe."""
         return self.name
@@ -229,6 +234,10 @@ class Liveness(Assertion):
 
     words = Words("holds", "no lasso within", "lasso")
     run = "lasso"
+
+    @property
+    def option(self) -> Tuple[str, int]:
+        return "--justice", self.justice
 
     def shown(self) -> Dict[str, str]:
         return {**super().shown(), "kind": "liveness"}
@@ -399,7 +408,7 @@ class Aiger:
         return which, words.replace(f"aiger: {which}: ", "")
 
     def confirmed(self, model: Path, witness: Path) -> Optional[int]:
-        """The step at which a witness reaches its bad state."""
+        """The step at which a witness reaches its bad state, or at which its loop begins."""
         told = self.run("aigsim", "--witness", model, witness, folder=witness.parent)
         match = re.fullmatch(r"confirmed (\d+)\n", told.output)
         return int(match[1]) if told.status == 0 and match else None
@@ -811,10 +820,10 @@ FEW = 4
 
 
 class Target(NamedTuple):
-    """A bad state of a file, or all, of which something is asked."""
+    """A property of a file, or all bad states, of which something is asked."""
 
     path: Path
-    bad: Optional[int]
+    option: Tuple[Any, ...] = ()
 
 
 class Search:
@@ -826,8 +835,10 @@ class Search:
 
     def __init__(self, assertion: Assertion, model: Model, tools: Tools, folder: Path, progress: "Progress") -> None:
         self.assertion, self.tools, self.folder, self.progress = assertion, tools, folder, progress
-        self.model, self.whole = model, Target(model.path, assertion.bad)
+        self.model, self.whole = model, Target(model.path, assertion.option)
         self.left = tools.limits.limit
+        #: what aiger says of witnesses
+        self.steps: Dict[Path, Optional[int]] = {}
         self.refuted = 0
         self.rows: List[str] = []
         #: of a miter the gates of its first half, and which latches are equal
@@ -840,7 +851,7 @@ class Search:
     def prepare(self) -> Optional[str]:
         """Makes what is searched, or tells why it cannot be made."""
         self.part = Part(self.model, self.assertion.bad)
-        self.smaller = Target(self.folder / "part.aig", 0)
+        self.smaller = Target(self.folder / "part.aig", ("--bad", 0))
         self.smaller.path.write_bytes(self.part.circuit().write())
         return None
 
@@ -867,8 +878,7 @@ class Search:
             self.reasons.append(reason)
 
     def unroll(self, target: Target, *options: Any) -> Finished:
-        bad = () if target.bad is None else ("--bad", target.bad)
-        return self.tools.aiger.run("aigunroll", *bad, *options, folder=self.folder)
+        return self.tools.aiger.run("aigunroll", *target.option, *options, folder=self.folder)
 
     def ask(self, target: Target, name: str, what: str, *options: Any) -> Said:
         """What the solver says of the clauses that aiger writes by these options; if nothing, the reason is noted."""
@@ -924,11 +934,15 @@ class Search:
             return said, None
         answer, smaller = self.folder / f"{name}.answer", self.folder / f"{name}.aiw"
         told = self.unroll(self.smaller, "--frames", count, "--answer", answer, self.smaller.path, smaller)
-        witness = self.written(self.part.widened(smaller.read_text())) if told.status == 0 else None
+        witness = self.written(self.widened(smaller.read_text())) if told.status == 0 else None
         if not witness:
             self.fails(f"the answer of {self.tools.solver.kind} for {what} is wrong")
             return Said.NOTHING, None
         return said, witness
+
+    def widened(self, text: str) -> str:
+        """A witness for the model, by one for what is searched."""
+        return self.part.widened(text)
 
     def written(self, text: Optional[str]) -> Optional[Path]:
         """The file of a witness, if it is one."""
@@ -936,19 +950,28 @@ class Search:
             return None
         path = self.folder / f"run{secrets.token_hex(4)}.aiw"
         path.write_text(text)
-        return path if self.step(path) is not None else None
+        self.steps[path] = self.tools.aiger.confirmed(self.model.path, path)
+        if self.steps[path] is None:
+            discard(path)
+            return None
+        return path
 
-    def step(self, witness: Path) -> Optional[int]:
-        return self.tools.aiger.confirmed(self.model.path, witness)
+    def step(self, witness: Path) -> int:
+        """The step that aiger said of a witness when it was written."""
+        return self.steps[witness]
+
+    def length(self, witness: Path) -> int:
+        """How many steps lead to what the witness claims."""
+        return self.step(witness)
 
     def shortest(self, witness: Path) -> Verdict:
         """The shortest run that breaks the assertion, by a witness of one that does."""
-        step = self.step(witness)
+        step = self.length(witness)
         self.left = min(self.left, self.tools.limits.time)
         while self.tools.solver and self.refuted < step:
             said, shorter = self.within((self.refuted + step) // 2 + 1)
             if shorter:
-                witness, step = shorter, self.step(shorter)
+                witness, step = shorter, self.length(shorter)
             elif said is not Said.UNSATISFIABLE:
                 break
         if step and not (self.refuted == step and self.is_none_within(step)):
@@ -1040,7 +1063,7 @@ class Search:
             self.fails("ABC's counterexample is wrong" if shown.witness else shown.reason)
             return None
         if not self.tools.solver:
-            shorter = abc.shortest(circuit, self.folder, limits.time, self.step(witness) + 1)
+            shorter = abc.shortest(circuit, self.folder, limits.time, self.length(witness) + 1)
             witness = self.written(shorter) or witness
         return self.shortest(witness)
 
@@ -1090,107 +1113,91 @@ class Goals(Part):
         return made
 
 
-class Lassos(Search):
-    """Finds the answer for a justice property, by the circuit that aiger makes of it: its bad state is reached where a
-    run has come back to a state, and has met all goals since. From there it may go round for ever.
+class Closing(Part):
+    """What aiger makes of a justice property, for ABC: its bad state is reached in the step behind a lasso."""
 
-    Lassos are looked for in that circuit of a part of the model, and followed in the model.
+    def __init__(self, goals: Model, live: Model) -> None:
+        super().__init__(live, 0)
+        self.goals = goals.circuit
+
+    def witness(self, state: Dict[int, str], steps: Iterable[str]) -> str:
+        """The lasso, without the inputs and latches that aiger adds."""
+        _, _, first, *lines = super().witness(state, steps).split("\n")
+        steps = [line[: len(self.goals.inputs)] for line in lines[:-3]]
+        return "\n".join(["1", "j0", first[: len(self.goals.latches)], *steps, ".", ""])
+
+
+class Lassos(Search):
+    """Finds the answer for a justice property: whether a run comes back to a state, and has met all goals since. From
+    there it may go round for ever.
+
+    Lassos are looked for in a part of the model, and followed in the model.
     """
 
     #: in so many steps the model is to come back too
     MOST = 100000
 
-    def __init__(self, assertion: Liveness, model: Model, tools: Tools, folder: Path, progress: "Progress") -> None:
-        super().__init__(assertion, model, tools, folder, progress)
-        self.source, self.live = model, folder / "live.aig"
-        #: in how many steps the model has not come back
-        self.tried = 0
-
     def prepare(self) -> Optional[str]:
-        self.goals = Goals(self.source, self.assertion.justice)
-        alone, small = self.folder / "goals.aig", self.folder / "small.aig"
-        alone.write_bytes(self.goals.circuit().write())
-        aiger = self.tools.aiger
-        reason = aiger.with_loop(self.source.path, self.assertion.justice, self.live)
-        reason = reason or aiger.with_loop(alone, 0, small)
-        if reason:
-            return reason
-        self.model, self.whole = Model(small), Target(self.live, 0)
-        return super().prepare()
+        self.source, self.goals = self.model, Goals(self.model, self.assertion.justice)
+        self.smaller, live = Target(self.folder / "goals.aig", ("--justice", 0)), self.folder / "live.aig"
+        self.smaller.path.write_bytes(self.goals.circuit().write())
+        reason = self.tools.aiger.with_loop(self.smaller.path, 0, live)
+        if not reason:
+            self.model = Model(self.smaller.path)
+            self.part = Closing(self.model, Model(live))
+        return reason
 
     def verdict(self) -> Verdict:
         found = super().verdict()
-        found = self.followed(found) if found.witness else found
-        return self.turned_back(found) if found.witness else found
+        return self.followed(found) if found.witness else found
 
     def by_invariant(self, rows: Sequence[str]) -> Optional[Verdict]:
         return super().by_invariant(self.goals.invariant(rows))
 
+    def widened(self, text: str) -> str:
+        return text
+
+    def length(self, witness: Path) -> int:
+        return len(witness.read_text().splitlines()) - 4
+
     def followed(self, found: Verdict) -> Verdict:
-        """The lasso of the model, by that of its part: where more than the part has to come back it may be longer."""
-        _, _, state, *lines = found.witness.read_text().split("\n")
-        start = self.start(lines)
-        known = dict(zip(self.goals.latches, state))
-        _, _, state, *steps = self.goals.witness(known, lines[: found.steps]).split("\n")[:-2]
-        stem, loop = steps[:start], steps[start:]
-        rounds = self.rounds(state, stem, loop)
-        if not rounds:
-            reason = f"what it depends on has a lasso, in which the model does not come back in {self.tried} steps"
-            return Verdict(Answer.UNKNOWN, reason=reason)
-        steps = [f"{step}0" for step in (*stem, *loop * rounds[1], loop[0])]
-        first = start + rounds[0] * len(loop)
-        steps[first] = f"{steps[first][:-1]}1"
-        self.model = Model(self.live)
-        witness = self.written("\n".join(["1", "b0", state + "0" * self.goals.more, *steps, ".", ""]))
+        """The lasso of the model, by that of its part: where more than the part has to come back it goes round more
+        often, as far as steps and time allow."""
+        _, _, state, *steps, _, _ = found.witness.read_text().split("\n")
+        start, end = self.step(found.witness), time.monotonic() + self.tools.limits.time
+        known, stem, loop = dict(zip(self.goals.latches, state)), steps[:start], steps[start:]
+        self.model = self.source
+
+        def behind(rounds: int) -> Optional[Path]:
+            return self.written(self.goals.witness(known, [*stem, *loop * rounds]))
+
+        too_few, rounds, witness = 0, 1, behind(1)
+        while loop and not witness and start + 2 * rounds * len(loop) <= self.MOST and time.monotonic() < end:
+            too_few, rounds = rounds, 2 * rounds
+            witness = behind(rounds)
         if not witness:
-            return Verdict(Answer.UNKNOWN, reason="what it depends on comes back in a lasso, and the model does not")
+            tried = f"does not come back in {start + rounds * len(loop)} steps"
+            return Verdict(Answer.UNKNOWN, reason=f"what it depends on has a lasso, in which the model {tried}")
+        # once it came back it does so in each round
+        while too_few + 1 < rounds:
+            fewer = (too_few + rounds) // 2
+            shorter = behind(fewer)
+            if shorter:
+                discard(witness)
+            too_few, rounds, witness = (too_few, fewer, shorter) if shorter else (fewer, rounds, witness)
         return self.shortened(found.steps, witness)
 
     def shortened(self, least: int, witness: Path) -> Verdict:
         """The shortest lasso of the model, by one of it, and by how many steps that of its part has."""
-        steps = self.step(witness)
+        steps = self.length(witness)
         if steps > least:
             self.notes.clear()
             if steps <= self.tools.limits.frames:
-                super().prepare()
-                return self.shortest(witness)
-            self.note_longer()
-        return Verdict(Answer.REACHED, steps=steps, witness=witness)
-
-    def turned_back(self, found: Verdict) -> Verdict:
-        """The lasso in the words of the model, by the run that aiger confirms."""
-        _, _, state, *lines = found.witness.read_text().split("\n")
-        circuit, steps = self.source.circuit, lines[: found.steps]
-        lasso = self.folder / "lasso.aiw"
-        inputs = [step[: len(circuit.inputs)] for step in steps]
-        lasso.write_text("\n".join(["1", self.goals.called, state[: len(circuit.latches)], *inputs, ".", ""]))
-        os.replace(found.witness, self.folder / "loop.aiw")
-        return Verdict(Answer.REACHED, steps=self.start(steps), witness=lasso)
-
-    def start(self, steps: List[str]) -> int:
-        """The step in which the loop begins: the last input tells."""
-        return next((at for at, step in enumerate(steps) if step.endswith("1")), 0)
-
-    def rounds(self, state: str, stem: List[str], loop: List[str]) -> Optional[Tuple[int, int]]:
-        """Behind which rounds of the loop the model is in the same state, as far as steps and time allow."""
-        count, end = 1, time.monotonic() + self.tools.limits.time
-        while len(stem) + count * len(loop) <= self.MOST and time.monotonic() < end:
-            seen: Dict[str, int] = {}
-            for at, now in enumerate(self.states(state, [*stem, *loop * count, loop[0]])[len(stem) :: len(loop)]):
-                if now in seen:
-                    return seen[now], at
-                seen[now] = at
-            self.tried = len(stem) + count * len(loop)
-            count *= 2
-        return None
-
-    def states(self, state: str, steps: List[str]) -> List[str]:
-        """The state of the model in each of these steps."""
-        started, stimulus, trace = (self.folder / name for name in ("started.aig", "steps", "trace"))
-        started.write_bytes(started_at(without_justice(self.source.circuit), state).write())
-        stimulus.write_text("\n".join([*steps, ""]))
-        told = self.tools.aiger.run("aigsim", started, stimulus, folder=self.folder, output=trace)
-        return [line.partition(" ")[0] for line in trace.read_text().splitlines()] if told.status == 0 else []
+                self.smaller = self.whole
+                witness = self.shortest(witness).witness
+            else:
+                self.note_longer()
+        return Verdict(Answer.REACHED, steps=self.step(witness), witness=witness)
 
 
 def aiger_failure(told: Finished) -> str:
@@ -1755,7 +1762,7 @@ class Together(Search):
 
     def __init__(self, sides: Sides, model: Model, tools: Tools, folder: Path, progress: "Progress") -> None:
         super().__init__(Assertion("all", "together", 0), model, tools, folder, progress)
-        self.whole, self.sides = Target(model.path, None), sides
+        self.whole, self.sides = Target(model.path), sides
 
     def verdict(self) -> Optional[Verdict]:
         """That none is; else the rows are kept for the single ones, if they are an invariant."""
@@ -1786,7 +1793,7 @@ class Together(Search):
         parts = {name: getattr(circuit, name) for name in ("max_var", "inputs", "latches", "constraints", "gates")}
         path.write_bytes(aigtools().Circuit(bad=[0], **parts).write())
         options = ("--invariant", self.folder / "never.pla")
-        return self.ask(Target(path, None), "rows", "an invariant", *options) is Said.UNSATISFIABLE
+        return self.ask(Target(path), "rows", "an invariant", *options) is Said.UNSATISFIABLE
 
 
 # ---------------------------------------------------------------- Yosys
@@ -2650,7 +2657,7 @@ class Keeper:
             verdict.kept = self.put(f"{name}.aiw", verdict.witness.read_bytes())
         if verdict.refutation:
             proof = self.put_proof(TOGETHER if verdict.of_all else name, verdict)
-            asks = self.asks(assertion, self.options(proof, assertion, verdict))
+            asks = self.asks(self.options(proof, assertion, verdict))
             self.put_script(name, assertion, verdict, [*asks, f'[ "$answer" = "{verdict.claim()}" ]'])
 
     def put_run(self, name: str, assertion: Assertion, verdict: Verdict) -> None:
@@ -2693,10 +2700,10 @@ class Keeper:
     def options(self, proof: str, assertion: Assertion, verdict: Verdict) -> str:
         """The words by which aigunroll is asked again."""
         how = f"--invariant {proof}.pla" if verdict.invariant else f"--frames {verdict.steps}"
-        bad = "" if verdict.of_all else f"--bad {assertion.bad} "
-        return f"{how} {bad}--refutation {proof}.drat"
+        of = "" if verdict.of_all else "{} {} ".format(*assertion.option)
+        return f"{how} {of}--refutation {proof}.drat"
 
-    def asks(self, assertion: Assertion, options: str) -> List[str]:
+    def asks(self, options: str) -> List[str]:
         """The lines that get an answer of the model."""
         return [f'answer=$("${{AIGER:-aiger}}" aigunroll {options} {self.model}) || exit 1']
 
@@ -2714,7 +2721,7 @@ class KeeperOfTwo(Keeper):
         self.digests.clear()
         self.two = [self.put_model("first", sides.first.path), self.put_model("second", sides.second.path)]
 
-    def asks(self, assertion: Assertion, options: str) -> List[str]:
+    def asks(self, options: str) -> List[str]:
         by_name = "--by-name " * self.sides.by_name
         return [
             'aiger=${AIGER:-aiger}',
@@ -2739,47 +2746,18 @@ class KeeperOfTwo(Keeper):
 
 
 class KeeperOfLassos(Keeper):
-    """Keeps a model with its justice properties, and what shows whether a run is fair to them.
-
-    What aiger makes of one has no names: for the waveform it gets those of the model, and some that tell of the loop.
-    """
+    """Keeps a model with its justice properties, and what shows whether a run is fair to them."""
 
     called = "live"
 
     def __init__(self, folder: Path, model: Model, aiger: Aiger, names: Set[str]) -> None:
         super().__init__(folder, model.path, aiger)
-        self.circuit, self.names = model.circuit, names
+        self.names = names
 
-    def asks(self, assertion: Liveness, options: str) -> List[str]:
-        return self.of_live(assertion, f"aigunroll {options} -")
-
-    def of_live(self, assertion: Liveness, words: str) -> List[str]:
-        """The lines that get an answer of what aiger makes of the model."""
-        return [
-            'aiger=${AIGER:-aiger}',
-            f'answer=$("$aiger" aigtoaig --justice-as-bad {assertion.justice} {self.model} |',
-            f'  "$aiger" {words}) || exit 1',
-        ]
-
-    def put_run(self, name: str, assertion: Liveness, verdict: Verdict) -> None:
-        """Keeps the run of what aiger makes of the model too, which it confirms."""
-        loop, named = (verdict.witness.with_name(it) for it in ("loop.aiw", "named.aig"))
-        named.write_bytes(self.with_names(verdict.witness.with_name("live.aig")).write())
-        self.put_waves(name, named, loop)
-        self.put(f"{name}.loop", loop.read_bytes())
-        asks = self.of_live(assertion, f"aigsim --witness - {name}.loop")
-        steps = len(verdict.witness.read_text().splitlines()) - 4
-        self.put_script(name, assertion, verdict, [*asks, f'[ "$answer" = "confirmed {steps}" ]'])
-
-    def with_names(self, live: Path) -> Any:
-        """What aiger makes of the model, with names."""
-        circuit, count, inputs = aigtools().read(live.read_bytes()), len(self.circuit.latches), len(self.circuit.inputs)
-        names = [it for it in self.circuit.symbols if it.kind in "il"]
-        names += [("l", count + 1 + it.position, b"loop_start." + it.name) for it in names if it.kind == "l"]
-        names += [("i", inputs, b"loop_starts"), ("l", count, b"in_loop"), ("b", 0, b"loop_closed")]
-        goals = range(2 * count + 1, len(circuit.latches))
-        circuit.symbols = names + [("l", at, b"met[%d]" % goal) for goal, at in enumerate(goals)]
-        return circuit
+    def put_run(self, name: str, assertion: Assertion, verdict: Verdict) -> None:
+        super().put_run(name, assertion, verdict)
+        asks = f'answer=$("${{AIGER:-aiger}}" aigsim --witness {self.model} {name}.aiw) || exit 1'
+        self.put_script(name, assertion, verdict, [asks, f'[ "$answer" = "confirmed {verdict.steps}" ]'])
 
 
 def started_at(circuit: Any, state: str) -> Any:

@@ -47,7 +47,7 @@ from dataclasses import dataclass
 from pathlib import Path
 from typing import Any, Callable, Dict, Iterable, Iterator, List, Mapping, NamedTuple, Optional, Sized, Tuple, Union
 
-__all__ = ["LARGEST", "Circuit", "Entries", "Gate", "Kind", "Latch", "Refused", "Step", "Symbol"]
+__all__ = ["JUSTICE", "LARGEST", "Circuit", "Entries", "Gate", "Kind", "Latch", "Refused", "Step", "Symbol"]
 __all__ += ["answer", "clauses", "confirm", "convert", "dump", "invariant_clauses", "miter", "never", "read"]
 __all__ += ["refute", "simulate", "unroll", "version"]
 
@@ -55,6 +55,9 @@ Data = Union[bytes, bytearray, memoryview]
 
 #: The largest ``max_var``, and the one that is taken where none is given.
 LARGEST = 2147483647
+
+#: Added to the position of a justice property, it is the number by which the library asks for that one.
+JUSTICE = 2147483648
 
 #: The most ``frames``.
 MOST_FRAMES = 1000000
@@ -120,7 +123,7 @@ class Refused(ValueError):
     kind      what is wrong
     line      the line, counted from 1, where it is wrong in one; for BAD_MAP_LINE a line of the map
     gate      the gate of a binary file, counted from 1, where it is wrong in one
-    subject   the variable, the literal or the bad state that the fault names, or 0
+    subject   the variable, the literal, the bad state or the justice property that the fault names, or 0
     entry     of a circuit, the name and the index of what is wrong, as ("gates", 0); of two that are paired by names,
               those of the input, output or bad state, as ("inputs", 0)
     second    whether it is the second of two circuits
@@ -316,9 +319,13 @@ def _number(name: str, value: int, least: int = 0, most: int = LARGEST) -> int:
     return value
 
 
-def _bad(bad: Optional[int]) -> int:
-    """The number that asks for this bad state, or for all."""
-    return _ALL_BAD if bad is None else _number("bad", bad)
+def _property(bad: Optional[int], justice: Optional[int]) -> int:
+    """The number that asks for this bad state, for this justice property, or for all bad states."""
+    if justice is None:
+        return _ALL_BAD if bad is None else _number("bad", bad)
+    if bad is not None:
+        raise ValueError("bad excludes justice")
+    return JUSTICE + _number("justice", justice, most=LARGEST - 1)
 
 
 def _options(*given: Tuple[Any, int]) -> int:
@@ -400,17 +407,24 @@ def unroll(data: Data, frames: int, *, ascii: bool = False, max_var: int = LARGE
     )[0]
 
 
-def clauses(data: Data, frames: int, *, bad: Optional[int] = None, max_var: int = LARGEST) -> bytes:
+def clauses(
+    data: Data, frames: int, *, bad: Optional[int] = None, justice: Optional[int] = None, max_var: int = LARGEST
+) -> bytes:
     """Clauses for a SAT solver (DIMACS), as ``aiger aigunroll --cnf`` writes them: they can be satisfied exactly if a
     run of at most so many steps, 1 to 1000000, reaches a bad state with all constraints kept.
 
-    bad   the bad state of this position alone, counted from 0
+    bad       the bad state of this position alone, counted from 0
+    justice   the justice property of this position, in the place of a bad state: they can be satisfied exactly if a
+              lasso has fewer steps, a run that comes back to one of its states, with all constraints kept, and meets
+              each literal of the property and each fairness constraint on the way
 
     >>> clauses(b"aag 1 0 1 0 0 1\\n2 3\\n2\\n", 1)
     b'p cnf 2 5\\n-1 0\\n-2 -1 0\\n-2 1 0\\n2 1 -1 0\\n2 0\\n'
+    >>> clauses(b"aag 1 0 1 0 0 0 0 1\\n2 3\\n1\\n2\\n", 3, justice=0).splitlines()[0]
+    b'p cnf 49 137'
     """
     data = _bytes(data)
-    which, limit = _bad(bad), _number("max_var", max_var)
+    which, limit = _property(bad, justice), _number("max_var", max_var)
     count = _number("frames", frames, 1, MOST_FRAMES)
     return _made(
         min(min(count, 64) * 16 * len(data) + 64, _LARGEST_GUESS),
@@ -420,16 +434,26 @@ def clauses(data: Data, frames: int, *, bad: Optional[int] = None, max_var: int 
     )[0]
 
 
-def answer(model: Data, answer: Data, frames: int, *, bad: Optional[int] = None, max_var: int = LARGEST) -> bytes:
-    """The witness that a solver's answer to the clauses of the model gives, with the same frames and bad state, as
+def answer(
+    model: Data,
+    answer: Data,
+    frames: int,
+    *,
+    bad: Optional[int] = None,
+    justice: Optional[int] = None,
+    max_var: int = LARGEST,
+) -> bytes:
+    """The witness that a solver's answer to the clauses of the model gives, with the same frames and property, as
     ``aiger aigunroll --answer`` writes it. It is confirmed, whatever the solver said. An answer that gives none is
     refused: UNSATISFIABLE, UNKNOWN or NOT_REACHED.
 
     >>> answer(b"aag 1 0 1 0 0 1\\n2 3\\n2\\n", b"s SATISFIABLE\\nv -2 3 0\\n", 2)
     b'1\\nb0\\n0\\n\\n\\n.\\n'
+    >>> answer(b"aag 1 0 1 0 0 0 0 1\\n2 3\\n1\\n2\\n", b"s SATISFIABLE\\nv 2 0\\n", 3, justice=0)
+    b'1\\nj0\\n0\\n\\n\\n.\\n'
     """
     model, answer = _bytes(model), _bytes(answer)
-    which, limit = _bad(bad), _number("max_var", max_var)
+    which, limit = _property(bad, justice), _number("max_var", max_var)
     count = _number("frames", frames, 1, MOST_FRAMES)
     return _made(
         len(model) + len(answer) + 64,
@@ -439,11 +463,19 @@ def answer(model: Data, answer: Data, frames: int, *, bad: Optional[int] = None,
     )[0]
 
 
-def refute(model: Data, refutation: Data, frames: int, *, bad: Optional[int] = None, max_var: int = LARGEST) -> None:
-    """Checks a solver's refutation (DRAT, text or binary) of the clauses of the model, with the same frames and bad
-    state, as ``aiger aigunroll --refutation``. If it is right, no run of at most so many steps reaches a bad state
-    with all constraints kept: that is proved, whatever the solver said. If it is not, it is refused: NO_REFUTATION,
-    BAD_REFUTATION or DOES_NOT_FOLLOW.
+def refute(
+    model: Data,
+    refutation: Data,
+    frames: int,
+    *,
+    bad: Optional[int] = None,
+    justice: Optional[int] = None,
+    max_var: int = LARGEST,
+) -> None:
+    """Checks a solver's refutation (DRAT, text or binary) of the clauses of the model, with the same frames and
+    property, as ``aiger aigunroll --refutation``. If it is right, no run of at most so many steps reaches a bad state
+    with all constraints kept, or no lasso of the justice property has fewer: that is proved, whatever the solver said.
+    If it is not, it is refused: NO_REFUTATION, BAD_REFUTATION or DOES_NOT_FOLLOW.
 
     >>> refute(b"aag 1 0 1 0 0 1\\n2 3\\n2\\n", b"", 1)
     >>> try:
@@ -451,27 +483,33 @@ def refute(model: Data, refutation: Data, frames: int, *, bad: Optional[int] = N
     ... except Refused as refused:
     ...     print(refused.kind.name, refused)
     DOES_NOT_FOLLOW line 2: does not follow
+    >>> refute(b"aag 1 0 1 0 0 0 0 1\\n2 3\\n1\\n2\\n", b"0\\n", 2, justice=0)
     """
     model, refutation = _bytes(model), _bytes(refutation)
-    which, limit = _bad(bad), _number("max_var", max_var)
+    which, limit = _property(bad, justice), _number("max_var", max_var)
     count, outcome = _number("frames", frames, 1, MOST_FRAMES), _Outcome()
     _library.aigtools_refute(which, count, limit, model, len(model), refutation, len(refutation), outcome)
     if outcome.status != _DONE:
         _raise(outcome)
 
 
-def invariant_clauses(model: Data, invariant: Data, *, bad: Optional[int] = None, max_var: int = LARGEST) -> bytes:
+def invariant_clauses(
+    model: Data, invariant: Data, *, bad: Optional[int] = None, justice: Optional[int] = None, max_var: int = LARGEST
+) -> bytes:
     """Clauses for a SAT solver (DIMACS) in which an invariant of the model is to be shown, as ``aiger aigunroll
     --invariant --cnf`` writes them: a PLA with a column for each latch, as pdr of ABC writes one. If they cannot be
     satisfied, no run, however long, reaches a bad state with all constraints kept.
 
-    bad   the bad state of this position alone, counted from 0
+    bad       the bad state of this position alone, counted from 0
+    justice   the justice property of this position, in the place of a bad state: no run without end then keeps all
+              constraints and meets each literal of the property and each fairness constraint again and again. The
+              columns are the latches of what ``convert`` makes with ``justice_as_bad``.
 
     >>> invariant_clauses(b"aag 1 0 1 0 0 1\\n2 2\\n2\\n", b"1 1\\n").splitlines()[0]
     b'p cnf 7 17'
     """
     model, invariant = _bytes(model), _bytes(invariant)
-    which, limit = _bad(bad), _number("max_var", max_var)
+    which, limit = _property(bad, justice), _number("max_var", max_var)
     return _made(
         min(64 * (len(model) + len(invariant)) + 64, _LARGEST_GUESS),
         lambda output, room, outcome: _library.aigtools_invariant_clauses(
@@ -481,13 +519,19 @@ def invariant_clauses(model: Data, invariant: Data, *, bad: Optional[int] = None
 
 
 def never(
-    model: Data, invariant: Data, refutation: Data, *, bad: Optional[int] = None, max_var: int = LARGEST
+    model: Data,
+    invariant: Data,
+    refutation: Data,
+    *,
+    bad: Optional[int] = None,
+    justice: Optional[int] = None,
+    max_var: int = LARGEST,
 ) -> None:
     """Checks a solver's refutation (DRAT, text or binary) of the clauses in which the invariant of the model is to be
-    shown, with the same bad state, as ``aiger aigunroll --invariant --refutation``. If it is right, no run, however
-    long, reaches a bad state with all constraints kept: that is proved, whatever the invariant and the solver said. If
-    it is not, it is refused, as ``refute`` does; so is what is no invariant of the model: BAD_INVARIANT,
-    NOT_EACH_LATCH, MET_AT_START or TOO_LARGE_INVARIANT.
+    shown, with the same property, as ``aiger aigunroll --invariant --refutation``. If it is right, no run, however
+    long, reaches a bad state with all constraints kept, or none is fair to the justice property: that is proved,
+    whatever the invariant and the solver said. If it is not, it is refused, as ``refute`` does; so is what is no
+    invariant of the model: BAD_INVARIANT, NOT_EACH_LATCH, MET_AT_START or TOO_LARGE_INVARIANT.
 
     >>> never(b"aag 1 0 1 0 0 1\\n2 2\\n2\\n", b"1 1\\n", b"-7 0\\n")
     >>> try:
@@ -495,9 +539,10 @@ def never(
     ... except Refused as refused:
     ...     print(refused.kind.name, refused)
     MET_AT_START line 1: met by a first state
+    >>> never(b"aag 0 0 0 0 0 0 0 1\\n1\\n0\\n", b"-1 1\\n", b"-16 0\\n0\\n", justice=0)
     """
     model, invariant, refutation = _bytes(model), _bytes(invariant), _bytes(refutation)
-    which, limit, outcome = _bad(bad), _number("max_var", max_var), _Outcome()
+    which, limit, outcome = _property(bad, justice), _number("max_var", max_var), _Outcome()
     _library.aigtools_never(
         which, limit, model, len(model), invariant, len(invariant), refutation, len(refutation), outcome
     )
@@ -560,13 +605,16 @@ def _room_of_dump(model: bytes, steps: bytes) -> int:
 
 
 def confirm(model: Data, witness: Data, *, max_var: int = LARGEST) -> Optional[int]:
-    """The first step, counted from 0, at which a witness shows the bad state that it claims, or None.
+    """The first step, counted from 0, at which a witness shows the bad state that it claims, or at which the loop
+    begins that meets the justice property; or None.
 
     >>> toggle = b"aag 1 0 1 0 0 1\\n2 3\\n2\\n"
     >>> confirm(toggle, b"1\\nb0\\n0\\n\\n\\n.\\n")
     1
     >>> confirm(toggle, b"1\\nb0\\n0\\n\\n.\\n") is None
     True
+    >>> confirm(b"aag 1 0 1 0 0 0 0 1\\n2 3\\n1\\n2\\n", b"1\\nj0\\n0\\n\\n\\n.\\n")
+    0
     """
     model, witness = _bytes(model), _bytes(witness)
     outcome = _Outcome()
@@ -578,7 +626,8 @@ def confirm(model: Data, witness: Data, *, max_var: int = LARGEST) -> Optional[i
 
 
 def dump(model: Data, witness: Data, *, max_var: int = LARGEST) -> Tuple[Optional[int], bytes]:
-    """What ``confirm`` answers, and the waveform of the run, as ``aiger aigsim --witness --vcd`` writes it.
+    """What ``confirm`` answers, and the waveform of the run, as ``aiger aigsim --witness --vcd`` writes it. That of a
+    lasso which is confirmed has an input more, ``loop``: it is 1 from the step on at which the loop begins.
 
     >>> step, text = dump(b"aag 1 0 1 0 0 1\\n2 3\\n2\\n", b"1\\nb0\\n0\\n\\n\\n.\\n")
     >>> step, text.splitlines()[0]

@@ -5,21 +5,27 @@ The circuits are those of images.py, small, with justice properties and fairness
 program must write the circuit that is made here, variable by variable, from ASCII and from binary; or refuse it.
 Where the circuit has few states, its bad state must be reached exactly where some loop of the model, which a first
 state leads to with all constraints kept, meets all goals; and the run that reaches it must be such a loop, turned
-back.
+back. Unrolled for the property, the model must give the clauses of that circuit; and of the answer that is this run,
+its witness, which the program must confirm at the first step at which a loop begins. That lasso with a value changed,
+a step left out or its loop once more, runs with x that come back, and any other run must be answered as the plain
+judge of witnesses.py does.
 """
 import dataclasses
 import itertools
 import random
+from pathlib import Path
 
-from lib import images, traces
+from lib import images, traces, witnesses
 
 CIRCUITS = 400
+# how many runs of a property are judged beside its lasso, and how many steps one has that waits for its state
+RUNS, STEPS = 6, 12
 LARGEST = 2147483647
 
 
 def circuit(chance):
     """A circuit made by chance with a justice property at least."""
-    made = images.circuit(chance, most_latches=3, most_inputs=2, most_gates=7)
+    made = images.circuit(chance, most_latches=4, most_inputs=2, most_gates=7)
     known = [0, 1, *(2 * it + side for it in made.latches + made.inputs for side in (0, 1))]
     known += [gate[0] + side for gate in made.gates for side in (0, 1)]
     more = [chance.choices(known, k=chance.randrange(4)) for _ in range(chance.randrange(1, 3))]
@@ -196,6 +202,83 @@ def wrong_runs(made, number, live):
     return None
 
 
+def witness(number, state, steps):
+    """The lines of a witness for a justice property."""
+    return ["1", f"j{number}", state, *steps, "."]
+
+
+def changed(chance, lines, start):
+    """The lines of a lasso whose loop begins at this step, with a value changed, a step left out, or the loop twice."""
+    first, steps = lines[:3], lines[3:-1]
+    at, how = chance.randrange(len(steps)), chance.randrange(4)
+    if how == 0:
+        del steps[at]
+    elif how == 1:
+        steps += steps[start:]
+    elif how == 2 and steps[at]:
+        place = chance.randrange(len(steps[at]))
+        steps[at] = steps[at][:place] + chance.choice("01x") + steps[at][place + 1 :]
+    elif first[2]:
+        place = chance.randrange(len(first[2]))
+        first[2] = first[2][:place] + chance.choice("01x") + first[2][place + 1 :]
+    return [*first, *steps, "."]
+
+
+def run_back(chance, made, number):
+    """The lines of a run over 0, 1 and x, up to the step that leads to a state in which it was, or to some step."""
+    order, characters = images.placed(made.gates), chance.choice(["01", "01x", "0001xx", "x"])
+    states, steps = ["".join(chance.choice(characters) if it == "x" else it for it in made.resets)], []
+    while len(steps) < STEPS and states[-1] not in states[:-1]:
+        steps.append("".join(chance.choices(characters, k=len(made.inputs))))
+        states.append(traces.step(made, order, states[-1], steps[-1])[2])
+    return witness(number, states[0], steps)
+
+
+def wrong_witness(program, made, model, lines):
+    """What is wrong with the answer to a witness of these lines, if anything is."""
+    text = "".join(f"{line}\n" for line in lines)
+    came = traces.ran(program, text.encode(), "aigsim", "--witness", str(model))
+    wanted = witnesses.wanted(made, "-", text)
+    return None if came == wanted else f"{images.ascii_text(made)!r} over {text!r}: wanted {wanted!r}, came {came!r}"
+
+
+def wrong_lasso(program, made, model, number, lines):
+    """What is wrong with a lasso that was found, and with the witness of an answer that is this run, if anything is."""
+    state, steps = lines[2], lines[3:-1]
+    begins = starts(made, number, state, steps)
+    text = "".join(f"{line}\n" for line in lines).encode()
+    if not begins or witnesses.start(made, lines) != begins[0]:
+        return f"two judges of {text!r}, for {images.ascii_text(made)!r}"
+    came = traces.ran(program, text, "aigsim", "--witness", str(model))
+    if came != (f"confirmed {begins[0]}\n".encode(), b"", 0):
+        return f"{text!r}, for {images.ascii_text(made)!r}: wanted {begins[0]}, came {came!r}"
+    # the inputs of the unrolled circuit are first those of latches without a reset, and from number 2 on; behind the
+    # lasso its loop begins again
+    marks = ["01"[at == begins[0]] for at in range(len(steps) + 1)]
+    bits = "".join(value for value, reset in zip(state, made.resets) if reset == "x")
+    bits += "".join(map("".join, zip([*steps, steps[begins[0]]], marks)))
+    values = " ".join(str(at if bit == "1" else -at) for at, bit in enumerate(bits, 2))
+    words = ["--frames", str(len(steps) + 1), "--justice", str(number), "--answer", "-", str(model)]
+    came = traces.ran(program, f"s SATISFIABLE\nv {values} 0\n".encode(), "aigunroll", *words)
+    return None if came == (text, b"", 0) else f"{words} of {values!r}: wanted {text!r}, came {came!r}"
+
+
+def judge_witnesses(program, folder, made, number, at):
+    """What is wrong with the answers to witnesses of a property, if anything is."""
+    chance, model, file = random.Random(at), images.renumbered(made), Path(folder) / f"model.{at}"
+    file.write_bytes(images.image(made))
+    run, runs = run_to_bad(with_loop(model, number)), [run_back(chance, model, number) for _ in range(RUNS)]
+    if run:
+        state, steps = run[0][: len(made.latches)], [it[: len(made.inputs)] for it in run[1][:-1]]
+        lines = witness(number, state, steps)
+        wrong = wrong_lasso(program, model, file, number, lines)
+        if wrong:
+            return wrong
+        runs += [changed(chance, lines, witnesses.start(model, lines)) for _ in range(RUNS)]
+    wrong = (wrong_witness(program, model, file, it) for it in runs)
+    return next(filter(None, wrong), None)
+
+
 def answers(made, number):
     """What the program is to answer for a property: in ASCII, and in binary."""
     live = with_loop(made, number)
@@ -212,7 +295,21 @@ def judge(program, made, number):
             came = traces.ran(program, given, *arguments)
             if came != wanted:
                 return f"{arguments} of {given!r}: wanted {wanted!r}, came {came!r}"
-    return wrong_runs(image, number, with_loop(image, number))
+    return wrong_clauses(program, made, number) or wrong_runs(image, number, with_loop(image, number))
+
+
+def wrong_clauses(program, made, number):
+    """What is wrong with the clauses for a property, which are to be those of its circuit."""
+    model, live = images.ascii_text(made), with_loop(made, number)
+    if live.largest > LARGEST:
+        return None
+    for frames in (1, 2, 5):
+        words = ["aigunroll", "--frames", str(frames), "--cnf"]
+        came = traces.ran(program, model, *words, "--justice", str(number))
+        wanted = traces.ran(program, images.ascii_text(live), *words)
+        if came != wanted:
+            return f"{words} of j{number} of {model!r}: wanted {wanted!r}, came {came!r}"
+    return None
 
 
 def refused(program, made):
@@ -225,8 +322,9 @@ def refused(program, made):
 
 def cases(program, folder):
     chance = random.Random(80)
-    for _ in range(CIRCUITS):
+    for at in range(CIRCUITS):
         made = circuit(chance)
         for number in range(len(made.justice)):
             yield judge, program, made, number
+            yield judge_witnesses, program, folder, made, number, f"{at}.{number}"
         yield refused, program, made

@@ -71,7 +71,9 @@ compressed output is not supported
 --cnf excludes --ascii
 --answer excludes --cnf and --ascii
 --refutation excludes --cnf, --ascii and --answer
+--bad excludes --justice
 --bad needs --cnf, --answer or --refutation
+--justice needs --cnf, --answer or --refutation
 --lrat needs --refutation
 model and answer are both standard input
 model and refutation are both standard input

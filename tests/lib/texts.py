@@ -33,7 +33,7 @@ def options_of(words):
         word = rest.pop(0)
         if word in FLAGS:
             options[{"-a": "ascii", "-s": "strip"}.get(word, word[2:].replace("-", "_"))] = True
-        elif word in ("--max-var", "--frames", "--bad", "--justice-as-bad") and rest and rest[0].isdigit():
+        elif word in ("--max-var", "--frames", "--bad", "--justice", "--justice-as-bad") and rest and rest[0].isdigit():
             options[word[2:].replace("-", "_")] = int(rest.pop(0))
         elif word in ("--answer", "--refutation", "--invariant") and rest:
             options[word[2:]] = rest.pop(0)

@@ -7,8 +7,8 @@ dump of each circuit, of its binary image, of its mapped image and of what is un
 be the text that is made here from the trace. A reader, which knows of a circuit only how many of each kind it has, must
 get the trace back from the dump; and so from what vcd2fst and fst2vcd make of some dumps, where these are installed
 (package gtkwave), with the same words for each signal. The witnesses are those of witnesses.py, and so are the answers
-before the dumps of their runs. GTKWave, where it and xvfb-run are installed, must show each
-signal of a circuit that has all of these names.
+before the dumps of their runs; that of a lasso has one input more. GTKWave, where it and xvfb-run are installed, must
+show each signal of a circuit that has all of these names.
 """
 import collections
 import dataclasses
@@ -21,6 +21,7 @@ from pathlib import Path
 from lib import images, traces, witnesses
 
 CIRCUITS = 400
+LARGEST = 2147483647
 # of so many of them some go through other programs
 EACH = 8
 CONVERTERS = ["vcd2fst", "fst2vcd"]
@@ -142,6 +143,19 @@ def wanted(made, names, name, lines, is_batch=False):
     return output, f"aiger: {name}: line {bad_at}: bad stimulus line\n".encode(), 1
 
 
+def marked(made, names, lines):
+    """What is shown of a witness of these lines, which is right: of a lasso the circuit with an input more, which is 1
+    from the step on at which the loop begins; nothing where no variable is left for that."""
+    start = witnesses.start(made, lines) if lines[1].startswith("j") else None
+    if start is None:
+        return made, names, lines
+    if made.largest == LARGEST:
+        return None
+    more = dataclasses.replace(made, largest=made.largest + 1, inputs=[*made.inputs, made.largest + 1])
+    steps = [line + "01"[start <= at] for at, line in enumerate(lines[3:-1])]
+    return more, names | {("i", len(made.inputs)): b"loop"}, [*lines[:3], *steps, "."]
+
+
 def lines_of_run(made, lines):
     """The trace with properties of the run of a witness of these lines, which is right."""
     order, state, traced = images.placed(made.gates), lines[2], []
@@ -156,7 +170,10 @@ def wanted_of_run(made, names, name, text):
     answer, errors, status = witnesses.wanted(made, name, text)
     if errors:
         return answer, errors, status
-    lines = witnesses.lines_of(text)
+    shown = marked(made, names, witnesses.lines_of(text))
+    if not shown:
+        return b"", f"aiger: {name}: too large\n".encode(), 1
+    made, names, lines = shown
     started = dataclasses.replace(made, resets=list(lines[2]))
     run = dump(started, names, lines_of_run(made, lines), True)
     return b"$comment " + answer.rstrip() + b" $end\n" + run, errors, status
@@ -351,21 +368,28 @@ def judge(program, folder, number, has_others):
     said = of_dump(made, traced, text, file) if status == 0 else None
     if said:
         return f"{source!r} over {given!r}, the dump {text!r}: {said}"
-    return judge_run(program, folder, number, made, names, [source, others[number % 3]], file)
+    # an image has no unused variables
+    used = len(made.inputs) + len(made.latches) + len(made.gates)
+    largest = made.largest if number % 3 == 2 else used
+    models = [(others[number % 3], dataclasses.replace(made, largest=largest)), (source, made)]
+    return judge_run(program, folder, number, names, models, file)
 
 
-def judge_run(program, folder, number, made, names, models, file):
-    """What is wrong with the dumps of a witness's run, if anything is."""
-    given, witness = witnesses.given(random.Random(number), made), Path(folder) / f"witness.{number}"
+def judge_run(program, folder, number, names, models, file):
+    """What is wrong with the dumps of a witness's run, of a circuit in some texts, if anything is."""
+    given, witness = witnesses.given(random.Random(number), models[0][1]), Path(folder) / f"witness.{number}"
     witness.write_bytes(given.encode())
-    should = wanted_of_run(made, names, witness, given)
-    for model in models:
+    for model, made in models:
+        should = wanted_of_run(made, names, witness, given)
         came = traces.ran(program, model, "aigsim", "--witness", "--vcd", "-", str(witness))
         if came != should:
             return f"{model!r} and the witness {given!r}: wanted {should!r}, came {came!r}"
     text, errors, _ = should
-    said = None if errors else of_dump(made, lines_of_run(made, witnesses.lines_of(given)), text, file)
-    return f"{models[0]!r} and the witness {given!r}, the dump {text!r}: {said}" if said else None
+    if errors:
+        return None
+    made, _, lines = marked(made, names, witnesses.lines_of(given))
+    said = of_dump(made, lines_of_run(made, lines), text, file)
+    return f"{model!r} and the witness {given!r}, the dump {text!r}: {said}" if said else None
 
 
 def seen_by_viewer(text, folder):

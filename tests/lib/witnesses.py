@@ -1,10 +1,11 @@
 """Compares what the program answers to witnesses with a plain evaluation, on circuits and witnesses made by chance.
 
-The circuits are those of images.py, nearly all of them with bad states. For each a witness is judged: a run of some
-steps over 0, 1 and x, from first values that agree with the resets. Half of the witnesses are then spoiled: cut after
-some byte, or with a line left out, put in, exchanged or changed. The answer, or the number of the first line that is
-wrong, must be what is worked out here, for the circuit as ASCII with the witness by its name, and for the binary image
-or the mapped image with the witness by standard input.
+The circuits are those of images.py, nearly all of them with bad states, and many with justice properties. For each a
+witness is judged: a run of some steps over 0, 1 and x, from first values that agree with the resets, for a bad state or
+a justice property. Half of the witnesses are then spoiled: cut after some byte, or with a line left out, put in,
+exchanged or changed. The answer, or the number of the first line that is wrong, must be what is worked out here, for
+the circuit as ASCII with the witness by its name, and for the binary image or the mapped image with the witness by
+standard input.
 """
 import dataclasses
 import random
@@ -14,6 +15,7 @@ from lib import images, traces
 
 CIRCUITS = 2000
 LINES = ["", ".", "0", "1", "x", "b0", "b1", "b00", "b", "b2147483648", "01", "..", " ", "1 ", "10x", "c"]
+LINES += ["j0", "j1", "j00", "j", "j2147483648"]
 
 
 def lines_of(text):
@@ -28,11 +30,16 @@ def agrees(made, line):
     return len(line) == len(starts) and all(value in some for value, some in zip(line, starts))
 
 
+def properties(made):
+    """What a second line may be."""
+    return [f"{letter}{at}" for letter, of in (("b", made.bad), ("j", made.justice)) for at in range(len(of))]
+
+
 def wrong_line(made, lines):
     """The number of the first line that is not as a witness of the circuit has it, if there is one."""
     if lines[:1] != ["1"]:
         return 1
-    if lines[1:2] not in [[f"b{position}"] for position in range(len(made.bad))]:
+    if not set(lines[1:2]) & set(properties(made)):
         return 2
     if len(lines) < 3 or not agrees(made, lines[2]):
         return 3
@@ -44,8 +51,28 @@ def wrong_line(made, lines):
     return len(lines) + 1
 
 
+def start(made, lines):
+    """The step at which the loop of a lasso begins, if these lines are one: the first at which one does."""
+    goals = made.justice[int(lines[1][1:])] + made.fairness
+    order, states, seen = images.placed(made.gates), [lines[2]], []
+    for given in lines[3:-1]:
+        _, shown, state = traces.step(dataclasses.replace(made, bad=goals), order, states[-1], given)
+        *_, met, constraints = shown.split(" ")
+        if set(constraints) - {"1"}:
+            return None
+        states.append(state)
+        seen.append(met)
+    for at in range(len(seen)):
+        if states[at] == states[-1] and all("1" in of for of in zip(*seen[at:])):
+            return at
+    return None
+
+
 def answer(made, lines):
     """What is answered to a witness of the right form."""
+    if lines[1].startswith("j"):
+        at = start(made, lines)
+        return "not confirmed" if at is None else f"confirmed {at}"
     order, position, state = images.placed(made.gates), int(lines[1][1:]), lines[2]
     for number, given in enumerate(lines[3:-1]):
         _, shown, state = traces.step(made, order, state, given)
@@ -82,7 +109,7 @@ def witness(chance, made):
     characters = chance.choice(["01", "01x", "0001xx", "111110x", "0"])
     state = "".join(chance.choice(characters) if reset == "x" else reset for reset in made.resets)
     steps = ["".join(chance.choices(characters, k=len(made.inputs))) for _ in range(chance.randrange(9))]
-    return ["1", f"b{chance.randrange(len(made.bad) or 1)}", state, *steps, "."]
+    return ["1", chance.choice(properties(made) or ["b0", "j0"]), state, *steps, "."]
 
 
 def spoiled(chance, lines):

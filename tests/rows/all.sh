@@ -4,7 +4,9 @@
 # \t is TAB, \0ooo is the byte ooo in octal). What is wanted was worked out by hand from docs/FORMAT.md. A row may have
 # files in the folder $work.
 
-for table in conversions traces waves witnesses unrolled answers refutations invariants miters; do . "${BASH_SOURCE[0]%/*}/$table.sh"; done
+for table in conversions traces waves witnesses lassos unrolled answers refutations invariants liveness miters; do
+    . "${BASH_SOURCE[0]%/*}/$table.sh"
+done
 
 rows() {
     rows_accepted
@@ -42,10 +44,12 @@ rows() {
     rows_traces
     rows_waves
     rows_witnesses
+    rows_judged_lassos
     rows_unrolled
     rows_answers
     rows_refutations
     rows_invariants
+    rows_liveness
     rows_miters
     rows_words
     rows_hints

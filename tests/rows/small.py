@@ -26,6 +26,9 @@ HELD_TWICE_IMAGE = b"aig 4 2 0 2 2\n6\n8\n\x04\x01\x01\x03"
 FAR_IMAGE = b"aig 66 65 0 1 1\n132\n\x82\x01\x00i64 far\nc\n"
 FAR = b"aag 66 65 0 1 1\n%s132\n132 2 2\ni64 far\nc\n" % b"".join(b"%d\n" % it for it in range(2, 132, 2))
 BAD = b"aag 1 0 1 0 0 1\n2 3\n2\n"
+# a latch that takes the input, and is to be 1 again and again, while a constraint and fairness hold; and a lasso with a stem
+LIVE = b"aag 2 1 1 0 0 0 1 1 1\n2\n4 2\n1\n1\n4\n2\n"
+LASSO = b"1\nj0\n0\nx\n1\n1\n.\n"
 EVERY = b"aag 9 1 2 1 1 2 1 2 1\n18\n4 19 1\n14 4 14\n6\n14\n15\n7\n2\n1\n19\n4\n6\n5\n6 19 14\n"
 EVERY_NAMES = b"b1 a\nc0 b\nj0 c\nf0 d\no0 e\nl1 f\ni0 g\nc\n"
 EVERY_IMAGE = b"aig 4 1 2 1 1 2 1 2 1\n3 1\n4 6\n8\n6\n7\n9\n2\n1\n3\n4\n8\n5\n\x02\x03"
@@ -96,6 +99,13 @@ BAD_RUN = (
     b"$comment confirmed 1 $end\n" + DUMP + b"$scope module latches $end\n$var reg 1 l0 l0 $end\n$upscope $end\n"
     b"$scope module bad $end\n$var wire 1 b0 b0 $end\n$upscope $end\n$upscope $end\n$enddefinitions $end\n"
     b"#0\nb0 r\n0l0\n0b0\n#1\n1l0\n1b0\n#2\n0l0\nzb0\n#3\n"
+)
+LASSO_RUN = (
+    b"$comment confirmed 2 $end\n" + DUMP
+    + b"$scope module inputs $end\n$var wire 1 i0 i0 $end\n$var wire 1 i1 loop $end\n$upscope $end\n"
+    b"$scope module latches $end\n$var reg 1 l0 l0 $end\n$upscope $end\n"
+    b"$scope module constraints $end\n$var wire 1 c0 c0 $end\n$upscope $end\n$upscope $end\n$enddefinitions $end\n"
+    b"#0\nb0 r\nxi0\n0i1\n0l0\n1c0\n#1\n1i0\nxl0\n#2\n1i1\n1l0\n#3\nzi0\nzi1\nzc0\n#4\n"
 )
 
 
@@ -172,6 +182,9 @@ ROWS = [
     *simulated("two runs in a batch", "--batch", HELD_IMAGE, b"1\n.\n1\n.\n", b"0 1 1 1\n.\n0 1 1 1\n.\n"),
     *simulated("a witness", "--witness", BAD, b"1\nb0\n0\n\n\n.\n", b"confirmed 1\n"),
     *simulated("the dump of a witness", "--witness --vcd", BAD, b"1\nb0\n0\n\n\n.\n", BAD_RUN),
+    *simulated("a lasso", "--witness", LIVE, LASSO, b"confirmed 2\n"),
+    *simulated("a lasso of five steps behind a stem", "--witness", LIVE, b"1\nj0\n0\n1\n0\n1\n0\n0\n1\n.", b"confirmed 1\n"),
+    *simulated("the dump of a lasso", "--witness --vcd", LIVE, LASSO, LASSO_RUN),
     Row("every section", "aigtoaig --ascii", EVERY + EVERY_NAMES, EVERY + EVERY_NAMES),
     Row("every section with its map", "aigtoaig --keep-map", EVERY + EVERY_NAMES + b"x", EVERY_MAPPED),
     Row("every section by its map", "aigtoaig --undo-map --ascii", EVERY_MAPPED, EVERY + EVERY_NAMES + b"x"),
@@ -192,6 +205,7 @@ ROWS = [
     *compared("a miter in binary", "", STARTED, STARTED_OTHERWISE, STARTED_ALIKE_IMAGE),
     *compared("a miter by names", "--ascii --by-name", NAMED, NAMED_OTHERWISE, NAMED_ALIKE),
     *simulated("every section and a witness", "--witness", EVERY, b"1\nb1\n1x\n1\n0\n.\n", b"not confirmed\n"),
+    *simulated("every section and no lasso", "--witness", EVERY, b"1\nj0\n1x\n1\n0\n.\n", b"not confirmed\n"),
 ]
 
 

@@ -36,6 +36,7 @@ rows_waves() {
     rows_wave_names
     rows_cut_dumps
     rows_witness_runs
+    rows_lasso_runs
     rows_wave_words
 }
 
@@ -177,6 +178,54 @@ rows_witness_runs() {
     model 'aag 0 0 0 0 0 1\n1\n'
     run_of 'the run of a witness without latches and inputs' '1\nb0\n\n\n.\n' 'confirmed 0' \
         "$(scope bad 'wire 1 b0 b0')" "$(at 0 'b0 r' 1b0)$(at 1 zb0)$(at 2)"
+}
+
+# the run of a lasso, in which one input more marks the loop
+rows_lasso_runs() {
+    local latch all marked
+    model 'aag 2 1 1 0 0 0 0 1\n2\n4 2\n1\n4\ni0 go\nl0 a\nj0 live\n'
+    latch=$(scope latches 'reg 1 l0 a')
+    marked=$(scope inputs 'wire 1 i0 go' 'wire 1 i1 loop')$latch
+    run_of 'the run of a lasso' '1\nj0\n0\n1\n1\n.\n' 'confirmed 1' "$marked" \
+        "$(at 0 'b0 r' 1i0 0i1 0l0)$(at 1 1i1 1l0)$(at 2 zi0 zi1)$(at 3)"
+    run_of 'the run of a lasso from the first step on, CR LF and . without LF' '1\r\nj0\r\n0\r\n1\r\n0\r\n.' \
+        'confirmed 0' "$marked" "$(at 0 'b0 r' 1i0 1i1 0l0)$(at 1 0i0 1l0)$(at 2 zi0 zi1 0l0)$(at 3)"
+    run_of 'the run of a lasso with x and a stem of two steps' '1\nj0\n0\nx\n1\n1\n.\n' 'confirmed 2' "$marked" \
+        "$(at 0 'b0 r' xi0 0i1 0l0)$(at 1 1i0 xl0)$(at 2 1i1 1l0)$(at 3 zi0 zi1)$(at 4)"
+    run_of 'the run of no lasso has no mark' '1\nj0\n0\n0\n.\n' 'not confirmed' \
+        "$(scope inputs 'wire 1 i0 go')$latch" "$(at 0 'b0 r' 0i0 0l0)$(at 1 zi0)$(at 2)"
+    run_of 'a first state of a lasso, and no step' '1\nj0\n0\n.\n' 'not confirmed' \
+        "$(scope inputs 'wire 1 i0 go')$latch" "$(at 0 'b0 r' zi0 0l0)$(at 1)"
+    no_run 'no run of a lasso with a wrong step' '1\nj0\n0\n1\n2\n.\n' '-: line 5: bad witness line' "$model"
+    no_run 'no run of a lasso of another property' '1\nj1\n0\n1\n1\n.\n' '-: line 2: bad witness line' "$model"
+    model 'aag 4 3 1 1 0 2 1 1 1\n2\n4\n6\n8 2 1\n3\n8\n9\n1\n1\n2\n8\ni0 loop\ni1 loop[1]\ni2 loop[2]\nb1 loop\n'
+    all=$(scope latches 'reg 1 l0 l0')$(scope outputs 'wire 1 o0 o0')
+    all+=$(scope bad 'wire 1 b0 b0' 'wire 1 b1 loop')$(scope constraints 'wire 1 c0 c0')
+    marked=$(scope inputs 'wire 1 i0 loop' 'wire 2 i1 loop [2:1]' 'wire 1 i3 loop')$all
+    run_of 'the run of a lasso, and inputs of the same name' '1\nj0\n1\n110\n.\n' 'confirmed 0' "$marked" \
+        "$(at 0 'b0 r' 1i0 'b01 i1' 1i3 1l0 0o0 1b0 0b1 1c0)$(at 1 zi0 'bzz i1' zi3 zo0 zb0 zb1 zc0)$(at 2)"
+    run_of 'the run to a bad state beside a justice property' '1\nb0\n1\n110\n.\n' 'confirmed 0' \
+        "$(scope inputs 'wire 1 i0 loop' 'wire 2 i1 loop [2:1]')$all" \
+        "$(at 0 'b0 r' 1i0 'b01 i1' 1l0 0o0 1b0 0b1 1c0)$(at 1 zi0 'bzz i1' zo0 zb0 zb1 zc0)$(at 2)"
+    model 'aag 1 0 1 0 0 0 0 1\n2 3\n1\n2\n'
+    marked=$(scope inputs 'wire 1 i0 loop')$(scope latches 'reg 1 l0 l0')
+    run_of 'the run of a lasso without inputs' '1\nj0\n0\n\n\n\n.\n' 'confirmed 1' "$marked" \
+        "$(at 0 'b0 r' 0i0 0l0)$(at 1 1i0 1l0)$(at 2 0l0)$(at 3 zi0 1l0)$(at 4)"
+    model 'aag 0 0 0 0 0 0 0 1\n0\n'
+    run_of 'the run of a lasso of nothing' '1\nj0\n\n\n.\n' 'confirmed 0' "$(scope inputs 'wire 1 i0 loop')" \
+        "$(at 0 'b0 r' 1i0)$(at 1 zi0)$(at 2)"
+    model 'aag 2147483646 0 1 0 0 0 0 1\n4294967292 4294967293\n0\n'
+    run_of 'the run of a lasso, and one variable left' '1\nj0\n0\n\n\n.\n' 'confirmed 0' "$marked" \
+        "$(at 0 'b0 r' 1i0 0l0)$(at 1 1l0)$(at 2 zi0 0l0)$(at 3)"
+    model 'aag 2147483647 0 1 0 0 1 0 1\n2 3\n2\n0\n'
+    no_run 'no run of a lasso, and no variable left' '1\nj0\n0\n\n\n.\n' '-: too large' "$model"
+    latch=$(scope latches 'reg 1 l0 l0')$(scope bad 'wire 1 b0 b0')
+    run_of 'the run of no lasso, and no variable left' '1\nj0\n0\n\n.\n' 'not confirmed' "$latch" \
+        "$(at 0 'b0 r' 0l0 0b0)$(at 1 1l0 zb0)$(at 2)"
+    run_of 'the run to a bad state, and no variable left' '1\nb0\n0\n\n\n.\n' 'confirmed 1' "$latch" \
+        "$(at 0 'b0 r' 0l0 0b0)$(at 1 1l0 1b0)$(at 2 0l0 zb0)$(at 3)"
+    no_run 'a wrong line comes first, and no variable left' '1\nj0\n0\n\n\n' '-: line 6: bad witness line' "$model"
+    row 'a lasso, and no variable left' '1\nj0\n0\n\n\n.\n' 'confirmed 0\n' '' 0 aigsim --witness "$model"
 }
 
 rows_wave_words() {

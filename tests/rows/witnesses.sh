@@ -1,12 +1,26 @@
-# The rows of aigsim --witness, for the table of all.sh. The witness comes by standard input, unless a row names
-# another; the model is the file that was made last. What is wanted was worked out by hand from docs/FORMAT.md,
-# "Witness".
+# The rows of aigsim --witness for bad states, for the table of all.sh. The witness comes by standard input, unless a
+# row names another; the model is the file that was made last. What is wanted was worked out by hand from
+# docs/FORMAT.md, "Witness".
 
 # confirms NAME WITNESS STEP, denies NAME WITNESS: the answer to a witness of the right form
 confirms() { row "$1" "$2" "confirmed $3\n" '' 0 aigsim --witness "$model"; }
 denies() { row "$1" "$2" 'not confirmed\n' '' 1 aigsim --witness "$model"; }
 # bad_witness NAME WITNESS LINE: this line is the first that is not as it has to be
 bad_witness() { row "$1" "$2" '' "aiger: -: line $3: bad witness line\n" 1 aigsim --witness "$model"; }
+# cuts NAME WITNESS STEP ANSWER..: what is answered to a witness that is cut after each of its bytes: a bad line, or +
+# where it is confirmed with this step
+cuts() {
+    local plain step=$3 answers count
+    plain=$(printf '%b-' "$2")
+    answers=("${@:4}")
+    for ((count = 0; count < ${#answers[@]}; count++)); do
+        if [ "${answers[count]}" = + ]; then
+            confirms "$1 cut after $count" "${plain:0:count}" "$step"
+        else
+            bad_witness "$1 cut after $count" "${plain:0:count}" "${answers[count]}"
+        fi
+    done
+}
 # unjudged NAME INPUT TEXT WORD..: an error before the witness is judged, or in place of that
 unjudged() {
     local name=$1 given=$2 text=$3
@@ -264,27 +278,13 @@ rows_witness_ends() {
 
 # witnesses that are cut after each of their bytes
 rows_witness_cuts() {
-    # cuts WITNESS STEP ANSWER..: what is answered to each cut: a bad line, or + where the bad state is confirmed in
-    # the step
-    cuts() {
-        local plain step=$2 answers count
-        plain=$(printf '%b-' "$1")
-        answers=("${@:3}")
-        for ((count = 0; count < ${#answers[@]}; count++)); do
-            if [ "${answers[count]}" = + ]; then
-                confirms "a witness cut after $count" "${plain:0:count}" "$step"
-            else
-                bad_witness "a witness cut after $count" "${plain:0:count}" "${answers[count]}"
-            fi
-        done
-    }
     model 'aag 1 0 1 0 0 1\n2 3\n2\n'
-    cuts '1\nb0\n0\n\n\n.\n' 1 1 2 2 2 3 3 4 4 5 6 + +
-    cuts '1\r\nb0\r\n0\r\n\r\n\r\n.\r\n' 1 1 2 1 2 2 3 2 3 4 3 4 4 5 5 6 + 6 +
+    cuts 'a witness' '1\nb0\n0\n\n\n.\n' 1 1 2 2 2 3 3 4 4 5 6 + +
+    cuts 'a witness' '1\r\nb0\r\n0\r\n\r\n\r\n.\r\n' 1 1 2 1 2 2 3 2 3 4 3 4 4 5 5 6 + 6 +
     model 'aag 2 1 1 0 0 1\n2\n4 2 4\n4\n'
-    cuts '1\nb0\nx\n1\n0\n.\n' 1 1 2 2 2 3 3 4 4 5 5 6 6 + +
+    cuts 'a witness' '1\nb0\nx\n1\n0\n.\n' 1 1 2 2 2 3 3 4 4 5 5 6 6 + +
     model 'aag 0 0 0 0 0 1\n1\n'
-    cuts '1\nb0\n\n\n.\n' 0 1 2 2 2 3 3 4 5 + +
+    cuts 'a witness' '1\nb0\n\n\n.\n' 0 1 2 2 2 3 3 4 5 + +
 }
 
 # shifted_to_bad LATCHES: latches in a row behind an input, the last of which is the bad state
@@ -335,7 +335,7 @@ rows_long_witnesses() {
     bad_witness 'a bad line behind 5,000 steps' "1\nb0\n\n$(printf '1\\n%.0s' $(seq 5000))2\n.\n" 5004
 }
 
-# the model is read before the witness, and its errors come first; justice and fairness are no concern of a witness
+# the model is read before the witness, and its errors come first; justice and fairness do not concern a bad state
 rows_judged_models() {
     no_judged_model 'an empty model' '' 'line 1: not an AIGER file'
     no_judged_model 'a model that is a witness' '1\nb0\n\n\n.\n' 'line 1: not an AIGER file'

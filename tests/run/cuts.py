@@ -45,11 +45,13 @@ CIRCUITS = {
     "a latch and a gate in binary": small.HELD_IMAGE,
     "a latch and a gate in padded deltas": small.HELD_PADDED,
     "a bad state": small.BAD,
+    "a justice property": small.LIVE,
     "every section": small.EVERY + small.EVERY_NAMES,
     "every section with its map": small.EVERY_MAPPED,
 }
 # what stands beside a circuit that is cut or changed
-STEPS, WITNESS, ROWS, NOTHING = b"0\n1\n.\nx\n", b"1\nb0\n0\n\n\n.\n", b"1 1\n", b"aag 0 0 0 0 0\n"
+STEPS, ROWS, NOTHING = b"0\n1\n.\nx\n", b"1 1\n", b"aag 0 0 0 0 0\n"
+WITNESS, LASSO = b"1\nb0\n0\n\n\n.\n", small.LASSO
 STIMULI = {
     "three steps of a toggle": (small.TOGGLE, b"\n\n\n.\n"),
     "two runs": (small.HELD_IMAGE, b"1\n.\n1\n.\n"),
@@ -58,6 +60,8 @@ STIMULI = {
 WITNESSES = {
     "a witness of a toggle": (small.BAD, b"1\nb0\n0\n\n\n.\n"),
     "a witness of every section": (small.EVERY, b"1\nb1\n1x\n1\n0\n.\n"),
+    "a lasso": (small.LIVE, small.LASSO),
+    "a lasso of every section": (small.EVERY, b"1\r\nj1\r\n1x\r\n1\r\n0\r\n.\r\n"),
 }
 ANSWERS = {
     "a solver's answer": (small.KEPT, b"c\ns SATISFIABLE\r\nv 2 -3\n\nv  13 3 0 \ncv"),
@@ -118,6 +122,7 @@ class Judge:
         """All tools over the text of a circuit."""
         self.runner.put("steps", STEPS)
         self.runner.put("witness", WITNESS)
+        self.runner.put("lasso", LASSO)
         self.runner.put("rows", ROWS)
         self.runner.put("nothing", NOTHING)
         self.runner.put("same", text)
@@ -140,7 +145,9 @@ class Judge:
         names = waves.names_of(end)
         for words in ("", "--batch --properties ", "--vcd "):
             self.expect(f"aigsim {words}- steps", text, *oracles.wanted_trace(made, names, "steps", STEPS, words))
-        self.expect("aigsim --witness - witness", text, *witnesses.wanted(made, "witness", WITNESS.decode()))
+        for file, run in ("witness", WITNESS), ("lasso", LASSO):
+            self.expect(f"aigsim --witness - {file}", text, *witnesses.wanted(made, file, run.decode()))
+            self.expect(f"aigsim --witness --vcd - {file}", text, *waves.wanted_of_run(made, names, file, run.decode()))
         alike = named(canonical)
         for words in ("--ascii", "--by-name"):
             self.expect(f"aigmiter {words} - same", text, *miters.wanted(alike, alike, words, ("-", "same")))

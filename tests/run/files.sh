@@ -658,6 +658,9 @@ refused 'clauses of an answer' 'aiger: --answer excludes --cnf and --ascii' aigu
 refused 'a refutation and an answer' 'aiger: --refutation excludes --cnf, --ascii and --answer' \
     aigunroll --frames 2 --refutation a --answer b
 refused 'a bad state alone' 'aiger: --bad needs --cnf, --answer or --refutation' aigunroll --frames 2 --bad 0
+refused 'a justice property alone' 'aiger: --justice needs --cnf, --answer or --refutation' aigunroll --frames 2 --justice 0
+refused 'a bad state and a justice property' 'aiger: --bad excludes --justice' aigunroll --frames 2 --cnf --bad 0 --justice 0
+refused 'a justice property above the largest' '2147483648 is not in 0..=2147483647' aigunroll --frames 2 --cnf --justice 2147483648
 refused 'an invariant over frames' 'aiger: --invariant excludes --frames, --ascii and --answer' \
     aigunroll --invariant a --frames 2 --cnf
 refused 'an invariant alone' 'aiger: --invariant needs --cnf or --refutation' aigunroll --invariant a b
@@ -736,10 +739,13 @@ if grep -q '^$comment confirmed 0 $end$' "$files/w.vcd"; then pass; else
     fail 'the example of help of aigsim writes the waveform of a witness'
 fi
 helps 'help of aigunroll' aigunroll --help
-# its examples too; the half adder has no latches, so each frame is a copy of it. In the place of the solver is one that knows
-# how its carry is 1 in the first frame, and that it is never 1 beside 0, which is the model of the last examples; and ABC's
-# invariant is empty.
-grep '^  aiger aigunroll \|^  cadical \|^  berkeley-abc ' "$work/out" | sed 's/^  aiger/"$program"/; s/   .*//' > "$work/examples"
+# its examples too; the half adder has no latches, so each frame is a copy of it. In the place of the solver is one that
+# knows how its carry is 1 in the first frame, and that it is never 1 beside 0, which is the model of the examples after
+# that; and ABC's invariant is empty. The model of the last one is a toggle that is to be 1 again and again.
+grep '^  aiger aigunroll \|^  cadical \|^  berkeley-abc ' "$work/out" |
+    sed 's/^  aiger/"$program"/; s/   .*//; /--justice/s/^/cp toggle.aag model.aig; /' > "$work/examples"
+printf 'aag 1 0 1 0 0 0 0 1\n2 3\n1\n2\n' > "$files/toggle.aag"
+"$program" aigtoaig --justice-as-bad 0 "$files/toggle.aag" | "$program" aigunroll --frames 20 --cnf > "$work/live_clauses"
 aig "$files/model.aag" "$files/model.aig"
 unroll 20 "$files/model.aig" > "$work/want_file"
 unroll 2 "$files/model.aag" --ascii > "$work/frames"
@@ -752,7 +758,8 @@ cadical() {
 }
 berkeley-abc() { [ "$*" = '-c read model.aig; pdr -d -e -I model.pla' ] && echo '.e' > model.pla; }
 ran=$(cd "$files" && set -e && . "$work/examples" 2>&1 && echo all)
-if [ "$ran" = $'none within 20\nnever\nall' ] && [ "$(wc -l < "$work/examples")" = 12 ] && cmp -s "$files/long.aig" "$work/want_file" &&
+if [ "$ran" = $'none within 20\nnever\nall' ] && [ "$(wc -l < "$work/examples")" = 13 ] &&
+    cmp -s "$files/long.aig" "$work/want_file" && cmp -s "$files/live.cnf" "$work/live_clauses" &&
     cmp -s "$files/out" "$work/want_file" && cmp -s "$files/two.aag" "$work/frames" &&
     [ "$(sim --witness "$files/model.aag" "$files/witness.txt")" = 'confirmed 0' ]; then pass; else
     fail 'the examples of help of aigunroll run' "came   $ran, of" "$(cat "$work/examples")"

@@ -62,6 +62,12 @@ static const char shown_by[] = "-10 0\n";
 static const char first[] = "aag 1 1 0 1 0\n2\n3\ni0 a\no0 f\n";
 static const char second[] = "aag 2 1 0 0 1 1\n2\n5\n4 2 2\nb0 f\ni0 a\n";
 static const char wrong_claim[] = "1\nb0\n0\n\n.\n";
+/* a latch that is to be 1 again and again, which a toggle is; and a goal that is never met */
+static const char fair[] = "aag 1 0 1 0 0 0 0 1\n2 3\n1\n2\n";
+static const char lasso_claim[] = "1\nj0\n0\n\n\n\n.\n", no_lasso_claim[] = "1\nj0\n0\n\n.\n";
+static const char closed_by[] = "s SATISFIABLE\nv 2 0\n";
+static const char unmet[] = "aag 0 0 0 0 0 0 0 1\n1\n0\n";
+static const char never_met[] = "-1 1\n", unmet_by[] = "-16 0\n0\n";
 
 static int failed;
 
@@ -130,6 +136,38 @@ static uint32_t by_name(uint8_t *output, size_t room, aigtools_outcome *outcome)
     return aigtools_miter(AIGTOOLS_BY_NAME, AIGTOOLS_LARGEST, TEXT(first), TEXT(second), output, room, outcome);
 }
 
+/* the same of justice properties */
+static uint32_t fair_clauses(uint8_t *output, size_t room, aigtools_outcome *outcome) {
+    return aigtools_clauses(AIGTOOLS_JUSTICE, 3, AIGTOOLS_LARGEST, TEXT(fair), output, room, outcome);
+}
+static uint32_t closed(uint8_t *output, size_t room, aigtools_outcome *outcome) {
+    return aigtools_answer(AIGTOOLS_JUSTICE, 3, AIGTOOLS_LARGEST, TEXT(fair), TEXT(closed_by), output, room, outcome);
+}
+static uint32_t no_lasso(uint8_t *output, size_t room, aigtools_outcome *outcome) {
+    uint32_t status =
+        aigtools_refute(AIGTOOLS_JUSTICE, 2, AIGTOOLS_LARGEST, TEXT(fair), (const uint8_t *)"0\n", 2, outcome);
+    if (status != AIGTOOLS_DONE) return status;
+    return put_words("no lasso within", 2, output, room, outcome);
+}
+static uint32_t unmet_clauses(uint8_t *output, size_t room, aigtools_outcome *outcome) {
+    return aigtools_invariant_clauses(AIGTOOLS_JUSTICE, AIGTOOLS_LARGEST, TEXT(unmet), TEXT(never_met), output, room,
+                                      outcome);
+}
+static uint32_t never_fair(uint8_t *output, size_t room, aigtools_outcome *outcome) {
+    uint32_t status =
+        aigtools_never(AIGTOOLS_JUSTICE, AIGTOOLS_LARGEST, TEXT(unmet), TEXT(never_met), TEXT(unmet_by), outcome);
+    if (status != AIGTOOLS_DONE) return status;
+    return put_words("holds", 0, output, room, outcome);
+}
+static uint32_t lasso(uint8_t *output, size_t room, aigtools_outcome *outcome) {
+    uint32_t status = aigtools_witness(AIGTOOLS_LARGEST, TEXT(fair), TEXT(lasso_claim), outcome);
+    if (status != AIGTOOLS_DONE) return status;
+    return put_words("lasso at", (unsigned long)outcome->number, output, room, outcome);
+}
+static uint32_t lasso_run(uint8_t *output, size_t room, aigtools_outcome *outcome) {
+    return aigtools_dump(AIGTOOLS_LARGEST, TEXT(fair), TEXT(lasso_claim), output, room, outcome);
+}
+
 /* the circuit of the gate as arrays, which are made once, and what has its words, its bytes and its counts one behind the
    other */
 #define MOST 64
@@ -195,6 +233,8 @@ static const struct { const char *name; call *of; } calls[] = {
     {"dump", dump},           {"judged", judged},     {"run", run},       {"clauses", clauses},
     {"reached", reached},     {"refuted", refuted},   {"shown", shown}, {"never", never},
     {"compared", compared},   {"by name", by_name},
+    {"fair clauses", fair_clauses}, {"closed", closed}, {"no lasso", no_lasso}, {"unmet clauses", unmet_clauses},
+    {"never fair", never_fair}, {"lasso", lasso},     {"lasso run", lasso_run},
     {"arrays", as_arrays},    {"in order", in_order}, {"written", written}, {"written ascii", written_ascii},
 };
 #define CALLS (sizeof calls / sizeof *calls)
@@ -317,6 +357,8 @@ static void check_refused_options(void) {
     IS_BAD(aigtools_unroll(0, 0, 1, text, 0, output, 1, &x));
     IS_BAD(aigtools_unroll(0, 1000001, 1, text, 0, output, 1, &x));
     IS_BAD(aigtools_clauses(0, 0, 1, text, 0, output, 1, &x));
+    IS_BAD(aigtools_clauses(AIGTOOLS_JUSTICE, 0, 1, text, 0, output, 1, &x));
+    IS_BAD(aigtools_never(AIGTOOLS_JUSTICE, above, text, 0, text, 0, text, 0, &x));
     IS_BAD(aigtools_clauses(0, 1, above, text, 0, output, 1, &x));
     IS_BAD(aigtools_answer(AIGTOOLS_ALL_BAD, 1000001, 1, text, 0, text, 0, output, 1, &x));
     IS_BAD(aigtools_answer(0, 1, above, text, 0, text, 0, output, 1, &x));
@@ -376,6 +418,57 @@ static void check_justice(void) {
     check(x.status == AIGTOOLS_DONE && memcmp(output, live, sizeof live - 1) == 0 &&
               is_untouched(output + x.length, ROOM - x.length),
           "justice", "as a bad state", x.status);
+}
+
+static int is_text(const uint8_t *output, const aigtools_outcome *x, const char *text) {
+    return x->status == AIGTOOLS_DONE && x->length == strlen(text) && memcmp(output, text, x->length) == 0;
+}
+
+/* a number from AIGTOOLS_JUSTICE on is a justice property's, but for AIGTOOLS_ALL_BAD */
+static void check_justice_properties(void) {
+    static const uint32_t none[] = {AIGTOOLS_JUSTICE + 1, AIGTOOLS_JUSTICE + 7, AIGTOOLS_ALL_BAD - 1};
+    static const char large[] = "aag 2147483642 0 0 0 0 0 0 1\n0\n", full[] = "aag 2147483647 0 0 0 0 0 0 1\n0\n";
+    uint8_t output[ROOM];
+    aigtools_outcome x;
+    size_t i;
+    memset(output, UNTOUCHED, sizeof output);
+#define IS_NONE(of) \
+    check((of) == AIGTOOLS_REFUSED && x.kind == AIGTOOLS_NO_SUCH_JUSTICE && x.place == AIGTOOLS_WHOLE && \
+              x.subject == none[i] - AIGTOOLS_JUSTICE && x.number == 0, "no such justice", #of, (long)i)
+    for (i = 0; i < sizeof none / sizeof *none; i++) {
+        IS_NONE(aigtools_clauses(none[i], 1, AIGTOOLS_LARGEST, TEXT(fair), output, ROOM, &x));
+        IS_NONE(aigtools_answer(none[i], 1, AIGTOOLS_LARGEST, TEXT(fair), TEXT(closed_by), output, ROOM, &x));
+        IS_NONE(aigtools_refute(none[i], 1, AIGTOOLS_LARGEST, TEXT(fair), TEXT(refutation), &x));
+        IS_NONE(aigtools_invariant_clauses(none[i], AIGTOOLS_LARGEST, TEXT(fair), TEXT(never_met), output, ROOM, &x));
+        IS_NONE(aigtools_never(none[i], AIGTOOLS_LARGEST, TEXT(fair), TEXT(never_met), TEXT(unmet_by), &x));
+    }
+    aigtools_clauses(AIGTOOLS_JUSTICE - 1, 1, AIGTOOLS_LARGEST, TEXT(fair), output, ROOM, &x);
+    check(x.kind == AIGTOOLS_NO_SUCH_BAD_STATE && x.subject == AIGTOOLS_LARGEST, "clauses", "the last bad state",
+          x.kind);
+    aigtools_clauses(AIGTOOLS_ALL_BAD, 1, AIGTOOLS_LARGEST, TEXT(fair), output, ROOM, &x);
+    check(x.kind == AIGTOOLS_NOT_UNROLLABLE, "clauses", "all bad states beside a justice property", x.kind);
+    aigtools_clauses(AIGTOOLS_JUSTICE, 1, AIGTOOLS_LARGEST, TEXT(large), output, ROOM, &x);
+    check(x.kind == AIGTOOLS_TOO_LARGE_JUSTICE && x.place == AIGTOOLS_WHOLE, "clauses", "too large", x.kind);
+    aigtools_answer(AIGTOOLS_JUSTICE, 2, AIGTOOLS_LARGEST, TEXT(fair), TEXT(closed_by), output, ROOM, &x);
+    check(x.kind == AIGTOOLS_NOT_REACHED, "answer", "no lasso of so few steps", x.kind);
+    aigtools_refute(AIGTOOLS_JUSTICE, 3, AIGTOOLS_LARGEST, TEXT(fair), (const uint8_t *)"0\n", 2, &x);
+    check(x.kind == AIGTOOLS_DOES_NOT_FOLLOW && x.number == 1, "refute", "a lasso there is", x.kind);
+    check(is_untouched(output, ROOM), "justice", "output untouched, refused", 0);
+    closed(output, ROOM, &x);
+    check(is_text(output, &x, "1\nj0\n0\n\n\n.\n"), "closed", "the witness of a lasso", (long)x.length);
+    lasso(output, ROOM, &x);
+    check(is_text(output, &x, "lasso at 1") && x.number == 1, "lasso", "begins at step 1", (long)x.number);
+    memset(output, UNTOUCHED, sizeof output);
+    aigtools_witness(AIGTOOLS_LARGEST, TEXT(fair), TEXT(no_lasso_claim), &x);
+    check(x.status == AIGTOOLS_NOT_CONFIRMED && x.number == 0 && x.kind == 0, "lasso", "not confirmed", x.status);
+    aigtools_witness(AIGTOOLS_LARGEST, TEXT(toggle), TEXT(lasso_claim), &x);
+    check(x.status == AIGTOOLS_REFUSED && x.kind == AIGTOOLS_BAD_WITNESS && x.number == 2, "lasso", "of no property",
+          x.status);
+    aigtools_witness(AIGTOOLS_LARGEST, TEXT(full), (const uint8_t *)"1\nj0\n\n\n.\n", 9, &x);
+    check(x.status == AIGTOOLS_DONE && x.number == 0, "lasso", "and no variable left", x.status);
+    aigtools_dump(AIGTOOLS_LARGEST, TEXT(full), (const uint8_t *)"1\nj0\n\n\n.\n", 9, output, ROOM, &x);
+    check(x.status == AIGTOOLS_REFUSED && x.kind == AIGTOOLS_TOO_LARGE_JUSTICE && x.place == AIGTOOLS_WHOLE &&
+              is_untouched(output, ROOM), "lasso run", "no variable left", x.status);
 }
 
 static void check_answers(void) {
@@ -524,6 +617,7 @@ int main(int count, char **words) {
     }
     check_verdicts_with_runs();
     check_justice();
+    check_justice_properties();
     check_answers();
     check_refutations();
     check_invariants();

@@ -114,6 +114,11 @@ def has_justice(text):
     return text.split(b"\n", 1)[0].split()[8:9] not in ([], [b"0"])
 
 
+def property_(chance):
+    """The words for all bad states, for one of them, or for a justice property."""
+    return chance.choice([{}, {"bad": chance.randrange(3)}, {"justice": chance.randrange(2)}])
+
+
 def mutants(folder, program):
     """Inputs, most of them changed by chance, with words for the program and for the library."""
     chance = random.Random(SEED)
@@ -135,7 +140,7 @@ def mutants(folder, program):
             frames = chance.randrange(1, 4)
             yield "aigunroll", ["--frames", str(frames)], {"frames": frames}, text, b""
         elif kind < 10:
-            options = {"frames": chance.randrange(1, 4), **chance.choice([{}, {"bad": chance.randrange(3)}])}
+            options = {"frames": chance.randrange(1, 4), **property_(chance)}
             words = [word for name, number in options.items() for word in (f"--{name}", str(number))]
             if kind == 8 and chance.randrange(2):
                 yield "aigunroll", [*words, "--cnf"], {**options, "cnf": True}, text, b""
@@ -153,7 +158,7 @@ def mutants(folder, program):
             latches = re.match(rb"a[ai]g \d+ \d+ (\d+)", text)
             width = min(int(latches[1]), 9) if latches else 1
             cubes = [b"%s 1\n" % bytes(chance.choice(b"01-") for _ in range(width)) for _ in range(chance.randrange(3))]
-            options = chance.choice([{}, {"bad": chance.randrange(3)}])
+            options = property_(chance)
             words = [word for name, number in options.items() for word in (f"--{name}", str(number))]
             words, options = [*words, "--invariant", "-", "--cnf"], {**options, "invariant": "-", "cnf": True}
             yield "aigunroll", words, options, text, mutated(chance, b"".join(cubes))
@@ -168,7 +173,8 @@ def mutants(folder, program):
             else:
                 flags = chance.choice([("witness",), ("witness", "vcd")])
                 words, options = [f"--{it}" for it in flags], dict.fromkeys(flags, True)
-                yield "aigsim", words, options, text, mutated(chance, b"1\nb0\n0\n" + steps + b".\n")
+                claim = b"1\n%s\n0\n" % chance.choice([b"b0", b"b0", b"j0"])
+                yield "aigsim", words, options, text, mutated(chance, claim + steps + b".\n")
 
 
 def check_mutants(program):
@@ -499,6 +505,25 @@ class Sizes:
         judge("a large witness without its end", (aigtools.confirm(model, given), step) == (None, None), step)
 
 
+    def lassos(self):
+        """A lasso of megabytes, confirmed at its middle and from the first step on, and one that does not close; what
+        is written and shown of its justice property."""
+        source = b"aag 2 1 1 0 0 0 0 1\n2\n4 2\n1\n4\n"
+        self.model.write_bytes(source)
+        head, half = b"1\nj0\n0\n", b"0\n" * (MANY // 2)
+        for steps, start in ((half + b"1\n1\n", MANY // 2 + 1), (b"1\n" + half, 0), (half + b"1\n", None)):
+            given = head + steps + b".\n"
+            judge("a large lasso", aigtools.confirm(source, given) == start, start, aigtools.confirm(source, given))
+            step, text = aigtools.dump(source, given)
+            self.alike("the run of a lasso", text, f"aigsim --witness --vcd {self.model}", given)
+            judge("its verdict", step == start, step, start)
+        words = f"aigunroll --frames 2000 --cnf --justice 0 {self.model}"
+        made = aigtools.clauses(source, 2000, justice=0)
+        self.alike("clauses of a justice property", made, words, b"")
+        live = aigtools.convert(source, justice_as_bad=0)
+        judge("and those of its circuit", made == aigtools.clauses(live, 2000))
+
+
 def check_sizes(program):
     """Each call at inputs of megabytes, with each of its options."""
     with tempfile.TemporaryDirectory() as work:
@@ -509,6 +534,7 @@ def check_sizes(program):
         sizes.refuted()
         sizes.shown()
         sizes.compared()
+        sizes.lassos()
         *some, last = large.inputs(LINES)
         run = [*itertools.islice(itertools.cycle(some), STEPS), last]
         dump = sizes.traces(LINES, [run])
@@ -681,6 +707,7 @@ SAID = """aag 5 1 1 1 3 2
 8 5 3
 10 9 7
 none within 20
+no lasso within 20
 aig 5 1 0 0 4 1
 10
 \2\1\1\2\4\2\1\2\
@@ -719,6 +746,11 @@ def check_numbers(program):
     there = kinds | dict(re.findall(r"pub const ([A-Z_]+): u32 = (\d+);", "".join(sources)))
     here = dict(re.findall(r"\bAIGTOOLS_([A-Z_]+) = (\d+)", (TOP / "include/aigtools.h").read_text()))
     judge("AIGTOOLS_NO_FAULT is 0", here.pop("NO_FAULT") == "0")
+    defined = dict(re.findall(r"^#define AIGTOOLS_(\w+) (\d+)u$", (TOP / "include/aigtools.h").read_text(), re.M))
+    large = {name: str(int(it, 16)) for name, it in re.findall(r"pub const (\w+): u32 = (0x\w+);", "".join(sources))}
+    module = {"LARGEST": aigtools.LARGEST, "ALL_BAD": aigtools._ALL_BAD, "JUSTICE": aigtools.JUSTICE}
+    judge("the numbers of properties", large.items() <= defined.items() and len(large) == 2, large, defined)
+    judge("and in the Python module", {name: str(it) for name, it in module.items()} == defined, module, defined)
     judge("the numbers of the header", here == there, here, there)
     judge("the kinds of the Python module", {it.name: str(it.value) for it in aigtools.Kind} == kinds, kinds)
     others = {name: str(getattr(aigtools, f"_{name}", None)) for name in here.keys() - kinds.keys()}
@@ -793,6 +825,23 @@ def check_arguments():
         judge(why, refuses(ValueError, why, aigtools.refute, gate, b"", 1, bad=bad), bad)
         judge(why, refuses(ValueError, why, aigtools.invariant_clauses, gate, b"", bad=bad), bad)
         judge(why, refuses(ValueError, why, aigtools.never, gate, b"", b"", bad=bad), bad)
+    for justice in (-1, aigtools.LARGEST):
+        why = f"justice is not from 0 to {aigtools.LARGEST - 1}"
+        judge(why, refuses(ValueError, why, aigtools.clauses, gate, 1, justice=justice), justice)
+        judge(why, refuses(ValueError, why, aigtools.answer, gate, b"", 1, justice=justice), justice)
+        judge(why, refuses(ValueError, why, aigtools.refute, gate, b"", 1, justice=justice), justice)
+        judge(why, refuses(ValueError, why, aigtools.invariant_clauses, gate, b"", justice=justice), justice)
+        judge(why, refuses(ValueError, why, aigtools.never, gate, b"", b"", justice=justice), justice)
+    for call, *inputs in (
+        (aigtools.clauses, gate, 1), (aigtools.answer, gate, b"", 1), (aigtools.refute, gate, b"", 1),
+        (aigtools.invariant_clauses, gate, b""), (aigtools.never, gate, b"", b""),
+    ):
+        why = "bad excludes justice"
+        judge(why, refuses(ValueError, why, call, *inputs, bad=0, justice=0), call)
+        for justice in (0, 5, aigtools.LARGEST - 1):
+            told = refusal(call, *inputs, justice=justice)
+            judge("no such justice property", told and (told.kind.name, told.subject, str(told)) == (
+                "NO_SUCH_JUSTICE", justice, f"no justice property {justice}"), call, told)
     for limit in (-1, aigtools.LARGEST + 1):
         why = f"max_var is not from 0 to {aigtools.LARGEST}"
         judge(why, refuses(ValueError, why, aigtools.confirm, gate, b"", max_var=limit), limit)

@@ -3,7 +3,9 @@
 # that grows more than a hundred times, some N.
 # A run with a refusal answers 'aiger: out of memory', status 1, and writes nothing; a simulation without --batch has
 # then read nothing of its stimulus or its witness either, but where a witness is to be dumped, and aigunroll nothing
-# of a solver's answer. The run without a refusal gives the row's own answer. A row counts once.
+# of a solver's answer. Of a witness of a justice property all lines are read and judged, though there is no memory to
+# hold its steps, and the first that is wrong may be told. The run without a refusal gives the row's own answer. A row
+# counts once.
 # What happens before anything is read is the same for all rows with the same words, so it is refused
 # once, with a folder as standard input and as the model; and what happens before a stimulus is read is so with the
 # same model, with a folder as the stimulus.
@@ -51,6 +53,12 @@ ran_out() {
     [ "$reads" != stimulus ] || [ "$position" = 0 ]
 }
 
+# names_justice FILE: whether the input, or this file, is a witness that names a justice property
+names_justice() { sed -sn 2p "$work/in" "$1" 2> /dev/null | grep -aq '^j'; }
+
+# Whether the answer may be that without a refusal.
+can_do_without() { [ "$status" = 2 ] || { [ "$holds" ] && [ -s "$work/want_err" ]; }; }
+
 # refuse_each FROM WORD..: refuses each growth from number FROM on. Leaves in $number the first that there is not, and in $ended
 # the status without a refusal. Fails where a run goes wrong. Where the words are refused, with status 2 in $status, clap can
 # do without some growths, for which it has no hint or a shorter one: then what comes is as without the refusal. With a number in
@@ -63,7 +71,7 @@ refuse_each() {
         ended=$?
         [ -e "$work/refused.$number" ] || return 0
         growths=$((growths + 1))
-        ran_out "$ended" || { [ "$status" = 2 ] && came "$ended"; } || return
+        ran_out "$ended" || { can_do_without && came "$ended"; } || return
     done
 }
 
@@ -100,15 +108,16 @@ without_model() {
 
 row() {
     is_asked "$1" && [ $((rows_met++ % parts)) = "$part" ] || return 0
-    local name=$1 input=$work/in status=$5 number ended known reads=source position unread sparse=
+    local name=$1 input=$work/in status=$5 number ended known reads=source position unread sparse= holds=
     printf '%b' "$2" > "$work/in"
     wants "$3" "$4" "$5"
     shift 5
+    [[ " $* " != *' --witness '* ]] || ! names_justice "${!#}" || holds=true
     without_model "$@"
     # the model comes by standard input where it is named by -, which in these rows is the first name; and a batch keeps the
     # stimulus that it reads, a dump of a witness the witness
     [ "${1-}" != aigsim ] || [ "${2-}" = - ] || [[ " $* " = *' --batch '* ]] ||
-        [[ " $* " = *' --witness '* && " $* " = *' --vcd '* ]] || reads=stimulus
+        [[ " $* " = *' --witness '* && " $* " = *' --vcd '* ]] || [ "$holds" ] || reads=stimulus
     [[ " $* " != *' --answer - '* ]] || reads=stimulus
     leave_out 1 "${unread[@]}"
     [ "${unread[*]@Q}" = "${*@Q}" ] || leave_out $((known + 1)) "$@"

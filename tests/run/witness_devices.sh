@@ -171,6 +171,59 @@ witness_memory() {
     witness_without_memory
 }
 
+# A toggle that is to be 1 again and again. The steps of a witness are held, while there is memory for them.
+lasso_streams() {
+    local stream
+    printf 'aag 1 0 1 0 0 0 0 1\n2 3\n1\n2\n' > "$judged/live.aag"
+    printf '1\nj0\n0\n\n\n\n.\n' > "$judged/lasso"
+    printf '1\nj0\n0\n\n.\n' > "$judged/no_lasso"
+    close_loop() { "$program" aigsim --witness "$judged/live.aag" "$@"; }
+    for stream in closed full; do
+        wants '' 'aiger: -: cannot write\n' 1
+        check "a lasso that is confirmed, a $stream standard output" "output_$stream" close_loop "$judged/lasso"
+        check "the run of a lasso, a $stream standard output" "output_$stream" close_loop --vcd "$judged/lasso"
+        check "no lasso, a $stream standard output" "output_$stream" close_loop "$judged/no_lasso"
+        wants 'confirmed 1\n' '' 0
+        check "a lasso that is confirmed, a $stream standard error" "errors_$stream" close_loop "$judged/lasso"
+    done
+    wants '' 'aiger: -: cannot read\n' 1
+    check 'a directory as lasso by standard input' close_loop < "$work"
+    lasso_in_pieces() { printf '1\nj'; sleep 0.1; printf '0\n0\r'; sleep 0.1; printf '\n\n\n'; sleep 0.1; printf '\n.'; }
+    wants 'confirmed 1\n' '' 0
+    : > "$work/out"
+    lasso_in_pieces | close_loop > "$work/out" 2> "$work/err"
+    judge 'a lasso that comes in pieces' "${PIPESTATUS[1]}"
+    check 'all other streams closed, of a lasso' eval 'close_loop "$judged/lasso" <&- 2>&-'
+}
+
+lasso_memory() {
+    local input='aag 11 10 1 0 0 0 0 1\n2\n4\n6\n8\n10\n12\n14\n16\n18\n20\n22 20\n1\n22\n'
+    # in_memory KILOBYTES
+    in_memory() { ( ulimit -v "$1" && exec timeout 300 "$program" aigsim --witness "$work/model" ); }
+    million() { printf '1\nj0\n0\n'; yes 1111111110 2> /dev/null | head -n 1000000; printf '0000000001\n0000000001\n.\n'; }
+    printf '%b' "$input" > "$work/model"
+    wants 'confirmed 1000001\n' '' 0
+    million | in_memory 20480 > "$work/out" 2> "$work/err"
+    judge 'a lasso of 11 MB in 20 MB of memory' "${PIPESTATUS[1]}"
+    wants '' 'aiger: out of memory\n' 1
+    million | in_memory 12288 > "$work/out" 2> "$work/err"
+    judge 'a lasso of 11 MB in 12 MB of memory' "${PIPESTATUS[1]}"
+    wants '' 'aiger: -: line 1000007: bad witness line\n' 1
+    { million; printf '.\n'; } | in_memory 12288 > "$work/out" 2> "$work/err"
+    judge 'a bad line behind a lasso for which there is no memory' "${PIPESTATUS[1]}"
+    wants '' 'aiger: -: line 4: bad witness line\n' 1
+    { printf '1\nj0\n0\n'; head -c 100000000 /dev/zero | tr '\0' 1; } | in_memory 20480 > "$work/out" 2> "$work/err"
+    judge 'a step of a lasso of 100 MB in 20 MB of memory' "${PIPESTATUS[1]}"
+    wants '' 'aiger: -: line 2: bad witness line\n' 1
+    { printf '1\nj'; head -c 100000000 /dev/zero | tr '\0' 0; } | in_memory 20480 > "$work/out" 2> "$work/err"
+    judge 'a position of a justice property of 100 MB in 20 MB of memory' "${PIPESTATUS[1]}"
+    printf 'aag 2147483647 1 0 0 0 0 0 1\n4294967294\n1\n4294967295\n' > "$work/in"
+    printf '1\nj0\n\n1\n0\n.\n' > "$work/witness"
+    wants 'confirmed 0\n' '' 0
+    check '20 MB are enough to judge a lasso of the largest variable' \
+        within 20480 "$program" aigsim --witness - "$work/witness" < "$work/in"
+}
+
 # witness_of_a_chain NAME NUMBER..: 200,000 gates, of which each is the input, and the last is the bad state
 witness_of_a_chain() {
     chain 0 "${@:2}" | sed '1s/.*/aag 200001 1 0 0 200000 1/' > "$work/chain"
@@ -372,6 +425,8 @@ witness_in_pieces
 witness_names
 witness_pipes
 witness_memory
+lasso_streams
+lasso_memory
 answer_streams
 answers_left_alone
 answer_memory

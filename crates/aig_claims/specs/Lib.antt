@@ -1,2 +1,3 @@
+pub mod LoopMark
 pub mod RunDump
 pub mod Started

@@ -32,9 +32,9 @@ max_var = record (new_rule (codes "max-var")) {
 abbrev pub with_rules : App → List Rule → App
 with_rules = fold with_rule
 
--- `--bad N` or `--justice-as-bad N`
-abbrev pub property : Text → Rule
-property name = record (new_rule name) {
+-- `--bad N`, `--justice N` or `--justice-as-bad N`
+abbrev pub property_option : Text → Rule
+property_option name = record (new_rule name) {
   long = Some name;
   action = Some Set;
   value_names = 1;
@@ -45,7 +45,7 @@ property name = record (new_rule name) {
 abbrev pub to_aig : App
 to_aig = with_rules (new_app (codes "aigtoaig"))
     (flag (codes "ascii") ∷ flag (codes "strip") ∷ flag (codes "keep-map") ∷ flag (codes "undo-map")
-    ∷ flag (codes "outputs-as-bad") ∷ property (codes "justice-as-bad") ∷ flag (codes "sync") ∷ max_var
+    ∷ flag (codes "outputs-as-bad") ∷ property_option (codes "justice-as-bad") ∷ flag (codes "sync") ∷ max_var
     ∷ new_rule (codes "source") ∷ new_rule (codes "destination") ∷ [])
 
 -- the name of a file that has to be given
@@ -76,8 +76,8 @@ abbrev pub aigunroll : App
 aigunroll = with_rules (new_app (codes "aigunroll"))
     (frames ∷ flag (codes "ascii") ∷ flag (codes "cnf") ∷ solver_file (codes "answer")
     ∷ solver_file (codes "refutation") ∷ flag (codes "lrat") ∷ solver_file (codes "invariant")
-    ∷ property (codes "bad") ∷ flag (codes "sync") ∷ max_var ∷ new_rule (codes "source")
-    ∷ new_rule (codes "destination") ∷ [])
+    ∷ property_option (codes "bad") ∷ property_option (codes "justice") ∷ flag (codes "sync") ∷ max_var
+    ∷ new_rule (codes "source") ∷ new_rule (codes "destination") ∷ [])
 
 -- `aigmiter`: its options in any order, then the names of the two circuits and of the destination, by place
 abbrev pub aigmiter : App

@@ -17,6 +17,8 @@ use Rattle.aig_command.specs.declared.request.Invariant.{Invariant}
 use Rattle.aig_command.specs.declared.request.Miter.{Miter}
 use Rattle.aig_command.specs.declared.request.Reach.{Reach}
 use Rattle.aig_command.specs.declared.request.Sim.{Sim}
+use Rattle.aig_command.specs.declared.request.Property.{Property}
+use Rattle.aig_command.specs.declared.request.Property.TheVariants as properties
 use Rattle.aig_command.specs.declared.request.SolverFile.{SolverFile}
 use Rattle.aig_command.specs.declared.request.SolverFile.TheVariants as written
 use Rattle.aig_command.specs.declared.request.ToAig.{ToAig}
@@ -170,10 +172,16 @@ simulation_refusal files s =
     else if s.vcd && s.properties then Some usage.VcdExcludesProperties
     else None
 
+-- the property that `--bad` or `--justice` chooses, or else any bad state
+abbrev pub chosen_property : List Row → Property
+chosen_property rows =
+    option_map_or properties.Bad (chosen (codes "bad") rows)
+    (option_map_or properties.Justice (chosen (codes "justice") rows) properties.AnyBad)
+
 -- what is written of an unrolled circuit: the clauses where they are asked for, and else the circuit
 abbrev pub unrolled_form : List Row → Option Text → UnrolledForm
 unrolled_form rows destination =
-    if is_set (codes "cnf") rows then forms.Clauses (chosen (codes "bad") rows)
+    if is_set (codes "cnf") rows then forms.Clauses (chosen_property rows)
     else if wants_ascii rows destination then forms.Ascii else forms.Binary
 
 -- the unrolling to this destination that the arguments of `aigunroll` name
@@ -193,7 +201,7 @@ option_of written.Refutation = codes "refutation"
 abbrev pub reaching : SolverFile → List Row → Reach
 reaching wrote rows = record {
   frames = frames rows;
-  bad = chosen (codes "bad") rows;
+  property = chosen_property rows;
   max_var = limit rows;
   wrote = wrote;
   lrat = is_set (codes "lrat") rows;
@@ -212,7 +220,7 @@ reaching_refusal wrote files =
 -- what the arguments of `aigunroll` name with `--invariant`
 abbrev pub proving : List Row → Invariant
 proving rows = record {
-  bad = chosen (codes "bad") rows;
+  property = chosen_property rows;
   max_var = limit rows;
   refuted = is_given (codes "refutation") rows;
   lrat = is_set (codes "lrat") rows;
@@ -227,9 +235,24 @@ proving_refusal files p =
     else if p.refuted && is_none files.refutation && is_none files.file then Some usage.RefutationIsInvariant
     else destination_refusal files.destination
 
+-- the first reason to refuse options of clauses: there is one property at most, only clauses know of it, and only a
+-- refutation of them is LRAT
+abbrev pub property_refusal : List Row → Option Usage
+property_refusal rows =
+    let bad = is_given (codes "bad") rows in
+    let justice = is_given (codes "justice") rows in
+    let clauses = is_set (codes "cnf") rows in
+    let answer = is_given (codes "answer") rows in
+    let refutation = is_given (codes "refutation") rows in
+    if bad && justice then Some usage.BadExcludesJustice
+    else if bad && not (clauses || answer || refutation) then Some usage.BadNeedsClauses
+    else if justice && not (clauses || answer || refutation) then Some usage.JusticeNeedsClauses
+    else if is_set (codes "lrat") rows && not refutation then Some usage.LratNeedsRefutation
+    else None
+
 -- the first reason to refuse options of `aigunroll` together: there are frames or an invariant, clauses are neither
 -- ASCII nor binary, an answer or a refutation is read in place of writing them, an invariant is shown by clauses alone,
--- only these know of one bad state, and only a refutation is LRAT
+-- only these know of one property, and only a refutation is LRAT
 abbrev pub options_refusal : List Row → Option Usage
 options_refusal rows =
     let framed = is_given (codes "frames") rows in
@@ -244,9 +267,7 @@ options_refusal rows =
     else if refutation && (clauses || ascii || answer) then Some usage.RefutationAlone
     else if invariant && (framed || ascii || answer) then Some usage.InvariantAlone
     else if invariant && not (clauses || refutation) then Some usage.InvariantNeedsClauses
-    else if is_given (codes "bad") rows && not (clauses || answer || refutation) then Some usage.BadNeedsClauses
-    else if is_set (codes "lrat") rows && not refutation then Some usage.LratNeedsRefutation
-    else None
+    else property_refusal rows
 
 -- the miter to this destination that the arguments of `aigmiter` name
 abbrev pub comparison : List Row → Option Text → Miter

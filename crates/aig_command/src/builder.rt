@@ -2,7 +2,7 @@
 ghost use Rattle.std.specs.Prelude.{IfOk, codes};
 ghost use Rattle.clap.specs.Words.{App, Rule, new_app, new_rule, with_rule, with_subcommand};
 ghost use Rattle.aig_command.specs.Aiger.{HasApp, HasRule, above, aiger, aigmiter, aigsim};
-ghost use Rattle.aig_command.specs.Aiger.{aigunroll, flag, frames, max_var, property};
+ghost use Rattle.aig_command.specs.Aiger.{aigunroll, flag, frames, max_var, property_option};
 ghost use Rattle.aig_command.specs.Aiger.{required_file, solver_file, to_aig};
 
 use clap::{Arg, ArgAction, Command, value_parser};
@@ -10,7 +10,7 @@ use std::alloc::{AllocError, Global};
 
 /// The program's version, the one place in the sources that has it. By its contract the library's
 /// number is the same.
-pub const VERSION: &str = "1.3.0";
+pub const VERSION: &str = "1.4.0";
 
 const ABOUT: &str = "Tools for circuits in the AIGER format";
 
@@ -26,8 +26,8 @@ succeeded, so the destination may be the source; it is lost if writing fails.
 
 With --outputs-as-bad each output is written as a bad state, by its name, and
 there are no outputs. It is for files before AIGER 1.9, and for those of ABC:
-their properties are outputs, and a witness speaks of bad states alone. A
-circuit that has bad states already is refused.
+their properties are outputs, and no witness speaks of outputs. A circuit that
+has bad states already is refused.
 
 With --justice-as-bad N the circuit gets an input and latches more, and one bad
 state in the place of its properties: it is reached exactly where the model has
@@ -70,12 +70,16 @@ go side by side, which is faster for a large circuit. This takes memory for the
 stimulus and the trace of 256 runs.
 
 With --witness a witness stands in the place of the stimulus: a run that is to
-reach a bad state. Its lines are 1, then b and the number of the bad state,
+reach a bad state, or to come round for a justice property. Its lines are 1,
+then b and the number of the bad state, or j and that of the justice property,
 counted from 0, then the first values of the latches, one character for each,
 then the steps, and at last a line of one dot. In place of a trace the answer
 is written, once the whole witness was read and found to have this form:
 'confirmed N' if step N, counted from 0, is the first in which the bad state is
-1 and all constraints are and have been 1; 'not confirmed' if there is none.
+1 and all constraints are and have been 1; of a justice property, if it is the
+first that begins in the state in which the run ends, all constraints always
+are 1, and from step N on each literal of the property and each fairness
+constraint once is; 'not confirmed' if there is none.
 
 With --vcd a Value Change Dump (IEEE 1364) goes to the standard output in the
 place of the trace, for a wave viewer. It has all that --properties shows, by
@@ -83,7 +87,8 @@ the names of the symbols, and each line of the trace takes 1 ns. At the end of
 a run the latches show the state that was reached, and all else is z. The
 variable run, of code r, is the number of the run, counted from 0. With
 --witness it is the run of the witness from its first state, after a comment
-with the answer, and all of it is held in memory.
+with the answer, and all of it is held in memory. For a justice property that
+is confirmed at step N, the signal loop is 1 from that step on.
 
 Exit status:
   0  done, also for --help; with --witness, confirmed
@@ -116,9 +121,9 @@ frame and in those before. There are no symbols and no comment.
 
 The output is ASCII where --ascii is given or the name of the destination ends
 in .aag, and else binary. A circuit with justice properties or fairness
-constraints is refused. Nothing is written before the whole circuit was read
-and only the destination can still fail, so the destination may be the source;
-it is lost if writing fails.
+constraints is refused, but with --justice. Nothing is written before the whole
+circuit was read and only the destination can still fail, so the destination may
+be the source; it is lost if writing fails.
 
 With --cnf clauses in DIMACS are written, for a SAT solver: they can be
 satisfied exactly if a run of at most K steps reaches a bad state with all
@@ -142,6 +147,14 @@ runs of any length: a PLA with a column for each latch, as ABC writes one by
 satisfied is checked. If it is right, 'never' is written: no run reaches a bad
 state with all constraints kept. The invariant itself is not believed.
 
+With --justice N all this is done for justice property N, counted from 0, in the
+place of bad states: for a run that comes back to a state in which it was, and
+on the way meets each literal of the property and each fairness constraint. The
+clauses are those of the circuit that aigtoaig --justice-as-bad N makes, and the
+witness has jN in the place of bN. 'none within K' then says that no such run
+has fewer than K steps, and 'never' that no run without end meets them all again
+and again.
+
 Exit status:
   0  done, also for --help
   1  the input was refused, a file or stream failed, or memory ran out; or the
@@ -161,7 +174,8 @@ Examples:
   berkeley-abc -c 'read model.aig; pdr -d -e -I model.pla'
   aiger aigunroll --invariant model.pla --cnf model.aig never.cnf
   cadical -q never.cnf never.drat
-  aiger aigunroll --invariant model.pla --refutation never.drat model.aig";
+  aiger aigunroll --invariant model.pla --refutation never.drat model.aig
+  aiger aigunroll --frames 20 --justice 0 --cnf model.aig live.cnf   liveness";
 
 const MITER_ABOUT: &str = "Make one circuit of two, to show that they are equal";
 
@@ -243,6 +257,11 @@ const BAD_HELP: &str = "\
 Of the bad states take that of number N alone,
 counted from 0; with --cnf, --answer or --refutation";
 
+const JUSTICE_HELP: &str = "\
+In the place of bad states take justice property N,
+counted from 0; with --cnf, --answer or
+--refutation. Not with --bad";
+
 const BATCH_HELP: &str = "\
 Read the whole stimulus first, and write nothing if a line
 of it is refused";
@@ -253,7 +272,8 @@ each line";
 
 const WITNESS_HELP: &str = "\
 Judge a witness in the place of the stimulus: does its run
-reach a bad state? Not with --batch or --properties";
+reach a bad state, or come round for a justice property?
+Not with --batch or --properties";
 
 const VCD_HELP: &str = "\
 Write a waveform, a Value Change Dump, in the place of the
@@ -347,8 +367,8 @@ fn frames<'a>(alloc: Global) -> Arg<'a>
         .help(FRAMES_HELP)
 }
 
-fn property<'a>(alloc: Global, name: &'a str, help: &'a str) -> Arg<'a>
-    ensures { HasRule (property name.now) result }
+fn property_option<'a>(alloc: Global, name: &'a str, help: &'a str) -> Arg<'a>
+    ensures { HasRule (property_option name.now) result }
 {
     Arg::new(alloc, name)
         .long(name)
@@ -414,7 +434,7 @@ fn to_aig<'a>(alloc: Global) -> Result<Command<'a>, AllocError>
     let command = with_argument(command, flag(alloc, "outputs-as-bad", OUTPUTS_AS_BAD_HELP));
     let command = with_argument(
         command,
-        property(alloc, "justice-as-bad", JUSTICE_AS_BAD_HELP),
+        property_option(alloc, "justice-as-bad", JUSTICE_AS_BAD_HELP),
     );
     let command = with_argument(command, flag(alloc, "sync", SYNC_HELP));
     let command = with_argument(command, max_var(alloc));
@@ -452,7 +472,8 @@ fn aigunroll<'a>(alloc: Global) -> Result<Command<'a>, AllocError>
     let command = with_argument(command, solver_file(alloc, "refutation", REFUTATION_HELP));
     let command = with_argument(command, flag(alloc, "lrat", LRAT_HELP));
     let command = with_argument(command, solver_file(alloc, "invariant", INVARIANT_HELP));
-    let command = with_argument(command, property(alloc, "bad", BAD_HELP));
+    let command = with_argument(command, property_option(alloc, "bad", BAD_HELP));
+    let command = with_argument(command, property_option(alloc, "justice", JUSTICE_HELP));
     let command = with_argument(command, flag(alloc, "sync", SYNC_HELP));
     let command = with_argument(command, max_var(alloc));
     let command = with_argument(command, file(alloc, "source", SOURCE_HELP));

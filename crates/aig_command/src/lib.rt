@@ -24,7 +24,7 @@ mod usage;
 pub use crate::builder::VERSION;
 pub use crate::reader::command;
 pub use crate::request::{
-    BadStates, Command, CommandLine, Invariant, Miter, Names, Reach, Sim, SolverFile, ToAig,
-    Unroll, UnrolledForm,
+    BadStates, Command, CommandLine, Invariant, Miter, Names, Property, Reach, Sim, SolverFile,
+    ToAig, Unroll, UnrolledForm,
 };
 pub use crate::usage::Usage;

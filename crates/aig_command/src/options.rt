@@ -2,10 +2,10 @@
 ghost use Rattle.std.specs.Prelude.{◌≡◌, IfOk, is_some};
 ghost use Rattle.clap.specs.Words.{found_of, rows_of};
 ghost use Rattle.aig_command.specs.Answer.{files_of, name_of};
-ghost use Rattle.aig_command.specs.Asked.{chosen, file, files_with, frames};
+ghost use Rattle.aig_command.specs.Asked.{chosen, chosen_property, file, files_with, frames};
 ghost use Rattle.aig_command.specs.Asked.{has_one_stream_for_two, is_given, is_set, limit, number};
 
-use crate::request::Names;
+use crate::request::{Names, Property};
 use clap::ArgMatches;
 use std::alloc::{AllocError, Global};
 
@@ -42,6 +42,19 @@ pub(crate) fn chosen(matches: &ArgMatches<'_>, name: &str) -> Option<u32>
     ensures { result ≡ chosen name.now (rows_of (found_of matches.now)) }
 {
     matches.get_one::<u32>(name)
+}
+
+/// The property that `--bad` or `--justice` chooses.
+pub(crate) fn chosen_property(matches: &ArgMatches<'_>) -> Property
+    ensures { result ≡ chosen_property (rows_of (found_of matches.now)) }
+{
+    if let Some(number) = chosen(matches, "bad") {
+        return Property::Bad(number);
+    }
+    match chosen(matches, "justice") {
+        Some(number) => Property::Justice(number),
+        None => Property::AnyBad,
+    }
 }
 
 /// Whether there is a value at this place, or for this option.

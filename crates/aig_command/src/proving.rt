@@ -7,7 +7,7 @@ ghost use Rattle.aig_command.specs.Asked.{asked_proving, proving, proving_refusa
 
 use crate::destination::check_destination;
 use crate::options::{
-    chosen, has_one_stream_for_two, is_given, is_set, limit, named_file, names_with,
+    chosen_property, has_one_stream_for_two, is_given, is_set, limit, named_file, names_with,
 };
 use crate::request::{Command, Invariant, Names};
 use crate::usage::Usage;
@@ -18,7 +18,7 @@ fn proving(matches: &ArgMatches<'_>) -> Invariant
     ensures { result ≡ proving (rows_of (found_of matches.now)) }
 {
     Invariant {
-        bad: chosen(matches, "bad"),
+        property: chosen_property(matches),
         max_var: limit(matches),
         refuted: is_given(matches, "refutation"),
         lrat: is_set(matches, "lrat"),

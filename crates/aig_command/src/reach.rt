@@ -8,7 +8,7 @@ ghost use Rattle.aig_command.specs.Asked.{reaching, reaching_refusal, stream_ref
 
 use crate::destination::check_destination;
 use crate::options::{
-    chosen, frame_count, has_one_stream_for_two, is_set, limit, named_file, names_with,
+    chosen_property, frame_count, has_one_stream_for_two, is_set, limit, named_file, names_with,
 };
 use crate::request::{Command, Names, Reach, SolverFile};
 use crate::usage::Usage;
@@ -29,7 +29,7 @@ fn reaching(matches: &ArgMatches<'_>, wrote: SolverFile) -> Reach
 {
     Reach {
         frames: frame_count(matches),
-        bad: chosen(matches, "bad"),
+        property: chosen_property(matches),
         max_var: limit(matches),
         wrote,
         lrat: is_set(matches, "lrat"),

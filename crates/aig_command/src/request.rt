@@ -47,6 +47,18 @@ pub struct Sim {
     pub max_var: u32,
 }
 
+/// What is asked of a model: whether a bad state can be reached, or a justice property be met.
+#[derive(Clone, Copy)]
+pub enum Property {
+    /// Any of its bad states.
+    AnyBad,
+    /// The bad state of this number, counted from 0.
+    Bad(u32),
+    /// The justice property of this number, counted from 0: a run that comes back to a state in
+    /// which it was, and meets the property in between.
+    Justice(u32),
+}
+
 /// What is written of an unrolled circuit.
 #[derive(Clone, Copy)]
 pub enum UnrolledForm {
@@ -54,10 +66,10 @@ pub enum UnrolledForm {
     Binary,
     /// The circuit itself, in ASCII, whether an option or the destination's name decided it.
     Ascii,
-    /// The clauses, in DIMACS, by which a bad state is 1.
+    /// The clauses, in DIMACS, that can be satisfied where the property can be had.
     Clauses {
-        /// The number of that bad state, counted from 0; `None` is any.
-        bad: Option<u32>,
+        /// That property.
+        property: Property,
     },
 }
 
@@ -75,9 +87,9 @@ pub struct Unroll {
 /// What a solver wrote on clauses.
 #[derive(Clone, Copy)]
 pub enum SolverFile {
-    /// Its answer, in which there is a run that reaches a bad state.
+    /// Its answer, in which there is a run that has the property.
     Answer,
-    /// Its refutation (a DRAT or LRAT proof), by which no run reaches one.
+    /// Its refutation (a DRAT or LRAT proof), by which no run has it.
     Refutation,
 }
 
@@ -87,8 +99,8 @@ pub enum SolverFile {
 pub struct Reach {
     /// The number of frames, from 1 to 1000000.
     pub frames: u32,
-    /// The number of the bad state that the clauses are for, counted from 0; `None` is any.
-    pub bad: Option<u32>,
+    /// The property that the clauses are for.
+    pub property: Property,
     /// The limit on the largest variable index and the counts of the model.
     pub max_var: u32,
     /// What is read beside the model.
@@ -101,8 +113,8 @@ pub struct Reach {
 /// of them is right.
 #[derive(Clone, Copy)]
 pub struct Invariant {
-    /// The number of the bad state that is never to be reached, counted from 0; `None` is any.
-    pub bad: Option<u32>,
+    /// The property that no run is to have.
+    pub property: Property,
     /// The limit on the largest variable index and the counts of the model.
     pub max_var: u32,
     /// Whether a refutation is checked; else the clauses are written.

@@ -3,10 +3,11 @@ ghost use Rattle.std.specs.Prelude.{◌≡◌, IfErr, IfOk, None, OnOk, Some};
 ghost use Rattle.clap.specs.Words.{found_of, rows_of};
 ghost use Rattle.aig_command.specs.Answer.{CanDo, IsAnswer, IsReason, name_of};
 ghost use Rattle.aig_command.specs.Asked.{aigunroll, asked_unrolling, AsksWithinLimits};
-ghost use Rattle.aig_command.specs.Asked.{options_refusal, unrolled_form, unrolling};
+ghost use Rattle.aig_command.specs.Asked.{options_refusal, property_refusal, unrolled_form};
+ghost use Rattle.aig_command.specs.Asked.{unrolling};
 
 use crate::destination::{check_destination, check_sync, wants_ascii};
-use crate::options::{chosen, frame_count, is_given, is_set, limit, names_with};
+use crate::options::{chosen_property, frame_count, is_given, is_set, limit, names_with};
 use crate::proving::asked_proving;
 use crate::reach::asked_reaching;
 use crate::request::{Command, Names, SolverFile, Unroll, UnrolledForm};
@@ -19,7 +20,7 @@ fn unrolled_form(matches: &ArgMatches<'_>, destination: &Option<String>) -> Unro
 {
     if is_set(matches, "cnf") {
         return UnrolledForm::Clauses {
-            bad: chosen(matches, "bad"),
+            property: chosen_property(matches),
         };
     }
     if wants_ascii(matches, destination) {
@@ -37,6 +38,32 @@ fn unrolling(matches: &ArgMatches<'_>, destination: &Option<String>) -> Unroll
         form: unrolled_form(matches, destination),
         max_var: limit(matches),
     }
+}
+
+/// Whether the options of clauses stand together.
+fn check_property(matches: &ArgMatches<'_>) -> Result<(), Usage>
+    ensures ok { OnOk result (property_refusal (rows_of (found_of matches.now)) ≡ None) }
+    ensures err { IfErr result (λ reason. IsReason reason
+        × (property_refusal (rows_of (found_of matches.now)) ≡ Some reason)) }
+{
+    let bad = is_given(matches, "bad");
+    let justice = is_given(matches, "justice");
+    let clauses = is_set(matches, "cnf");
+    let answer = is_given(matches, "answer");
+    let refutation = is_given(matches, "refutation");
+    if bad && justice {
+        return Err(Usage::BadExcludesJustice);
+    }
+    if bad && !(clauses || answer || refutation) {
+        return Err(Usage::BadNeedsClauses);
+    }
+    if justice && !(clauses || answer || refutation) {
+        return Err(Usage::JusticeNeedsClauses);
+    }
+    if is_set(matches, "lrat") && !refutation {
+        return Err(Usage::LratNeedsRefutation);
+    }
+    Ok(())
 }
 
 fn check_options(matches: &ArgMatches<'_>) -> Result<(), Usage>
@@ -68,13 +95,7 @@ fn check_options(matches: &ArgMatches<'_>) -> Result<(), Usage>
     if invariant && !(clauses || refutation) {
         return Err(Usage::InvariantNeedsClauses);
     }
-    if is_given(matches, "bad") && !(clauses || answer || refutation) {
-        return Err(Usage::BadNeedsClauses);
-    }
-    if is_set(matches, "lrat") && !refutation {
-        return Err(Usage::LratNeedsRefutation);
-    }
-    Ok(())
+    check_property(matches)
 }
 
 fn asked_unrolling(alloc: Global, matches: &ArgMatches<'_>) -> Result<(Names, Command), Usage>

@@ -40,6 +40,10 @@ pub enum Usage {
     RefutationAlone,
     /// A bad state is chosen, and there are no clauses that need it.
     BadNeedsClauses,
+    /// A bad state is chosen, and a justice property too.
+    BadExcludesJustice,
+    /// A justice property is chosen, and there are no clauses that need it.
+    JusticeNeedsClauses,
     /// A refutation is said to be LRAT, and none is read.
     LratNeedsRefutation,
     /// Both a model and an answer on it are read from the standard input.
@@ -87,6 +91,8 @@ impl Usage {
             Usage::AnswerAlone => "--answer excludes --cnf and --ascii",
             Usage::RefutationAlone => "--refutation excludes --cnf, --ascii and --answer",
             Usage::BadNeedsClauses => "--bad needs --cnf, --answer or --refutation",
+            Usage::BadExcludesJustice => "--bad excludes --justice",
+            Usage::JusticeNeedsClauses => "--justice needs --cnf, --answer or --refutation",
             Usage::LratNeedsRefutation => "--lrat needs --refutation",
             Usage::BothAreStandardInput => "model and answer are both standard input",
             Usage::RefutationIsModel => "model and refutation are both standard input",

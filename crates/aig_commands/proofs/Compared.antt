@@ -1,13 +1,15 @@
 -- What is known of a miter's file is known of both circuits.
-use Rattle.std.proofs.Common.{◌≡◌, ◌<◌, ◌+◌, ℕ, List, Option, Ok, None, Some, Bool, arith, true, false, length, refl}
+use Rattle.std.proofs.Common.{◌≡◌, ◌<◌, ◌+◌, ℕ, List, Ok, None, Some, Bool, arith, true, false, length, refl}
 use Rattle.std.proofs.Common.{subst, sym}
 use Rattle.aig_circuit.specs.declared.circuit.Circuit.{Circuit}
 use Rattle.aig_circuit.specs.declared.circuit.TheConstants.{LARGEST}
 use Rattle.aig_circuit.specs.Wellformed.{IsWellFormed}
 use Rattle.aig_command.specs.declared.request.Miter.{Miter}
+use Rattle.aig_command.specs.declared.request.Property.{Property}
 use Rattle.aig_equal.specs.Alike.{AreAlikeFor, IsUnreachedFor}
 use Rattle.aig_equal.proofs.Whole.{alike_exactly_where_unreached}
 use Rattle.aig_invariant.specs.Invariant.{with_invariant}
+use Rattle.aig_invariant.specs.Laws.{IsNever}
 use Rattle.aig_invariant.specs.Outcome.{HasCubes}
 use Rattle.aig_meaning.specs.Meaning.{MeansTheSame}
 use Rattle.aig_meaning.proofs.Traces.{same_back}
@@ -15,7 +17,6 @@ use Rattle.aig_miter.specs.Laws.{IsMiterOf}
 use Rattle.aig_miter.proofs.Whole.{miter_is_well_formed}
 use Rattle.aig_pairing.specs.NameFaults.{first_name_fault}
 use Rattle.aig_pairing.proofs.Ordered.{ordered_is_well_formed}
-use Rattle.aig_replay.specs.Laws.{IsOfSelected}
 use Rattle.aig_witness.specs.declared.verdict.Verdict.{Verdict}
 use Rattle.aig_witness.specs.declared.verdict.Verdict.TheVariants.{Confirmed}
 use Rattle.aig_witness.specs.Witness.{Claim, IsVerdict}
@@ -27,7 +28,10 @@ use Rattle.aig_commands.specs.ComparingLaws.{ConfirmedMeansDifferent, MiterTexts
 use Rattle.aig_commands.specs.ComparingLaws.{NeverMeansAlike, NoneMeansAlike}
 use Rattle.aig_commands.specs.Conversion.{IsTextAs}
 use Rattle.aig_commands.specs.File.{IsFileOf}
+use Rattle.aig_commands.specs.Proving.{NoRunHas}
+use Rattle.aig_commands.specs.Refuting.{IsNoneWithin, NoRunHasWithin}
 use Rattle.aig_commands.proofs.Meant.{file_as}
+use Rattle.aig_commands.proofs.Properties.{any_claim}
 use Rattle.aig_commands.proofs.Trips.{one_text}
 use Rattle.aig_commands.proofs.TripsExist.{well_formed_file}
 
@@ -37,9 +41,6 @@ paired_is_well_formed true first second paired good good_too named is =
     ordered_is_well_formed first second paired
     (record { first = good; second = good_too; named = named refl; ordered = is })
 paired_is_well_formed false first second paired good good_too named is = subst IsWellFormed (sym is) good_too
-
-of_any : (selected : Option ℕ) (claim : Claim) → selected ≡ None → IsOfSelected selected claim
-of_any selected claim none n some = cc
 
 module _ (request : Miter) (first : Circuit) (one two text : List ℕ) (is_first : IsFirst request one first)
     (p : IsMiterText request first two text) where
@@ -109,12 +110,13 @@ pub none_means_alike : NoneMeansAlike
 none_means_alike request reach first selected one two text said is_first p limit any of_model is =
     let has = of_model.has_clauses in
     let same = is_it request first one two text is_first p reach.max_var has.found limit has.read in
-    let none =
-    is.none has.found (well_formed_file text reach.max_var has.found has.read) has.is_unrolled.has_bad
-    of_model.selected_is in
+    let none : IsNoneWithin has.found None reach.frames =
+    subst (λ (property : Property). NoRunHasWithin has.found property reach.frames) any
+    (is.none has.found (well_formed_file text reach.max_var has.found has.read) has.is_unrolled.has_property
+    of_model.selected_is) in
     alike_where request first one two text is_first p reach.frames
     (λ claim step low verdict.
-    none claim step low (of_any reach.bad claim any)
+    none claim step low (any_claim claim)
     (on_file request first one two text is_first p has.found claim (Confirmed step) same verdict))
 
 pub never_means_alike : NeverMeansAlike
@@ -122,15 +124,16 @@ never_means_alike request proving first selected strengthened one two text invar
     of_invariant is frames =
     let has = of_model.has_clauses in
     let same = is_it request first one two text is_first p proving.max_var has.found limit has.read in
-    let never =
-    is.never has.found invariant of_invariant.cubes
-    (well_formed_file text proving.max_var has.found has.read) has.is_unrolled.has_bad
+    let never : IsNever has.found None =
+    subst (λ (property : Property). NoRunHas has.found property) any
+    (is.never has.found invariant of_invariant.cubes
+    (well_formed_file text proving.max_var has.found has.read) has.is_unrolled.has_property
     (subst (λ c. HasCubes c invariant of_invariant.cubes) of_model.selected_is of_invariant.has_cubes)
     (subst (λ c. strengthened ≡ with_invariant of_invariant.cubes c) of_model.selected_is
-    of_invariant.strengthened_is) in
+    of_invariant.strengthened_is)) in
     alike_where request first one two text is_first p frames
     (λ claim step low verdict.
-    never claim step (of_any proving.bad claim any)
+    never claim step (any_claim claim)
     (on_file request first one two text is_first p has.found claim (Confirmed step) same verdict))
 
 pub confirmed_means_different : ConfirmedMeansDifferent

@@ -10,6 +10,7 @@ pub mod Verdicts
 pub mod Unrollings
 pub mod Reachings
 pub mod Refutings
+pub mod Properties
 pub mod Selected
 pub mod Provings
 pub mod Answered

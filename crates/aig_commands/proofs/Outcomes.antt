@@ -10,7 +10,7 @@ use Rattle.aig_fault.specs.declared.stopped.Stopped.TheVariants as stops
 use Rattle.aig_commands.specs.Outcome.{Says}
 use Rattle.aig_commands.specs.Reading.{AtItsEnd, NotRead}
 use Rattle.aig_commands.proofs.Readings.{CameWhole}
-use Rattle.aig_witness.specs.Confirming.{ConfirmSays}
+use Rattle.aig_verdicts.specs.Judged.{WitnessSays}
 use Rattle.aig_commands.specs.WitnessOutcome.{AnswerSays}
 
 -- a source was read, and the sink took a beginning of the text for it, and failed
@@ -32,7 +32,7 @@ transferred_in_part P Q source source_now sink sink_now text say read part = rec
 
 -- a witness file got no verdict
 pub not_judged : (c : Circuit) (stopped : Stopped) (bytes text : List ℕ) (ending : Ending) (delivery : Delivery)
-    → ConfirmSays c (Err stopped) bytes ending → delivery ≡ NotSent
+    → WitnessSays c (Err stopped) bytes ending → delivery ≡ NotSent
     → AnswerSays c (Err stopped) bytes ending text delivery
 not_judged c stops.WriteFailed bytes text ending delivery says none = absurd says
 not_judged c stopped bytes text ending delivery says none = (says, none)

@@ -1,5 +1,5 @@
 -- What comes of an invariant that is read, and of a refutation of its clauses.
-use Rattle.std.proofs.Common.{◌≡◌, ◌∙◌, ℕ, List, None, Result, Ok, Err, IfErr, IfOk, ap, inl, inr, refl, subst, sym}
+use Rattle.std.proofs.Common.{◌≡◌, ◌∙◌, ℕ, List, Result, Ok, Err, IfErr, IfOk, ap, inl, inr, refl, subst, sym}
 use Rattle.aig_rows.proofs.Steps.{ok_same}
 use Rattle.aig_circuit.specs.declared.circuit.Circuit.{Circuit}
 use Rattle.aig_circuit.specs.Wellformed.{IsWellFormed}
@@ -14,7 +14,6 @@ use Rattle.aig_io.specs.Runs.{Ending, Read}
 use Rattle.aig_io.proofs.Runs.{read_weaker}
 use Rattle.aig_invariant.specs.Invariant.{Cube, with_invariant}
 use Rattle.aig_invariant.specs.Outcome.{HasCubes, InvariantSays, NotInvariant}
-use Rattle.aig_invariant.proofs.Never.{invariants_mean_never}
 use Rattle.aig_unroll.specs.Outcome.{HasClauses}
 use Rattle.aig_unroll.specs.Unrolled.{IsUnrolled}
 use Rattle.aig_unroll.proofs.Ordering.Ordered.{one_unrolled}
@@ -22,14 +21,17 @@ use Rattle.aig_witness.specs.declared.verdict.Verdict.TheVariants.{Confirmed}
 use Rattle.aig_witness.specs.Witness.{IsVerdict}
 use Rattle.aig_binary.proofs.Files.{one_circuit}
 use Rattle.aig_command.specs.declared.request.Invariant.{Invariant}
+use Rattle.aig_command.specs.declared.request.Property.{Property}
+use Rattle.aig_command.specs.declared.request.Property.TheVariants.{AnyBad}
 use Rattle.aig_command.specs.declared.request.UnrolledForm.TheVariants.{Clauses}
 use Rattle.aig_commands.specs.File.{IsFileOf}
 use Rattle.aig_commands.specs.Laws.{InvariantTextsAreUnambiguous, NeverIsNever}
 use Rattle.aig_commands.specs.Proving.{IsInvariantText, IsNeverText, IsStrengthened, NotStrengthened, never_text}
-use Rattle.aig_commands.specs.Proving.{over_one_frame}
+use Rattle.aig_commands.specs.Proving.{NoRunHas, over_one_frame}
 use Rattle.aig_commands.specs.Reading.{AtItsEnd, NotRead, ReadSays}
 use Rattle.aig_commands.specs.Refuting.{IsRefutationRefused, IsUnsatisfiable}
 use Rattle.aig_commands.specs.Unrolling.{IsUnrolledFor, NotUnrolledAs}
+use Rattle.aig_commands.proofs.Properties.{never_of_bad, none_ever}
 use Rattle.aig_commands.proofs.Reachings.{one_selected}
 use Rattle.aig_commands.proofs.Readings.{CameWhole, made_after, stopped_after}
 use Rattle.aig_commands.proofs.TripsExist.{well_formed_file}
@@ -60,7 +62,7 @@ made_whole selected made before after =
 
 module _ (selected made : Circuit) (bytes : List ℕ) (is : IsMadeOf selected made bytes) where
   -- it has clauses
-  abbrev pub strengthened_as : ((d : Circuit) × IsUnrolledFor None 1 made d × HasClauses d)
+  abbrev pub strengthened_as : ((d : Circuit) × IsUnrolledFor AnyBad 1 made d × HasClauses d)
       → IsStrengthened selected bytes made
   strengthened_as (d, unrolled, clauses) = record {
     cubes = is.0;
@@ -72,22 +74,22 @@ module _ (selected made : Circuit) (bytes : List ℕ) (is : IsMadeOf selected ma
   }
 
   -- which are written
-  pub clauses_of : (d : Circuit) → IsUnrolledFor None 1 made d → HasClauses d
+  pub clauses_of : (d : Circuit) → IsUnrolledFor AnyBad 1 made d → HasClauses d
       → IsInvariantText selected bytes (cnf_text d)
   clauses_of d unrolled clauses =
       record { strengthened = made; is_strengthened = strengthened_as (d, unrolled, clauses); written_as = refl }
 
   -- or it has none
-  pub not_strengthened : (stopped : Stopped) → StopsFor (NotUnrolledAs (Clauses None) 1 made) stopped
+  pub not_strengthened : (stopped : Stopped) → StopsFor (NotUnrolledAs (Clauses AnyBad) 1 made) stopped
       → StopsFor (λ fault. NotStrengthened selected fault bytes) stopped
   not_strengthened stopped =
       stops_weaker _ (λ fault. NotStrengthened selected fault bytes) stopped
-      (λ fault why. inr (is.0, is.1, subst (λ (c : Circuit). NotUnrolledAs (Clauses None) 1 c fault) is.2 why))
+      (λ fault why. inr (is.0, is.1, subst (λ (c : Circuit). NotUnrolledAs (Clauses AnyBad) 1 c fault) is.2 why))
 
 -- an invariant was read, and the circuit in which it is to be shown has clauses or none
 pub strengthened_read : (selected made : Circuit) (r : Result Circuit Stopped) (before after : History)
-    → IfOk r (λ c. c ≡ made) → IfOk r (λ c. (d : Circuit) × IsUnrolledFor None 1 c d × HasClauses d)
-    → IfErr r (StopsFor (NotUnrolledAs (Clauses None) 1 made)) → Read (CameWhole (IsMadeOf selected made)) before after
+    → IfOk r (λ c. c ≡ made) → IfOk r (λ c. (d : Circuit) × IsUnrolledFor AnyBad 1 c d × HasClauses d)
+    → IfErr r (StopsFor (NotUnrolledAs (Clauses AnyBad) 1 made)) → Read (CameWhole (IsMadeOf selected made)) before after
     → Read (ReadSays {A = Circuit} (λ c bytes. IsStrengthened selected bytes c) (AtItsEnd (NotStrengthened selected)) r)
     before after
 strengthened_read selected made (Ok c) before after same clauses none read =
@@ -102,9 +104,8 @@ is_never : (request : Invariant) (strengthened : Circuit) → IsWellFormed stren
     → IsUnsatisfiable strengthened 1 → IsNeverText request strengthened never_text
 is_never request strengthened good (d, formed, is, none) = record {
   never = λ c invariant cubes formed_first there has same.
-      invariants_mean_never c d request.bad invariant cubes formed_first there has
-      (subst (λ (k : Circuit). IsWellFormed k) same good) formed
-      (subst (λ (k : Circuit). IsUnrolled k 1 d) same is) none;
+      none_ever d formed none request.property c invariant cubes formed_first there has
+      (subst (λ (k : Circuit). IsWellFormed k) same good) (subst (λ (k : Circuit). IsUnrolled k 1 d) same is);
   written_as = refl;
 }
 
@@ -121,18 +122,20 @@ never_reached request strengthened (Ok done) before after good read =
 never_reached request strengthened (Err stopped) before after good read = read
 
 pub never_is_never : NeverIsNever
-never_is_never request judging selected strengthened model invariant text witness step limit of_model shown is confirmed
-    of_selected =
+never_is_never request bad judging selected strengthened model invariant text witness step is_bad limit of_model shown is
+    confirmed of_selected =
     let p = of_model.has_clauses in
     let good = well_formed_file model request.max_var p.found p.read in
     let read : IsFileOf model request.max_var confirmed.found =
     subst (λ n. IsFileOf model n confirmed.found) limit confirmed.read in
     let same = one_circuit model request.max_var confirmed.found p.found read p.read in
-    is.never p.found invariant shown.cubes good p.is_unrolled.has_bad
+    let never = never_of_bad bad p.found
+    (subst (λ (property : Property). NoRunHas p.found property) is_bad
+    (is.never p.found invariant shown.cubes good p.is_unrolled.has_property
     (subst (λ (c : Circuit). HasCubes c invariant shown.cubes) of_model.selected_is shown.has_cubes)
-    (shown.strengthened_is ∙ ap (λ (c : Circuit). with_invariant shown.cubes c) of_model.selected_is) confirmed.claim
-    step
-    of_selected (subst (λ (c : Circuit). IsVerdict c confirmed.claim (Confirmed step)) same confirmed.is_verdict)
+    (shown.strengthened_is ∙ ap (λ (c : Circuit). with_invariant shown.cubes c) of_model.selected_is))) in
+    never confirmed.claim step of_selected
+    (subst (λ (c : Circuit). IsVerdict c confirmed.claim (Confirmed step)) same confirmed.is_verdict)
 
 -- the bytes of an invariant have one text
 one_text : (selected : Circuit) (invariant text other : List ℕ) → IsInvariantText selected invariant text

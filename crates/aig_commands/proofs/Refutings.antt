@@ -8,7 +8,7 @@ use Rattle.aig_io.specs.Devices.{History}
 use Rattle.aig_io.specs.Runs.{Ending, Read}
 use Rattle.aig_io.proofs.Runs.{read_weaker}
 use Rattle.aig_refute.specs.Refuted.{RefutationSays}
-use Rattle.aig_replay.proofs.BadAlone.{refuted_means_none}
+use Rattle.aig_command.specs.declared.request.Property.{Property}
 use Rattle.aig_unroll.specs.Unrolled.{IsUnrolled}
 use Rattle.aig_witness.specs.declared.verdict.Verdict.TheVariants.{Confirmed}
 use Rattle.aig_witness.specs.Witness.{IsVerdict}
@@ -17,7 +17,9 @@ use Rattle.aig_command.specs.declared.request.Reach.{Reach}
 use Rattle.aig_commands.specs.File.{IsFileOf}
 use Rattle.aig_commands.specs.Laws.{RefutationsMeanNone}
 use Rattle.aig_commands.specs.Reading.{ReadSays}
-use Rattle.aig_commands.specs.Refuting.{IsNoneText, IsRefutationRefused, IsUnsatisfiable, format_of, none_text}
+use Rattle.aig_commands.specs.Refuting.{IsNoneText, IsRefutationRefused, IsUnsatisfiable, NoRunHasWithin, format_of}
+use Rattle.aig_commands.specs.Refuting.{none_text}
+use Rattle.aig_commands.proofs.Properties.{none_of_bad, none_within}
 use Rattle.aig_commands.proofs.Readings.{CameWhole, made_after}
 use Rattle.aig_commands.proofs.TripsExist.{well_formed_file}
 
@@ -45,8 +47,8 @@ is_none : (request : Reach) (selected : Circuit) → IsUnsatisfiable selected re
     → IsNoneText request selected (none_text request.frames)
 is_none request selected (d, formed, is, none) = record {
   none = λ c good there same.
-      refuted_means_none c d request.bad request.frames good there formed
-      (subst (λ (k : Circuit). IsUnrolled k request.frames d) same is) none;
+      none_within d formed none request.property c request.frames good there
+      (subst (λ (k : Circuit). IsUnrolled k request.frames d) same is);
   written_as = refl;
 }
 
@@ -56,11 +58,15 @@ pub none_read : (request : Reach) (selected : Circuit) (before after : History)
 none_read request selected before after = made_after _ before after _ (λ _ none. is_none request selected none)
 
 pub refutations_mean_none : RefutationsMeanNone
-refutations_mean_none request judging selected model text witness step limit of_model is low confirmed of_selected =
+refutations_mean_none request bad judging selected model text witness step is_bad limit of_model is low confirmed
+    of_selected =
     let p = of_model.has_clauses in
     let good = well_formed_file model request.max_var p.found p.read in
     let read : IsFileOf model request.max_var confirmed.found =
     subst (λ n. IsFileOf model n confirmed.found) limit confirmed.read in
     let same = one_circuit model request.max_var confirmed.found p.found read p.read in
-    is.none p.found good p.is_unrolled.has_bad of_model.selected_is confirmed.claim step low of_selected
+    let none = none_of_bad bad p.found request.frames
+    (subst (λ (property : Property). NoRunHasWithin p.found property request.frames) is_bad
+    (is.none p.found good p.is_unrolled.has_property of_model.selected_is)) in
+    none confirmed.claim step low of_selected
     (subst (λ (k : Circuit). IsVerdict k confirmed.claim (Confirmed step)) same confirmed.is_verdict)

@@ -1,5 +1,5 @@
 -- An answer whose values satisfy the clauses that are written of a model has a witness.
-use Rattle.std.proofs.Common.{◌≡◌, ◌≤◌, ◌∙◌, ℕ, List, Option, Some, Ok, ap, refl, replicate, subst, sym}
+use Rattle.std.proofs.Common.{◌≡◌, ◌≤◌, ◌∙◌, ℕ, List, Option, None, Some, Ok, ap, refl, replicate, subst, sym}
 use Rattle.aig_circuit.specs.declared.circuit.Circuit.{Circuit}
 use Rattle.aig_circuit.specs.Wellformed.{IsWellFormed}
 use Rattle.aig_answer.specs.declared.reader.Status.TheVariants.{Satisfiable}
@@ -9,19 +9,23 @@ use Rattle.aig_meaning.specs.Trace.{IsTrace}
 use Rattle.aig_reach.proofs.Whole.{cut_trace}
 use Rattle.aig_reach.specs.Cut.{cut_claim}
 use Rattle.aig_replay.specs.declared.search.Hit.{Hit}
+use Rattle.aig_command.specs.declared.request.Property.{Property}
+use Rattle.aig_command.specs.declared.request.Property.TheVariants.{AnyBad, Bad, Justice}
+use Rattle.aig_live.specs.FoundLasso.{lasso_in}
 use Rattle.aig_replay.specs.Alone.{HasSelected, selected_of}
 use Rattle.aig_replay.specs.Laws.{claim_of}
 use Rattle.aig_replay.specs.Reached.{HasFound, ReachedBy, claim_selected, read_over, run_by, said_in}
 use Rattle.aig_replay.specs.Starting.{assigned}
-use Rattle.aig_replay.specs.WitnessLines.{witness_text}
-use Rattle.aig_replay.proofs.BadAlone.{selected_is_well_formed}
 use Rattle.aig_replay.proofs.ByAnswer.{reached}
 use Rattle.aig_replay.proofs.Claimed.{answers_are_found}
 use Rattle.aig_unroll.proofs.Ordering.Ordered.{unrolled_is_ordered}
 use Rattle.aig_unroll.specs.Unrolled.{IsTooLarge, IsUnrolled, all_inputs}
 use Rattle.aig_witness.specs.Witness.{Claim}
 use Rattle.aig_commands.specs.Laws.{RightAnswersHaveWitnesses}
+use Rattle.aig_commands.specs.Property.{HasProperty, property_model}
+use Rattle.aig_commands.specs.Reaching.{IsClaimedBy, claimed_text}
 use Rattle.aig_commands.proofs.Cuts.{one_cut}
+use Rattle.aig_commands.proofs.Properties.{lasso_is_claimed, model_is_well_formed}
 use Rattle.aig_commands.proofs.TripsExist.{well_formed_file}
 use Rattle.aig_commands.proofs.Values.{values_read}
 
@@ -40,6 +44,25 @@ reached_by c selected bad frames answer hit formed has same said found =
     (subst (λ (k : Circuit). said_in k frames answer ≡ Ok Satisfiable) same said)
     (subst (λ (k : Circuit). HasFound k frames (read_over k frames answer).bits (Some hit)) same found))
 
+-- the same of a property
+abbrev claim_of_property : Property → ℕ → Circuit → List ℕ → Hit → Claim
+claim_of_property AnyBad frames selected answer hit = claim_by None frames selected answer hit
+claim_of_property (Bad number) frames selected answer hit = claim_by (Some number) frames selected answer hit
+claim_of_property (Justice number) frames selected answer hit =
+    lasso_in number selected (claim_by None frames selected answer hit)
+
+is_claimed : (property : Property) (c selected : Circuit) (frames : ℕ) (answer : List ℕ) (hit : Hit) → IsWellFormed c
+    → HasProperty property c → selected ≡ property_model property c → said_in selected frames answer ≡ Ok Satisfiable
+    → HasFound selected frames (read_over selected frames answer).bits (Some hit)
+    → IsClaimedBy c property frames answer (claim_of_property property frames selected answer hit)
+is_claimed AnyBad c selected frames answer hit formed has same said found =
+    reached_by c selected None frames answer hit formed has same said found
+is_claimed (Bad number) c selected frames answer hit formed has same said found =
+    reached_by c selected (Some number) frames answer hit formed has same said found
+is_claimed (Justice number) c selected frames answer hit formed has same said found =
+    lasso_is_claimed number frames selected answer (claim_by None frames selected answer hit)
+    (λ made good there is. reached_by made selected None frames answer hit good there is said found) c formed has same
+
 pub right_answers_have_witnesses : RightAnswersHaveWitnesses
 right_answers_have_witnesses request selected model a before lines last behind of_model satisfied are are_lines are_last
     are_behind values =
@@ -50,7 +73,7 @@ right_answers_have_witnesses request selected model a before lines last behind o
     let same = sym of_model.selected_is in
     let good : IsWellFormed selected =
     subst IsWellFormed same
-    (selected_is_well_formed request.bad p.found p.is_unrolled.has_bad
+    (model_is_well_formed request.property p.found p.is_unrolled.has_property
     (well_formed_file model request.max_var p.found p.read)) in
     let unrolled : IsUnrolled selected frames p.unrolled =
     subst (λ (k : Circuit). IsUnrolled k frames p.unrolled) same p.is_unrolled.is_unrolled in
@@ -70,12 +93,12 @@ right_answers_have_witnesses request selected model a before lines last behind o
       trace = subst (λ (k : Claim). IsTrace selected k.first k.steps trace.0) (sym cut) trace.1.0;
       is_found = hit.1;
     } in
-    let claim = claim_by request.bad frames selected answer hit.0 in (
-      witness_text claim,
+    let claim = claim_of_property request.property frames selected answer hit.0 in (
+      claimed_text request.property claim,
       record {
         claim = claim;
-        reached = λ c formed has is.
-            reached_by c selected request.bad frames answer hit.0 formed has is read.status_is found;
+        claimed = λ c formed has is.
+            is_claimed request.property c selected frames answer hit.0 formed has is read.status_is found;
         written_as = refl;
       },
     )

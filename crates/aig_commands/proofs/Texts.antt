@@ -12,7 +12,7 @@ pub unrolled_begins : (form : UnrolledForm) (c : Circuit) → 0 < length (unroll
 unfolding ascii_text binary_text cnf_text
 unrolled_begins forms.Binary c = omega arith
 unrolled_begins forms.Ascii c = omega arith
-unrolled_begins (forms.Clauses bad) c = omega arith
+unrolled_begins (forms.Clauses property) c = omega arith
 
 pub what_is_unrolled_begins : {E : Type 0} (form : UnrolledForm) (r : Result Circuit E)
     → IfOk r (λ d. 0 < length (unrolled_text form d))

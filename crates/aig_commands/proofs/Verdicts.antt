@@ -1,5 +1,7 @@
 -- A model and a witness file have one verdict, a file and its conversion have the same, and right runs are confirmed.
-use Rattle.std.proofs.Common.{◌≡◌, ◌∙◌, ℕ, List, None, Result, Ok, Err, true, length, refl, subst, sym}
+use Rattle.std.proofs.Common.{◌≡◌, ◌⊎◌, ℕ, List, Bool, None, Result, Ok, Err, false, true, inl, inr, length, refl, subst}
+use Rattle.std.proofs.Common.{sym}
+use Rattle.std.proofs.lemmas.Bool.{cases_lt}
 use Rattle.aig_circuit.specs.declared.circuit.Circuit.{Circuit}
 use Rattle.aig_circuit.specs.declared.circuit.TheConstants.{LARGEST}
 use Rattle.aig_meaning.specs.Meaning.{MeansTheSame}
@@ -8,10 +10,22 @@ use Rattle.aig_command.specs.declared.request.Sim.{Sim}
 use Rattle.aig_step.specs.Stimulus.{judged_lines}
 use Rattle.aig_witness.specs.declared.verdict.Verdict.{Verdict}
 use Rattle.aig_witness.specs.Witness.{Claim, IsVerdict, Nothing, Property, Said, SaysClaim, Steps, Version, Whole}
-use Rattle.aig_witness.specs.Witness.{shape_of, witness_of, wrong_line}
+use Rattle.aig_witness.specs.Witness.{first_bad_line, shape_of, witness_of, wrong_line}
 use Rattle.aig_witness.proofs.Verdicts.{one_verdict, claims_have_files}
 use Rattle.aig_witness.proofs.WitnessEnds.{says_too, verdict_too}
 use Rattle.aig_witness.proofs.Witnessing.{same_bad}
+use Rattle.aig_fault.specs.Stopping.{fault_at}
+use Rattle.aig_fault.specs.declared.fault.Fault.{Fault}
+use Rattle.aig_fault.specs.declared.fault.Place.TheVariants.{Whole}
+use Rattle.aig_fault.specs.declared.kind.Kind.TheVariants.{TooLargeJustice}
+use Rattle.aig_io.specs.Runs.{AtEnd}
+use Rattle.aig_lasso.specs.Goals.{goals_of}
+use Rattle.aig_verdicts.proofs.Files.{justice_files_are_read}
+use Rattle.aig_verdicts.proofs.Verdicts.{justice_claims_have_verdicts, one_verdict_at_most}
+use Rattle.aig_verdicts.specs.Judged.{HasLargeProperty, IsVerdictFor, SaysFor}
+use Rattle.aig_verdicts.specs.Kinds.{SaysJustice, is_of_justice, shape_if}
+use Rattle.aig_verdicts.specs.declared.verdict.WitnessVerdict.{WitnessVerdict}
+use Rattle.aig_verdicts.specs.declared.verdict.WitnessVerdict.TheVariants.{BadState, Justice}
 use Rattle.aig_commands.specs.File.{IsFileOf}
 use Rattle.aig_commands.specs.Laws.{RightRunsAreConfirmed, VerdictsAreKept, WitnessAnswersAreUnambiguous}
 use Rattle.aig_commands.specs.Laws.{WitnessAnswersExist}
@@ -20,22 +34,13 @@ use Rattle.aig_binary.proofs.Files.{one_circuit}
 use Rattle.aig_commands.proofs.Meant.{converted_file}
 use Rattle.aig_commands.proofs.TripsExist.{well_formed_file}
 
--- a witness file claims one thing of a circuit
-pub one_claim : (c d : Circuit) (witness : List ℕ) (claim other : Claim) → c ≡ d → SaysClaim c witness claim
-    → SaysClaim d witness other → claim ≡ other
-one_claim c d witness claim other same says_one says_too =
-    let says : SaysClaim d witness claim = subst (λ (e : Circuit). SaysClaim e witness claim) same says_one in
-    cc
-
 pub one_witness_answer : WitnessAnswersAreUnambiguous
 one_witness_answer request model witness verdict other p q =
     let same : p.found ≡ q.found = one_circuit model request.max_var p.found q.found p.read q.read in
-    let claims : p.claim ≡ q.claim = one_claim p.found q.found witness p.claim q.claim same p.says q.says in
-    let one = one_verdict q.found witness q.claim (well_formed_file model request.max_var q.found q.read) q.says in
-    one.2 verdict
-    (subst (λ (k : Claim). IsVerdict q.found k verdict) claims
-    (subst (λ (c : Circuit). IsVerdict c p.claim verdict) same p.is_verdict))
-    ∙ sym (one.2 other q.is_verdict)
+    (one_verdict_at_most q.found witness verdict other p.claim q.claim
+    (well_formed_file model request.max_var q.found q.read)
+    (subst (λ (c : Circuit). SaysFor c verdict witness p.claim) same p.says)
+    (subst (λ (c : Circuit). IsVerdictFor c p.claim verdict) same p.is_verdict) q.says q.is_verdict).0
 
 -- where no line is wrong or missing, something is claimed
 all_said : (lines : ℕ) (read : Result Said ℕ) → wrong_line lines true read ≡ None
@@ -47,11 +52,40 @@ all_said lines (Ok (Steps claim)) none = cc
 all_said lines (Ok (Whole claim)) none = (claim, refl)
 all_said lines (Err number) none = cc
 
-pub witness_answer_exists : WitnessAnswersExist
-witness_answer_exists request c file witness read none_bad =
+-- what is claimed of a justice property has a verdict, where its goals are not too many
+judged_justice : (request : Sim) (c : Circuit) (file witness : List ℕ) (claim : Claim) → IsFileOf file request.max_var c
+    → SaysJustice c witness claim
+    → ((verdict : WitnessVerdict) × IsWitnessAnswer request file witness verdict)
+    ⊎ ((fault : Fault) × HasLargeProperty c fault witness AtEnd)
+judged_justice request c file witness claim read says =
+    let good = well_formed_file file request.max_var c read in
+    let there = ((justice_files_are_read c witness claim).0 says).below in
+    elim (cases_lt LARGEST (length (goals_of claim.property c))) [
+      | inl many ↦ inr (fault_at TooLargeJustice Whole 0, (refl, claim, says, (refl, there, many)))
+      | inr few ↦
+          let one = justice_claims_have_verdicts c witness claim good says (there, few) in
+          inl (
+            Justice one.0,
+            record { found = c; claim = claim; read = read; says = says; is_verdict = one.1 },
+          )
+    ]
+
+judged_by_kind : (request : Sim) (c : Circuit) (file witness : List ℕ) (kind : Bool) → IsFileOf file request.max_var c
+    → first_bad_line (shape_if (length c.justice.sizes) c kind) witness true ≡ None
+    → ((verdict : WitnessVerdict) × IsWitnessAnswer request file witness verdict)
+    ⊎ ((fault : Fault) × HasLargeProperty c fault witness AtEnd)
+judged_by_kind request c file witness false read none_bad =
     let said = all_said (length (judged_lines witness true)) (witness_of (shape_of c) witness true) none_bad in
     let one = one_verdict c witness said.0 (well_formed_file file request.max_var c read) said.1 in
-    (one.0, record { found = c; claim = said.0; read = read; says = said.1; is_verdict = one.1 })
+    inl (BadState one.0, record { found = c; claim = said.0; read = read; says = said.1; is_verdict = one.1 })
+judged_by_kind request c file witness true read none_bad =
+    let said = all_said (length (judged_lines witness true))
+    (witness_of (shape_if (length c.justice.sizes) c true) witness true) none_bad in
+    judged_justice request c file witness said.0 read said.1
+
+pub witness_answer_exists : WitnessAnswersExist
+witness_answer_exists request c file witness read none_bad =
+    judged_by_kind request c file witness (is_of_justice witness true) read none_bad
 
 pub right_run_is_confirmed : RightRunsAreConfirmed
 right_run_is_confirmed request c file claim rows step read below trace confirmed =
@@ -70,7 +104,8 @@ right_run_is_confirmed request c file claim rows step read below trace confirmed
 -- a verdict for the file of a circuit is one for the file of a circuit that means the same
 unfoldable pub carried : (before after : Sim) (file other witness : List ℕ) (verdict : Verdict) (c d : Circuit)
     → before.max_var ≡ LARGEST → after.max_var ≡ LARGEST → IsFileOf file LARGEST c → IsFileOf other LARGEST d
-    → MeansTheSame c d → IsWitnessAnswer before file witness verdict → IsWitnessAnswer after other witness verdict
+    → MeansTheSame c d → IsWitnessAnswer before file witness (BadState verdict)
+    → IsWitnessAnswer after other witness (BadState verdict)
 carried before after file other witness verdict c d limit limit_after is is_other means p =
     let same : p.found ≡ c =
     one_circuit file LARGEST p.found c (subst (λ n. IsFileOf file n p.found) limit p.read) is in

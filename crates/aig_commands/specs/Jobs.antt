@@ -11,7 +11,7 @@ use Rattle.aig_command.specs.declared.request.SolverFile.{SolverFile}
 use Rattle.aig_command.specs.declared.request.SolverFile.TheVariants as wrote
 use Rattle.aig_fault.specs.declared.fault.Fault.{Fault}
 use Rattle.aig_io.specs.Runs.{Ending}
-use Rattle.aig_replay.specs.WitnessLines.{witness_text}
+use Rattle.aig_replay.specs.WitnessLines.{lasso_text, witness_text}
 use Rattle.aig_text.specs.AsciiText.{ascii_text}
 use Rattle.aig_commands.specs.Comparing.{IsAccepted, IsFirst, IsMiterText, NotFirst, NotMiter}
 use Rattle.aig_commands.specs.Conversion.{IsConversionRefused, IsConversionText}
@@ -40,6 +40,7 @@ text_of (answers.Binary image) = binary_text image
 text_of (answers.Mapped image) = binary_text image
 text_of (answers.Unrolled form circuit) = unrolled_text form circuit
 text_of (answers.Witness claim) = witness_text claim
+text_of (answers.Lasso claim) = lasso_text claim
 text_of (answers.NoneWithin frames) = none_text frames
 text_of answers.Never = never_text
 text_of (answers.Text text) = string_bytes text

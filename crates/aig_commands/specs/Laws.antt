@@ -1,6 +1,6 @@
 -- What the definitions of this crate say of one another.
-use Rattle.std.specs.Prelude.{◌≡◌, ◌↔◌, ◌<◌, ◌+◌, ◌*◌, ℕ, List, [], ◌∷◌, None, Some, Ok, true, false, length}
-use Rattle.std.specs.Prelude.{◌≤◌, ◌-◌, ◌==◌, Bool, map, not, slice_index_or, take, ⊤}
+use Rattle.std.specs.Prelude.{◌≡◌, ◌⊎◌, ◌↔◌, ◌<◌, ◌+◌, ◌*◌, ℕ, List, [], ◌∷◌, None, Some, Ok, true, false, length}
+use Rattle.std.specs.Prelude.{◌≤◌, ◌-◌, ◌==◌, Bool, map, Option, not, slice_index_or, take, ⊤}
 use Rattle.std.specs.List.{AllByRecursion, list_any}
 use Rattle.aig_answer.specs.declared.reader.Signed.{Signed}
 use Rattle.aig_answer.specs.AnswerText.{AreComments, AreValues, IsLine, Line, all_values, answer_text}
@@ -22,7 +22,6 @@ use Rattle.aig_command.specs.declared.request.Reach.{Reach}
 use Rattle.aig_command.specs.declared.request.Unroll.{Unroll}
 use Rattle.aig_command.specs.declared.request.UnrolledForm.{UnrolledForm}
 use Rattle.aig_command.specs.declared.request.UnrolledForm.TheVariants.{Ascii, Binary, Clauses}
-use Rattle.aig_replay.specs.Alone.{HasSelected, selected_of}
 use Rattle.aig_replay.specs.Laws.{IsOfSelected}
 use Rattle.aig_meaning.specs.Meaning.{Row}
 use Rattle.aig_meaning.specs.Trace.{IsTrace}
@@ -31,7 +30,12 @@ use Rattle.aig_circuit.specs.declared.value.Val.TheVariants.{Zero, One}
 use Rattle.aig_witness.specs.declared.verdict.Verdict.{Verdict}
 use Rattle.aig_witness.specs.declared.verdict.Verdict.TheVariants.{Confirmed}
 use Rattle.aig_step.specs.Outcome.{first_bad_line}
-use Rattle.aig_witness.specs.Witness.{Claim, IsFirstConfirmed, IsVerdict, SaysClaim, first_bad_witness_line}
+use Rattle.aig_verdicts.specs.Judged.{HasLargeProperty}
+use Rattle.aig_verdicts.specs.Kinds.{first_bad_file_line}
+use Rattle.aig_verdicts.specs.declared.verdict.WitnessVerdict.{WitnessVerdict}
+use Rattle.aig_verdicts.specs.declared.verdict.WitnessVerdict.TheVariants.{BadState}
+use Rattle.aig_io.specs.Runs.{AtEnd}
+use Rattle.aig_witness.specs.Witness.{Claim, IsFirstConfirmed, IsVerdict, SaysClaim}
 use Rattle.aig_unroll.specs.SideBySide.{inputs_side_by_side}
 use Rattle.aig_unroll.specs.Unrolled.{IsTooLarge, IsUnrolled, IsUnsupported, all_inputs}
 use Rattle.aig_commands.specs.File.{IsFileOf, file_reading, first_fault}
@@ -39,9 +43,10 @@ use Rattle.aig_commands.specs.Conversion.{IsConversionText}
 use Rattle.aig_commands.specs.OutputsAsBad.{row_with_outputs_as_bad}
 use Rattle.aig_commands.specs.Simulation.{IsSimulationText}
 use Rattle.aig_commands.specs.Proving.{IsInvariantModel, IsInvariantText, IsNeverText, IsStrengthened}
+use Rattle.aig_commands.specs.Property.{HasProperty, bad_property, property_model}
 use Rattle.aig_commands.specs.Reaching.{IsReachText, IsSelectedModel}
 use Rattle.aig_commands.specs.Refuting.{IsNoneText}
-use Rattle.aig_commands.specs.Unrolling.{IsUnrollingText, IsWritable, bad_of}
+use Rattle.aig_commands.specs.Unrolling.{IsUnrollingText, IsWritable, property_of}
 use Rattle.aig_commands.specs.WitnessOutcome.{IsWitnessAnswer}
 
 -- what is read of a text is exactly the circuit whose file it is, of either kind
@@ -66,7 +71,7 @@ SimulationsAreUnambiguous = (request : Sim) (model stimulus text other : List �
 
 -- a model and a witness file have one verdict at most
 abbrev pub WitnessAnswersAreUnambiguous : Type 0
-WitnessAnswersAreUnambiguous = (request : Sim) (model witness : List ℕ) (verdict other : Verdict)
+WitnessAnswersAreUnambiguous = (request : Sim) (model witness : List ℕ) (verdict other : WitnessVerdict)
     → IsWitnessAnswer request model witness verdict → IsWitnessAnswer request model witness other → verdict ≡ other
 
 -- bytes have one unrolling text at most
@@ -78,7 +83,7 @@ UnrollingsAreUnambiguous = (request : Unroll) (bytes text other : List ℕ)
 abbrev pub IsOfCircuit : UnrolledForm → Type 0
 IsOfCircuit Binary = ⊤
 IsOfCircuit Ascii = ⊤
-IsOfCircuit (Clauses bad) = ⊥
+IsOfCircuit (Clauses property) = ⊥
 
 -- an unrolling text of the file of a circuit, other than clauses, is, at the default limit, the file of exactly the
 -- unrolled circuit
@@ -88,12 +93,13 @@ UnrolledTextsAreFiles = (request : Unroll) (c d : Circuit) (file text : List ℕ
     → (other : Circuit) → IsFileOf text LARGEST other ↔ (other ≡ d)
 
 -- every file of a circuit that is supported and not too large to unroll has an unrolling text; and clauses, where it
--- has the selected bad state and they can be made
+-- has the property and they can be made
 abbrev pub UnrolledTextsExist : Type 0
 UnrolledTextsExist = (request : Unroll) (c : Circuit) (file : List ℕ) → IsFileOf file request.max_var c
-    → HasSelected (bad_of request.form) c → ¬ IsUnsupported c
-    → ¬ IsTooLarge (selected_of (bad_of request.form) c) request.frames
-    → ((d : Circuit) → IsUnrolled (selected_of (bad_of request.form) c) request.frames d → IsWritable request.form d)
+    → HasProperty (property_of request.form) c → ¬ IsUnsupported (property_model (property_of request.form) c)
+    → ¬ IsTooLarge (property_model (property_of request.form) c) request.frames
+    → ((d : Circuit) → IsUnrolled (property_model (property_of request.form) c) request.frames d
+    → IsWritable request.form d)
     → (text : List ℕ) × IsUnrollingText request file text
 
 -- a canonical binary file: the canonical text of a well-formed circuit in binary order
@@ -160,7 +166,7 @@ VerdictsAreKept = (request : ToAig) (before after : Sim) → request.bad_states 
     → request.max_var ≡ LARGEST → before.max_var ≡ LARGEST → after.max_var ≡ LARGEST
     → (file converted witness : List ℕ) (verdict : Verdict)
     → IsConversionText request file converted
-    → IsWitnessAnswer before file witness verdict ↔ IsWitnessAnswer after converted witness verdict
+    → IsWitnessAnswer before file witness (BadState verdict) ↔ IsWitnessAnswer after converted witness (BadState verdict)
 
 -- Where outputs became bad states, the traces are those of the circuit that was read, step by step with the outputs as
 -- bad states: of these first states, these inputs and these rows, and of no others. So the bad states show what the
@@ -190,10 +196,13 @@ abbrev pub SimulationTextsExist : Type 0
 SimulationTextsExist = (request : Sim) (c : Circuit) (file stimulus : List ℕ) → IsFileOf file request.max_var c
     → first_bad_line c stimulus true ≡ None → (text : List ℕ) × IsSimulationText request file stimulus text
 
--- every file of a circuit gets a verdict on each witness file of which no line is wrong or missing
+-- Every file of a circuit gets a verdict on each witness file of which no line is wrong or missing, unless that names a
+-- justice property of more goals than a circuit may have bad states.
 abbrev pub WitnessAnswersExist : Type 0
 WitnessAnswersExist = (request : Sim) (c : Circuit) (file witness : List ℕ) → IsFileOf file request.max_var c
-    → first_bad_witness_line c witness true ≡ None → (verdict : Verdict) × IsWitnessAnswer request file witness verdict
+    → first_bad_file_line c witness true ≡ None
+    → ((verdict : WitnessVerdict) × IsWitnessAnswer request file witness verdict)
+    ⊎ ((fault : Fault) × HasLargeProperty c fault witness AtEnd)
 
 -- Each run of a circuit that reaches a bad state, with all constraints kept, is claimed by some witness file. On that,
 -- every file of the circuit gets the verdict that it is confirmed, with the number of the first such step.
@@ -201,7 +210,7 @@ abbrev pub RightRunsAreConfirmed : Type 0
 RightRunsAreConfirmed = (request : Sim) (c : Circuit) (file : List ℕ) (claim : Claim) (rows : List Row) (step : ℕ)
     → IsFileOf file request.max_var c → claim.property < length c.bad → IsTrace c claim.first claim.steps rows
     → IsFirstConfirmed claim.property rows step
-    → (witness : List ℕ) × SaysClaim c witness claim × IsWitnessAnswer request file witness (Confirmed step)
+    → (witness : List ℕ) × SaysClaim c witness claim × IsWitnessAnswer request file witness (BadState (Confirmed step))
 
 -- every canonical binary file has a conversion text to ASCII, and that has one to binary
 abbrev pub BinaryFilesConvertThereAndBack : Type 0
@@ -243,19 +252,20 @@ RightAnswersHaveWitnesses = (request : Reach) (selected : Circuit) (model : List
 -- What is written for a model and a solver's answer is a witness file: of the model it is confirmed, at one of the
 -- frames, and what it claims is that the selected bad state is reached, if one was selected.
 abbrev pub SolverAnswersAreConfirmed : Type 0
-SolverAnswersAreConfirmed = (request : Reach) (judging : Sim) (selected : Circuit) (model answer text : List ℕ)
-    → judging.max_var ≡ request.max_var → IsSelectedModel request model selected
+SolverAnswersAreConfirmed = (request : Reach) (bad : Option ℕ) (judging : Sim) (selected : Circuit)
+    (model answer text : List ℕ) → request.property ≡ bad_property bad → judging.max_var ≡ request.max_var → IsSelectedModel request model selected
     → IsReachText request selected answer text
-    → (step : ℕ) × (step < request.frames) × (confirmed : IsWitnessAnswer judging model text (Confirmed step))
-    × ((number : ℕ) → request.bad ≡ Some number → confirmed.claim.property ≡ number)
+    → (step : ℕ) × (step < request.frames) × (confirmed : IsWitnessAnswer judging model text (BadState (Confirmed step)))
+    × ((number : ℕ) → bad ≡ Some number → confirmed.claim.property ≡ number)
 
 -- Where it is written for a model that there is none, no witness file of the selected bad state, or of any where none
 -- is selected, is confirmed of the model at one of the frames, however many steps it has.
 abbrev pub RefutationsMeanNone : Type 0
-RefutationsMeanNone = (request : Reach) (judging : Sim) (selected : Circuit) (model text witness : List ℕ) (step : ℕ)
+RefutationsMeanNone = (request : Reach) (bad : Option ℕ) (judging : Sim) (selected : Circuit)
+    (model text witness : List ℕ) (step : ℕ) → request.property ≡ bad_property bad
     → judging.max_var ≡ request.max_var → IsSelectedModel request model selected → IsNoneText request selected text
-    → step < request.frames → (confirmed : IsWitnessAnswer judging model witness (Confirmed step))
-    → ¬ IsOfSelected request.bad confirmed.claim
+    → step < request.frames → (confirmed : IsWitnessAnswer judging model witness (BadState (Confirmed step)))
+    → ¬ IsOfSelected bad confirmed.claim
 
 -- a model and an invariant have one text of clauses at most
 abbrev pub InvariantTextsAreUnambiguous : Type 0
@@ -266,11 +276,11 @@ InvariantTextsAreUnambiguous = (request : Invariant) (selected again : Circuit) 
 -- Where it is written for a model and an invariant that none is ever reached, no witness file of the selected bad
 -- state, or of any where none is selected, is confirmed of the model, at whatever step.
 abbrev pub NeverIsNever : Type 0
-NeverIsNever = (request : Invariant) (judging : Sim) (selected strengthened : Circuit)
-    (model invariant text witness : List ℕ) (step : ℕ) → judging.max_var ≡ request.max_var
+NeverIsNever = (request : Invariant) (bad : Option ℕ) (judging : Sim) (selected strengthened : Circuit)
+    (model invariant text witness : List ℕ) (step : ℕ) → request.property ≡ bad_property bad → judging.max_var ≡ request.max_var
     → IsInvariantModel request model selected → IsStrengthened selected invariant strengthened
-    → IsNeverText request strengthened text → (confirmed : IsWitnessAnswer judging model witness (Confirmed step))
-    → ¬ IsOfSelected request.bad confirmed.claim
+    → IsNeverText request strengthened text → (confirmed : IsWitnessAnswer judging model witness (BadState (Confirmed step)))
+    → ¬ IsOfSelected bad confirmed.claim
 
 -- A witness that is confirmed at a step sets the unrolled circuit of as many frames and one more. Where that is given
 -- the first values of the uninitialised latches and then the inputs of the witness's steps, it has exactly one trace,

@@ -4,6 +4,7 @@ pub mod OutputsAsBad
 pub mod Comparing
 pub mod Conversion
 pub mod Simulation
+pub mod Property
 pub mod Unrolling
 pub mod Reaching
 pub mod Refuting

@@ -1,6 +1,6 @@
 -- Which texts are written for an invariant (this project's profile): a model is read, and then the invariant, and the
--- clauses are written in which it is to be shown; or they are refuted, and so no run ever reaches a bad state.
-use Rattle.std.specs.Prelude.{◌≡◌, ◌⊎◌, ℕ, List, None, codes}
+-- clauses are written in which it is to be shown; or they are refuted, and so no run ever has the property.
+use Rattle.std.specs.Prelude.{◌≡◌, ◌⊎◌, ℕ, List, None, Some, codes}
 use Rattle.aig_circuit.specs.declared.circuit.Circuit.{Circuit}
 use Rattle.aig_circuit.specs.Wellformed.{IsWellFormed}
 use Rattle.aig_cnf.specs.ClauseText.{cnf_text}
@@ -11,9 +11,14 @@ use Rattle.aig_command.specs.declared.request.UnrolledForm.TheVariants.{Clauses}
 use Rattle.aig_invariant.specs.Invariant.{Cube, with_invariant}
 use Rattle.aig_invariant.specs.Laws.{IsNever}
 use Rattle.aig_invariant.specs.Outcome.{HasCubes, IsInvariantRefused}
-use Rattle.aig_replay.specs.Alone.{HasSelected, selected_of}
+use Rattle.aig_lasso.specs.Endless.{IsFairRun}
+use Rattle.aig_lasso.specs.Goals.{with_goals}
+use Rattle.aig_meaning.specs.Meaning.{Row}
+use Rattle.aig_command.specs.declared.request.Property.{Property}
+use Rattle.aig_command.specs.declared.request.Property.TheVariants.{AnyBad, Bad, Justice}
 use Rattle.aig_unroll.specs.Outcome.{HasClauses}
 use Rattle.aig_fault.specs.declared.fault.Fault.{Fault}
+use Rattle.aig_commands.specs.Property.{HasProperty, property_model}
 use Rattle.aig_commands.specs.Reaching.{IsModelRefused, IsSelectedModel}
 use Rattle.aig_commands.specs.Unrolling.{IsUnrolledFor, NotUnrolledAs}
 
@@ -21,14 +26,13 @@ use Rattle.aig_commands.specs.Unrolling.{IsUnrolledFor, NotUnrolledAs}
 abbrev pub over_one_frame : Invariant → Reach
 over_one_frame request = record {
   frames = 1;
-  bad = request.bad;
+  property = request.property;
   max_var = request.max_var;
   wrote = Refutation;
   lrat = request.lrat;
 }
 
--- The model is the file of a circuit that has clauses over one frame, and this is the circuit, with the selected bad
--- state alone.
+-- The model is the file of a circuit that has clauses over one frame, and this circuit stands for the property of that.
 abbrev pub IsInvariantModel : Invariant → (model : List ℕ) → Circuit → Type 0
 IsInvariantModel request = IsSelectedModel (over_one_frame request)
 
@@ -36,23 +40,23 @@ IsInvariantModel request = IsSelectedModel (over_one_frame request)
 abbrev pub NotInvariantModel : Invariant → Fault → List ℕ → Type 0
 NotInvariantModel request = IsModelRefused (over_one_frame request)
 
--- The bytes are an invariant of the circuit with the selected bad state, and this is the circuit in which it is to be
+-- The bytes are an invariant of the circuit that stands for the property, and this is the circuit in which it is to be
 -- shown. It has clauses over one frame.
 pub record IsStrengthened (selected : Circuit) (invariant : List ℕ) (strengthened : Circuit) : Type 0 where
   pub cubes : List Cube
   pub unrolled : Circuit
   pub has_cubes : HasCubes selected invariant cubes
   pub strengthened_is : strengthened ≡ with_invariant cubes selected
-  pub is_unrolled : IsUnrolledFor None 1 strengthened unrolled
+  pub is_unrolled : IsUnrolledFor AnyBad 1 strengthened unrolled
   pub has_clauses : HasClauses unrolled
 
--- The bytes are no invariant of the circuit with the selected bad state, for this reason; or they are one, and the
+-- The bytes are no invariant of the circuit that stands for the property, for this reason; or they are one, and the
 -- circuit in which it is to be shown has no clauses.
 abbrev pub NotStrengthened : Circuit → Fault → List ℕ → Type 0
 NotStrengthened selected fault invariant =
     IsInvariantRefused selected fault invariant
     ⊎ ((cubes : List Cube) × HasCubes selected invariant cubes
-    × NotUnrolledAs (Clauses None) 1 (with_invariant cubes selected) fault)
+    × NotUnrolledAs (Clauses AnyBad) 1 (with_invariant cubes selected) fault)
 
 -- The text that is written for these bytes of an invariant: the clauses in which it is to be shown.
 pub record IsInvariantText (selected : Circuit) (invariant text : List ℕ) : Type 0 where
@@ -60,14 +64,20 @@ pub record IsInvariantText (selected : Circuit) (invariant text : List ℕ) : Ty
   pub is_strengthened : IsStrengthened selected invariant strengthened
   pub written_as : text ≡ cnf_text is_strengthened.unrolled
 
--- the line that says that no bad state is ever reached
+-- no run ever has the property: none reaches a bad state at any step, or none without end is fair
+abbrev pub NoRunHas : Circuit → Property → Type 0
+NoRunHas c AnyBad = IsNever c None
+NoRunHas c (Bad number) = IsNever c (Some number)
+NoRunHas c (Justice number) = (rows : ℕ → Row) → ¬ IsFairRun (with_goals number c) rows
+
+-- the line that says so
 abbrev pub never_text : List ℕ
 never_text = codes "never\n"
 
--- The text that is written for a refutation of the clauses of this circuit: of each circuit of which an invariant is to
--- be shown in this one, nothing is ever confirmed. Which bytes the refutation has makes no difference.
+-- The text that is written for a refutation of the clauses of this circuit: no run ever has the property, of each
+-- circuit of whose property an invariant is to be shown in this one. Which bytes the refutation has makes no difference.
 pub record IsNeverText (request : Invariant) (strengthened : Circuit) (text : List ℕ) : Type 0 where
-  pub never : (c : Circuit) (invariant : List ℕ) (cubes : List Cube) → IsWellFormed c → HasSelected request.bad c
-      → HasCubes (selected_of request.bad c) invariant cubes
-      → strengthened ≡ with_invariant cubes (selected_of request.bad c) → IsNever c request.bad
+  pub never : (c : Circuit) (invariant : List ℕ) (cubes : List Cube) → IsWellFormed c → HasProperty request.property c
+      → HasCubes (property_model request.property c) invariant cubes
+      → strengthened ≡ with_invariant cubes (property_model request.property c) → NoRunHas c request.property
   pub written_as : text ≡ never_text

@@ -12,6 +12,7 @@ use aig_command::UnrolledForm;
 use aig_convert::{MappedImage, write_mapped};
 use aig_core::{Checked, DeviceFault, Output, Sink};
 use aig_fault::{Message, Stopped};
+use aig_live::FoundLasso;
 use aig_replay::FoundWitness;
 use aig_text::write_ascii;
 use aig_unroll::Unrolling;
@@ -27,9 +28,11 @@ pub enum Answer {
     Mapped(MappedImage),
     /// An unrolled circuit, in this form.
     Unrolled(UnrolledForm, Unrolling),
-    /// A witness.
+    /// A witness that a bad state is reached.
     Witness(FoundWitness),
-    /// That no run of so many steps reaches a bad state.
+    /// A witness that a justice property is met.
+    Lasso(FoundLasso),
+    /// That no run of so many steps has the property.
     NoneWithin(u32),
     /// That no run ever does.
     Never,
@@ -50,7 +53,7 @@ fn write_unrolled<W: Sink>(
     match form {
         UnrolledForm::Binary => circuit.write_binary(sink),
         UnrolledForm::Ascii => circuit.write_ascii(sink),
-        UnrolledForm::Clauses { bad: _ } => circuit.write_cnf(sink),
+        UnrolledForm::Clauses { property: _ } => circuit.write_cnf(sink),
     }
 }
 
@@ -78,7 +81,7 @@ pub(crate) fn send_message<W: Sink>(message: &Message, sink: &mut W) -> Result<(
     sent
 }
 
-/// Sends the line that no run of so many steps reaches a bad state.
+/// Sends the line that no run of so many steps has the property.
 fn send_none_within<W: Sink>(frames: u32, sink: &mut W) -> Result<(), DeviceFault>
     ensures ok { OnOk result (W.history sink.new ≡ took (none_text frames) (W.history sink.old)) }
     ensures err { OnErr result (TookBeginning (none_text frames)
@@ -116,6 +119,7 @@ impl Answer {
             }
             Answer::Unrolled(form, circuit) => Ok(write_unrolled(form, circuit, sink)?),
             Answer::Witness(witness) => Ok(witness.write(sink)?),
+            Answer::Lasso(lasso) => Ok(lasso.write(sink)?),
             Answer::NoneWithin(frames) => Ok(send_none_within(frames, sink)?),
             Answer::Never => Ok(send_text(b"never\n", sink)?),
             Answer::Text(text) => Ok(send_text(text.as_bytes(), sink)?),

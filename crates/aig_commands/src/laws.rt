@@ -12,7 +12,9 @@ ghost use Rattle.aig_commands.specs.Laws.{ReachTextsAreUnambiguous, RightAnswers
 ghost use Rattle.aig_commands.specs.Laws.{RefutationsMeanNone, SolverAnswersAreConfirmed};
 ghost use Rattle.aig_commands.specs.Laws.{InvariantTextsAreUnambiguous, NeverIsNever};
 ghost use Rattle.aig_commands.specs.Laws.{WitnessAnswersAreUnambiguous, WitnessAnswersExist};
-ghost use Rattle.aig_commands.specs.LiveLaws.{ConfirmedClaimsAreLassos, NeverExactlyWithoutFairRun};
+ghost use Rattle.aig_commands.specs.LiveLaws.{AnswersAreLassos, ConfirmedClaimsAreLassos};
+ghost use Rattle.aig_commands.specs.LiveLaws.{NeverExactlyWithoutFairRun, NeverMeansNoneIsFair};
+ghost use Rattle.aig_commands.specs.LiveLaws.{RefutationsMeanNoLasso};
 
 /// What is read of a text is a circuit exactly where the text is a file of that circuit, ASCII or
 /// binary.
@@ -74,6 +76,22 @@ pub fn never_exactly_without_fair_run()
 /// A confirmed claim of that is, turned back, a lasso of the circuit that was read.
 pub fn confirmed_claims_are_lassos()
     ensures { ConfirmedClaimsAreLassos }
+{}
+
+/// Where it is written for a model and a refutation that there is none for a justice property, no
+/// lasso of the model without x is so short.
+pub fn refutations_mean_no_lasso()
+    ensures { RefutationsMeanNoLasso }
+{}
+
+/// Where it is written that there never is one, no run of the model is fair to the property.
+pub fn never_means_none_is_fair()
+    ensures { NeverMeansNoneIsFair }
+{}
+
+/// What is written for an answer on a justice property is a lasso of the model.
+pub fn answers_are_lassos()
+    ensures { AnswersAreLassos }
 {}
 
 /// The conversion texts that the headline speaks of exist: every file of a circuit has one to

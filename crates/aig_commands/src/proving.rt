@@ -13,13 +13,13 @@ use crate::reaching::selected_with_clauses;
 use crate::refuting::read_refutation;
 use crate::unrolling::unroll_as;
 use aig_binary::read_source;
-use aig_command::{Invariant, UnrolledForm};
+use aig_command::{Invariant, Property, UnrolledForm};
 use aig_core::{Checked, Keep, Source};
 use aig_fault::Stopped;
 use aig_invariant::with_invariant;
 use std::alloc::Global;
 
-/// Reads the model to its end, as a file of either kind, and takes the selected bad state alone. It
+/// Reads the model to its end, as a file of either kind, and makes what stands for the property. It
 /// fails where its own clauses over one frame could not be written, if an allocation fails, or if
 /// the source does. The invariant is not needed for that.
 pub(crate) fn read_proving_model<R: Source>(
@@ -32,10 +32,10 @@ pub(crate) fn read_proving_model<R: Source>(
         (R.history model.new) }
 {
     let found = read_source(alloc, model, request.max_var, Keep::Order)?;
-    selected_with_clauses(alloc, found, request.bad, 1)
+    selected_with_clauses(alloc, found, request.property, 1)
 }
 
-/// Reads an invariant to its end, of the circuit with the selected bad state, and makes the circuit
+/// Reads an invariant to its end, of the circuit that stands for the property, and makes the circuit
 /// in which it is to be shown. It fails where that has no clauses over one frame, if an allocation
 /// fails, or if the source does.
 pub(crate) fn read_strengthened<R: Source>(
@@ -49,10 +49,10 @@ pub(crate) fn read_strengthened<R: Source>(
     ensures can_unroll { IfOk result (λ strengthened. CanUnroll strengthened 1) }
 {
     let strengthened = with_invariant(alloc, selected, source)?;
-    selected_with_clauses(alloc, strengthened, None, 1)
+    selected_with_clauses(alloc, strengthened, Property::AnyBad, 1)
 }
 
-/// Reads an invariant to its end, of the circuit with the selected bad state, and makes the clauses
+/// Reads an invariant to its end, of the circuit that stands for the property, and makes the clauses
 /// in which it is to be shown.
 pub(crate) fn read_clauses<R: Source>(
     alloc: Global,
@@ -64,7 +64,9 @@ pub(crate) fn read_clauses<R: Source>(
         (R.history source.new) }
     ensures some { IfOk result (λ answer. 0 < length (text_of answer)) }
 {
-    let form = UnrolledForm::Clauses { bad: None };
+    let form = UnrolledForm::Clauses {
+        property: Property::AnyBad,
+    };
     let strengthened = with_invariant(alloc, selected, source)?;
     let circuit = unroll_as(alloc, form, 1, strengthened)?;
     Ok(Answer::Unrolled(form, circuit))

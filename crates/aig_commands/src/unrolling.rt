@@ -3,32 +3,29 @@ ghost use Rattle.std.specs.Prelude.{◌≡◌, ◌<◌, ◌≤◌, IfErr, IfOk, 
 ghost use Rattle.aig_fault.specs.Stopping.{StopsFor};
 ghost use Rattle.aig_io.specs.Runs.{Read, Transferred};
 ghost use Rattle.aig_command.specs.Answer.{HasFrames};
-ghost use Rattle.aig_replay.specs.Alone.{HasSelected, NotSelected, selected_of};
 ghost use Rattle.aig_commands.specs.Jobs.{text_of};
 ghost use Rattle.aig_commands.specs.Outcome.{Says};
 ghost use Rattle.aig_commands.specs.Reading.{AtItsEnd, ReadSays};
-ghost use Rattle.aig_commands.specs.Unrolling.{bad_of, IsUnrolledFor, IsUnrollingRefused};
+ghost use Rattle.aig_commands.specs.Unrolling.{property_of, IsUnrolledFor, IsUnrollingRefused};
 ghost use Rattle.aig_commands.specs.Unrolling.{IsUnrollingText, IsWritable, NotUnrolledAs};
 ghost use Rattle.aig_commands.specs.Unrolling.{NotWritable};
 
 use crate::answer::Answer;
+use crate::property::property_model;
 use aig_binary::read_source;
-use aig_command::{Unroll, UnrolledForm};
+use aig_command::{Property, Unroll, UnrolledForm};
 use aig_core::{Checked, Keep, Sink, Source};
 use aig_fault::Stopped;
-use aig_replay::with_selected_bad;
 use aig_unroll::Unrolling;
 use std::alloc::Global;
 
-/// The circuit with the bad state alone that its clauses are to speak of, if one is selected.
-fn selected_of(alloc: Global, form: UnrolledForm, found: Checked) -> Result<Checked, Stopped>
-    ensures ok { IfOk result (λ selected. selected ≡ selected_of (bad_of form) found) }
-    ensures there { OnOk result (HasSelected (bad_of form) found) }
-    ensures err { IfErr result (NotSelected (bad_of form) found) }
+/// The property that is asked for.
+fn property_of(form: UnrolledForm) -> Property
+    ensures { result ≡ property_of form }
 {
     match form {
-        UnrolledForm::Clauses { bad } => with_selected_bad(alloc, found, bad),
-        UnrolledForm::Binary | UnrolledForm::Ascii => Ok(found),
+        UnrolledForm::Clauses { property } => property,
+        UnrolledForm::Binary | UnrolledForm::Ascii => Property::AnyBad,
     }
 }
 
@@ -38,7 +35,7 @@ fn check_form(form: UnrolledForm, circuit: &Unrolling) -> Result<(), Stopped>
     ensures err { IfErr result (NotWritable form circuit.now) }
 {
     match form {
-        UnrolledForm::Clauses { bad: _ } => circuit.check_clauses(),
+        UnrolledForm::Clauses { property: _ } => circuit.check_clauses(),
         UnrolledForm::Binary | UnrolledForm::Ascii => Ok(()),
     }
 }
@@ -51,10 +48,10 @@ pub(crate) fn unroll_as(
     found: Checked,
 ) -> Result<Unrolling, Stopped>
     requires { (1 ≤ frames) × (frames ≤ 1000000) }
-    ensures ok { IfOk result (λ d. IsUnrolledFor (bad_of form) frames found d × IsWritable form d) }
+    ensures ok { IfOk result (λ d. IsUnrolledFor (property_of form) frames found d × IsWritable form d) }
     ensures err { IfErr result (StopsFor (NotUnrolledAs form frames found)) }
 {
-    let selected = selected_of(alloc, form, found)?;
+    let selected = property_model(alloc, property_of(form), found)?;
     let circuit = Unrolling::new(alloc, selected, frames)?;
     match check_form(form, &circuit) {
         Ok(()) => Ok(circuit),
@@ -66,8 +63,8 @@ pub(crate) fn unroll_as(
 }
 
 /// Reads a source to its end, and unrolls its circuit as the request asks. It fails if the source
-/// or an allocation fails, if the bytes are no file of a circuit, if that has not the selected bad
-/// state or cannot be unrolled, or if no clauses can be made of it.
+/// or an allocation fails, if the bytes are no file of a circuit, if that has not the property or
+/// cannot be unrolled, or if no clauses can be made of it.
 pub(crate) fn read_unrolling<R: Source>(
     alloc: Global,
     request: &Unroll,
@@ -87,8 +84,8 @@ pub(crate) fn read_unrolling<R: Source>(
 
 /// Reads the source to its end, and writes the circuit unrolled as the request asks. Nothing is
 /// sent before it is known that only the sink can fail. It fails if a device or an allocation
-/// fails, if the bytes are no file of a circuit, if that has not the selected bad state or cannot
-/// be unrolled, or if no clauses can be made of it. Only a sink that fails may have taken a
+/// fails, if the bytes are no file of a circuit, if that has not the property or cannot be
+/// unrolled, or if no clauses can be made of it. Only a sink that fails may have taken a
 /// beginning of what is written.
 pub fn run_unroll<R: Source, W: Sink>(
     alloc: Global,

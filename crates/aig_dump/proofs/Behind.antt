@@ -1,13 +1,13 @@
 -- A bad line of what was read at first is a bad line of all of it, whatever comes after.
-use Rattle.std.proofs.Common.{◌≡◌, ◌∙◌, ◌++◌, ◌∷◌, ◌==◌, ◌||◌, ℕ, suc, List, [], Bool, true, false, filter, length}
-use Rattle.std.proofs.Common.{take, drop, Option, None, Some, Result, Ok, Err, refl, ap, sym, subst, take-append-drop}
+use Rattle.std.proofs.Common.{◌≡◌, ◌∙◌, ◌++◌, ◌∷◌, ◌==◌, ◌||◌, ℕ, suc, List, [], Bool, true, false, codes, filter, length}
+use Rattle.std.proofs.Common.{bytes_eq, take, drop, Option, None, Some, Result, Ok, Err, refl, ap, sym, subst, take-append-drop}
 use Rattle.std.specs.List.{AllByRecursion}
 use Rattle.aig_circuit.specs.declared.circuit.Circuit.{Circuit}
 use Rattle.aig_lines.specs.Lines.{Line, begun_by, line, lines_of}
 use Rattle.aig_step.specs.Outcome.{first_bad_line}
 use Rattle.aig_step.specs.Stimulus.{Entry, Stimulus, before_rest, entry_of, judged_lines, lines_say, text_of}
-use Rattle.aig_witness.specs.Witness.{Said, Shape, first_bad_witness_line, said_behind, said_by, said_with, shape_of}
-use Rattle.aig_witness.specs.Witness.{Nothing, witness_of, wrong_line}
+use Rattle.aig_verdicts.specs.Kinds.{are_of_justice, first_bad_file_line, shape_if}
+use Rattle.aig_witness.specs.Witness.{Nothing, Said, Shape, said_behind, said_by, said_with, shape_of, wrong_line}
 
 -- the lines all have a line feed, or none has
 abbrev All : Bool → List Line → Type 0
@@ -155,13 +155,32 @@ bad_line_stays c n k text is =
     subst (λ ls. (lines_say (length c.inputs) 1 ls).bad ≡ Some k) (sym j.1 ∙ all)
     (bad_stays (length c.inputs) 1 k (judged_lines (take n text) false) j.0 is)
 
-pub wrong_line_stays : (c : Circuit) (n k : ℕ) (text : List ℕ) → first_bad_witness_line c (take n text) false ≡ Some k
-    → first_bad_witness_line c text true ≡ Some k
+one_wrong : (c : Circuit) (k : ℕ) (kind : Bool) (l : Line) (behind : List Line) (same : Bool)
+    → bytes_eq (text_of l) (codes "1") ≡ same
+    → said_by (shape_of c) 1 Nothing (l ∷ []) ≡ Err k
+    → said_by (shape_if (length c.justice.sizes) c kind) 1 Nothing (l ∷ behind) ≡ Err k
+one_wrong c k kind l behind true same is = let other = rw same at is in cc
+one_wrong c k kind l behind false same is = rw same (rw same at is)
+
+-- the kind of a file is known by its first two lines; before them no line is right for one kind alone
+kind_stays : (c : Circuit) (k : ℕ) (lines behind : List Line)
+    → said_by (shape_if (length c.justice.sizes) c (are_of_justice lines)) 1 Nothing lines ≡ Err k
+    → said_by (shape_if (length c.justice.sizes) c (are_of_justice (lines ++ behind))) 1 Nothing (lines ++ behind) ≡ Err k
+kind_stays c k [] behind is = cc
+kind_stays c k (l ∷ []) behind is =
+    one_wrong c k (are_of_justice (l ∷ behind)) l behind (bytes_eq (text_of l) (codes "1")) refl is
+kind_stays c k (l ∷ m ∷ ls) behind is =
+    wrong_stays (shape_if (length c.justice.sizes) c (are_of_justice (l ∷ m ∷ ls))) 1 k Nothing (l ∷ m ∷ ls) behind is
+
+pub wrong_line_stays : (c : Circuit) (n k : ℕ) (text : List ℕ) → first_bad_file_line c (take n text) false ≡ Some k
+    → first_bad_file_line c text true ≡ Some k
 wrong_line_stays c n k text is =
     let j = judged (take n text) (drop n text) in
     let all = ap (λ t. judged_lines t true) (take-append-drop n text) in
     let lines = judged_lines (take n text) false in
-    let wrong = wrong_is (length lines) k (witness_of (shape_of c) (take n text) false) is in
-    let stays = subst (λ ls. said_by (shape_of c) 1 Nothing ls ≡ Err k) (sym j.1 ∙ all)
-    (wrong_stays (shape_of c) 1 k Nothing lines j.0 wrong) in
+    let wrong = wrong_is (length lines) k
+    (said_by (shape_if (length c.justice.sizes) c (are_of_justice lines)) 1 Nothing lines) is in
+    let stays = subst
+    (λ ls. said_by (shape_if (length c.justice.sizes) c (are_of_justice ls)) 1 Nothing ls ≡ Err k) (sym j.1 ∙ all)
+    (kind_stays c k lines j.0 wrong) in
     ap (wrong_line (length (judged_lines text true)) true) stays

@@ -1,5 +1,5 @@
 -- What a source over bytes in memory gave, once it was read.
-use Rattle.std.proofs.Common.{◌≡◌, ◌∙◌, ℕ, List, Bool, false, OnOk, ap, IfErr, IfOk, Result}
+use Rattle.std.proofs.Common.{◌≡◌, ◌⊎◌, ◌∙◌, ℕ, List, Bool, false, OnOk, ap, IfErr, IfOk, inl, inr, Result}
 use Rattle.std.proofs.Common.{Ok, Err, refl, subst, arith, None, Some, length, take, true}
 use Rattle.aig_io.specs.Devices.{History, Origin, unused}
 use Rattle.aig_io.specs.Lent.{HasGiven, lent}
@@ -12,11 +12,11 @@ use Rattle.aig_fault.specs.declared.stopped.Stopped.TheVariants as stops
 use Rattle.aig_step.specs.declared.trace.Columns.TheVariants.{Properties}
 use Rattle.aig_step.specs.Outcome.{IsTraceUpTo, first_bad_line}
 use Rattle.aig_wave.specs.Wave.{wave_text}
-use Rattle.aig_witness.specs.declared.verdict.Verdict.{Verdict}
-use Rattle.aig_witness.specs.Confirming.{ConfirmSays}
-use Rattle.aig_witness.specs.Witness.{first_bad_witness_line}
+use Rattle.aig_verdicts.specs.Judged.{HasBadLine, HasLargeProperty, IsJudged, IsUnjudged, WitnessSays}
+use Rattle.aig_verdicts.specs.Kinds.{first_bad_file_line}
+use Rattle.aig_verdicts.specs.declared.verdict.WitnessVerdict.{WitnessVerdict}
 use Rattle.aig_dump.specs.Dumped.{DumpSays, TraceSaysAs}
-use Rattle.aig_dump.specs.InMemory.{IsBadStimulus, IsBadWitness, IsDumpFor, IsVerdictFor, StopsInMemory}
+use Rattle.aig_dump.specs.InMemory.{IsBadStimulus, IsDumpFor, StopsInMemory}
 use Rattle.aig_dump.proofs.Behind.{bad_line_stays, wrong_line_stays}
 
 -- a simulation that succeeded read all, found no bad line, and traced all
@@ -50,13 +50,13 @@ module _ (input : List ℕ) (now : History) (given : HasGiven now) where
 
   -- the same of a witness file
   wrong_line : (c : Circuit) (bytes : List ℕ) (ending : Ending) (k : ℕ) → IsUnbroken ending
-      → now ≡ came bytes ending (unused (lent input)) → first_bad_witness_line c bytes (is_at_end ending) ≡ Some k
-      → first_bad_witness_line c input true ≡ Some k
+      → now ≡ came bytes ending (unused (lent input)) → first_bad_file_line c bytes (is_at_end ending) ≡ Some k
+      → first_bad_file_line c input true ≡ Some k
   wrong_line c bytes AtEnd k whole is first =
-      subst (λ bs. first_bad_witness_line c bs true ≡ Some k) (all_read bytes is) first
+      subst (λ bs. first_bad_file_line c bs true ≡ Some k) (all_read bytes is) first
   wrong_line c bytes Open k whole is first =
       wrong_line_stays c (length bytes) k input
-      (subst (λ bs. first_bad_witness_line c bs false ≡ Some k) (part_read bytes is) first)
+      (subst (λ bs. first_bad_file_line c bs false ≡ Some k) (part_read bytes is) first)
   wrong_line c bytes Broken k whole is first = absurd whole
 
   pub dumped : (batch : Bool) (c : Circuit) (r : Result (Unit {0}) Stopped) (origin : Origin) (sink_now : History)
@@ -91,17 +91,22 @@ module _ (input : List ℕ) (now : History) (given : HasGiven now) where
       bad_stimulus batch c fault ran.bytes ran.ending d.trace d.delivery d.says ran.came
   not_dumped batch c (Err stopped) sink sink_now ran = tt
 
-  pub judged : (c : Circuit) (r : Result Verdict Stopped) → Read (ConfirmSays c r) (unused (lent input)) now
-      → IfOk r (IsVerdictFor c input)
+  unjudged : (c : Circuit) (fault : Fault) (bytes : List ℕ) (ending : Ending) → now ≡ came bytes ending (unused (lent input))
+      → HasBadLine c fault bytes ending ⊎ HasLargeProperty c fault bytes ending → IsUnjudged c input fault
+  unjudged c fault bytes ending is (inl (line, told, whole, first)) =
+      inl (line, told, tt, wrong_line c bytes ending line whole is first)
+  unjudged c fault bytes ending is (inr large) =
+      inr (subst (λ bs. HasLargeProperty c fault bs AtEnd) (all_read bytes (rw large.0 at is)) (refl, large.1, large.2, large.3))
+
+  pub judged : (c : Circuit) (r : Result WitnessVerdict Stopped) → Read (WitnessSays c r) (unused (lent input)) now
+      → IfOk r (λ verdict. IsJudged c verdict input)
   judged c (Ok verdict) read =
       let bytes = all_read read.bytes (rw read.says.0 at read.came) in
-      subst (λ bs. IsVerdictFor c bs verdict) bytes (read.says.1.claim, read.says.1.says, read.says.1.is_verdict)
+      subst (λ bs. IsJudged c verdict bs) bytes read.says.1
   judged c (Err fault) read = tt
 
-  pub not_judged : (c : Circuit) (r : Result Verdict Stopped) → Read (ConfirmSays c r) (unused (lent input)) now
-      → IfErr r (StopsInMemory (IsBadWitness c input))
+  pub not_judged : (c : Circuit) (r : Result WitnessVerdict Stopped) → Read (WitnessSays c r) (unused (lent input)) now
+      → IfErr r (StopsInMemory (IsUnjudged c input))
   not_judged c (Ok verdict) read = tt
-  not_judged c (Err (stops.Refused fault)) read =
-      let (line, told, whole, first) = read.says in
-      (line, told, wrong_line c read.bytes read.ending line whole read.came first)
+  not_judged c (Err (stops.Refused fault)) read = unjudged c fault read.bytes read.ending read.came read.says
   not_judged c (Err stopped) read = tt

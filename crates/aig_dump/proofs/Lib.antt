@@ -3,3 +3,4 @@ pub mod Dumps
 pub mod Lents
 pub mod Runs
 pub mod RunDumps
+pub mod RunTexts

@@ -12,38 +12,13 @@ use Rattle.aig_step.specs.Stimulus.{Runs, judged_lines, runs_of, stimulus, text_
 use Rattle.aig_step.specs.TraceText.{IsTraceText, last_stop, rows_text, run_text, values_text}
 use Rattle.aig_step.proofs.StimulusTexts.{stimuli_are_read}
 use Rattle.aig_wave.specs.Wave.{wave_text}
-use Rattle.aig_witness.specs.Witness.{Claim, SaysClaim}
-use Rattle.aig_witness.proofs.WitnessTexts.{witness_files_are_read}
+use Rattle.aig_witness.specs.Witness.{Claim}
+use Rattle.aig_dump.specs.Parts.Showing.{IsRunText}
 use Rattle.aig_claims.specs.RunDump.{IsRunDump, started_in}
 use Rattle.aig_claims.specs.Started.{value_or_x}
 use Rattle.aig_dump.specs.InMemory.{IsDumpFor}
 use Rattle.aig_dump.proofs.Behind.{all_judged}
 use Rattle.aig_claims.proofs.Starting.{trace_from, values_back}
-
--- lines of which three texts are known
-record AreThree (ls : List Line) (text : List ℕ) (texts : List (List ℕ)) : Type 0 where
-  one : Line
-  two : Line
-  three : Line
-  behind : List Line
-  parted : ls ≡ one ∷ two ∷ three ∷ behind
-  third : text_of three ≡ text
-  others : map text_of behind ≡ texts
-
-three_lines : (ls : List Line) (one two text : List ℕ) (texts : List (List ℕ))
-    → map text_of ls ≡ one ∷ two ∷ text ∷ texts → AreThree ls text texts
-three_lines [] one two text texts is = cc
-three_lines (k ∷ []) one two text texts is = cc
-three_lines (k ∷ l ∷ []) one two text texts is = cc
-three_lines (k ∷ l ∷ m ∷ ls) one two text texts is = record {
-  one = k;
-  two = l;
-  three = m;
-  behind = ls;
-  parted = refl;
-  third = cc;
-  others = cc;
-}
 
 -- the traces of one run that has ended are one trace
 one_run : (c : Circuit) (first : List Val) (steps : List (List Val)) (traces : List (List Row)) (last : List Row)
@@ -71,32 +46,27 @@ trace_of_run c st text steps (runs, bad) t =
     let one = one_run c (reset_state c) steps t.traces t.last each last in
     (one.0, one.1, (rw (bad, runs) at t.is) ∙ one.2)
 
-pub run_dumped : (c : Circuit) (claim : Claim) (witness first st run : List ℕ) → SaysClaim c witness claim
-    → ((one two three : Line) (ls : List Line) → lines_of witness ≡ one ∷ two ∷ three ∷ ls
-    → (first ≡ text_of three) × (lines_of st ≡ ls))
+pub run_dumped : (c : Circuit) (claim : Claim) (first st run : List ℕ) → IsRunText c claim first st
     → IsDumpFor (started_in (map value_or_x first) c) st run → IsRunDump c claim run
-run_dumped c claim witness first st run says parted dumped =
-    let file = (witness_files_are_read c witness claim).0 says in
-    let lines = three_lines (lines_of witness) _ _ _ _ file.texts in
-    let known = parted lines.one lines.two lines.three lines.behind lines.parted in
+run_dumped c claim first st run text dumped =
     let d : Circuit = started_in claim.first c in
     let started : started_in (map value_or_x first) c ≡ d =
-    ap (λ vs. started_in vs c) (ap (map value_or_x) (known.0 ∙ lines.third) ∙ values_back claim.first) in
+    ap (λ vs. started_in vs c) (ap (map value_or_x) text.is_first ∙ values_back claim.first) in
     let (trace, is_trace, is) = subst (λ (e : Circuit). IsDumpFor e st run) started dumped in
     let texts : map text_of (judged_lines st true) ≡ map values_text claim.steps ++ codes "." ∷ [] =
-    ap (map text_of) (all_judged (lines_of st) ∙ known.1) ∙ lines.others in
+    ap (map text_of) (all_judged (lines_of st)) ∙ text.are_steps in
     let said = (stimuli_are_read d st true (Said claim.steps) None).1 (record {
       good = map text_of (judged_lines st true);
       behind = [];
       parted = sym (append-nil _);
       lines = texts ∙ sym (append-nil _ ∙ append-nil _);
-      each = (file.each, tt);
+      each = (text.each, tt);
       last = tt;
       next = refl;
     }) in
     let rows = trace_of_run d st trace claim.steps said is_trace in
     record {
       rows = rows.0;
-      trace = trace_from c claim.first claim.steps rows.0 file.starts rows.1;
+      trace = trace_from c claim.first claim.steps rows.0 text.starts rows.1;
       is_dump = is ∙ ap (λ text. wave_text d text true) rows.2;
     }

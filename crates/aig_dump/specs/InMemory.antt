@@ -8,33 +8,23 @@ use Rattle.aig_step.specs.declared.trace.Columns.TheVariants.{Properties}
 use Rattle.aig_step.specs.Outcome.{bad_stimulus, first_bad_line}
 use Rattle.aig_step.specs.TraceText.{IsTraceText}
 use Rattle.aig_wave.specs.Wave.{wave_text}
-use Rattle.aig_claims.specs.RunDump.{IsRunDump}
-use Rattle.aig_witness.specs.declared.verdict.Verdict.{Verdict}
-use Rattle.aig_witness.specs.Confirming.{Judged, bad_witness}
-use Rattle.aig_witness.specs.Witness.{Claim, IsVerdict, SaysClaim, first_bad_witness_line}
+use Rattle.aig_claims.specs.RunDump.{IsShownRun}
+use Rattle.aig_verdicts.specs.Judged.{IsJudged}
+use Rattle.aig_verdicts.specs.declared.verdict.WitnessVerdict.{WitnessVerdict}
 
 -- This line of the stimulus is the first bad one.
 abbrev pub IsBadStimulus : Circuit → (stimulus : List ℕ) → Fault → Type 0
 IsBadStimulus c stimulus fault =
     (line : ℕ) × (fault ≡ bad_stimulus line) × (first_bad_line c stimulus true ≡ Some line)
 
--- This line of the witness file is the first wrong one, or the one that is missing after it.
-abbrev pub IsBadWitness : Circuit → (witness : List ℕ) → Fault → Type 0
-IsBadWitness c witness fault =
-    (line : ℕ) × (fault ≡ bad_witness line) × (first_bad_witness_line c witness true ≡ Some line)
-
 -- these bytes are the dump of the trace of a whole stimulus
 abbrev pub IsDumpFor : Circuit → (stimulus bytes : List ℕ) → Type 0
 IsDumpFor c stimulus bytes =
     (trace : List ℕ) × IsTraceText c Properties stimulus true trace × (bytes ≡ wave_text c trace true)
 
--- the verdict on what a witness file claims of a circuit
-abbrev pub IsVerdictFor : Circuit → (witness : List ℕ) → Verdict → Type 0
-IsVerdictFor c witness verdict = (claim : Claim) × SaysClaim c witness claim × IsVerdict c claim verdict
-
 -- a witness file was judged, and this is the dump of the run that it claims
-abbrev pub JudgedRun : Circuit → Verdict → (witness run : List ℕ) → Type 0
-JudgedRun c verdict witness run = (judged : Judged c verdict witness) × IsRunDump c judged.claim run
+abbrev pub JudgedRun : Circuit → WitnessVerdict → (witness run : List ℕ) → Type 0
+JudgedRun c verdict witness run = (judged : IsJudged c verdict witness) × IsShownRun c judged.claim verdict run
 
 -- The input has a fault of which this holds; or memory was refused, since no device in memory fails for another
 -- reason.

@@ -1,2 +1,3 @@
 pub mod InMemory
 pub mod Dumped
+pub mod Parts

@@ -1,22 +1,22 @@
 //! Verdicts and dumps from bytes to bytes.
 ghost use Rattle.std.specs.Prelude.{◌≡◌, IfErr, IfOk, None, true};
 ghost use Rattle.aig_step.specs.Outcome.{first_bad_line};
-ghost use Rattle.aig_dump.specs.InMemory.{IsBadStimulus, IsBadWitness, IsDumpFor};
-ghost use Rattle.aig_dump.specs.InMemory.{IsVerdictFor, StopsInMemory};
+ghost use Rattle.aig_dump.specs.InMemory.{IsBadStimulus, IsDumpFor, StopsInMemory};
+ghost use Rattle.aig_verdicts.specs.Judged.{IsJudged, IsUnjudged};
 
 use crate::tracing::write_dump;
 use aig_core::{Checked, SliceSource, VecSink};
 use aig_fault::Stopped;
-use aig_witness::{Verdict, confirm};
+use aig_verdicts::{WitnessVerdict, judge_witness};
 use std::alloc::Global;
 
-/// The verdict on a witness file.
-pub fn verdict_on(alloc: Global, found: &Checked, witness: &[u8]) -> Result<Verdict, Stopped>
-    ensures ok { IfOk result (IsVerdictFor found.now witness.now) }
-    ensures err { IfErr result (StopsInMemory (IsBadWitness found.now witness.now)) }
+/// The verdict on a witness file, of a bad state or of a justice property.
+pub fn verdict_on(alloc: Global, found: &Checked, witness: &[u8]) -> Result<WitnessVerdict, Stopped>
+    ensures ok { IfOk result (λ verdict. IsJudged found.now verdict witness.now) }
+    ensures err { IfErr result (StopsInMemory (IsUnjudged found.now witness.now)) }
 {
     let mut source = SliceSource::new(witness)?;
-    let judged = confirm(alloc, found, &mut source);
+    let judged = judge_witness(alloc, found, &mut source);
     source.gives_its_bytes();
     judged
 }

@@ -8,6 +8,7 @@
 #![tactic(auto)]
 
 mod in_memory;
+mod marking;
 mod run_dump;
 mod tracing;
 mod witnessing;

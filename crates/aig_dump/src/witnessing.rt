@@ -8,7 +8,7 @@ ghost use Rattle.aig_dump.specs.InMemory.{JudgedRun};
 use crate::run_dump::{comment_line, judge_and_dump};
 use aig_core::{Checked, DeviceFault, Output, ReadError, Sink, Source, read_all};
 use aig_fault::Stopped;
-use aig_witness::Verdict;
+use aig_verdicts::WitnessVerdict;
 use std::alloc::Global;
 
 /// The bytes of a witness file.
@@ -34,7 +34,7 @@ pub fn read_and_dump<R: Source>(
     alloc: Global,
     found: Checked,
     witness: &mut R,
-) -> Result<(Verdict, Vec<u8>), Stopped>
+) -> Result<(WitnessVerdict, Vec<u8>), Stopped>
     ensures read { Read (λ bytes ending. MatchResult result
         (λ made. (ending ≡ AtEnd) × JudgedRun found made.0 bytes made.1.items)
         (λ stopped. HasNoDump found stopped bytes ending))
@@ -55,7 +55,11 @@ pub fn read_and_dump<R: Source>(
 
 /// Sends the verdict and the dump of a run. It fails only where the sink fails, which then took a
 /// beginning of them.
-pub fn send_dump<W: Sink>(verdict: Verdict, run: &[u8], sink: &mut W) -> Result<(), DeviceFault>
+pub fn send_dump<W: Sink>(
+    verdict: WitnessVerdict,
+    run: &[u8],
+    sink: &mut W,
+) -> Result<(), DeviceFault>
     ensures ok { OnOk result (W.history sink.new
         ≡ took (comment_line verdict ++ run.now) (W.history sink.old)) }
     ensures err { OnErr result

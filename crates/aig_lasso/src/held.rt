@@ -57,6 +57,17 @@ fn are_characters(text: &[u8]) -> bool
     true
 }
 
+/// Whether the text says the inputs of a step that has so many.
+pub fn says_step(text: &[u8], inputs: usize) -> bool
+    ensures { vector_in inputs text.now
+        ≡ (if result then Some (map value_held text.now) else None) }
+{
+    if text.len() != inputs {
+        return false;
+    }
+    are_characters(text)
+}
+
 impl HeldRun {
     /// A run without steps, of so many inputs, from the state that the text says, if it says one.
     pub fn from_state(
@@ -87,10 +98,7 @@ impl HeldRun {
         ensures stays { result ≡ Ok false → self.new ≡ self.old }
         ensures err { OnErr result (self.new ≡ self.old) }
     {
-        if text.len() != self.inputs {
-            return Ok(false);
-        }
-        if !are_characters(text) {
+        if !says_step(text, self.inputs) {
             return Ok(false);
         }
         let Some(count) = self.count.checked_add(1) else {

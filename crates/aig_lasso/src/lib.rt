@@ -15,6 +15,6 @@ mod start;
 mod verdict;
 
 pub use crate::goals::{count_goals, with_goals};
-pub use crate::held::HeldRun;
+pub use crate::held::{HeldRun, says_step};
 pub use crate::judge::judge_lasso;
 pub use crate::verdict::LassoVerdict;

@@ -170,7 +170,7 @@ module _ (inputs : Inputs) where
           selected = selected;
           is_model = is_model;
           none = is.none has.found (well_formed_file inputs.model.now max_var has.found has.read)
-              has.is_unrolled.has_bad is_model.selected_is;
+              has.is_unrolled.has_property is_model.selected_is;
         }
 
     pub none_refused : (fault : Fault)
@@ -230,7 +230,7 @@ module _ (inputs : Inputs) where
           is_model = is_model;
           is_strengthened = is;
           never = shown.never has.found inputs.file.now is.cubes
-              (well_formed_file inputs.model.now max_var has.found has.read) has.is_unrolled.has_bad
+              (well_formed_file inputs.model.now max_var has.found has.read) has.is_unrolled.has_property
               (subst (λ c. HasCubes c inputs.file.now is.cubes) is_model.selected_is is.has_cubes)
               (subst (λ c. strengthened ≡ with_invariant is.cubes c) is_model.selected_is is.strengthened_is);
         }

@@ -7,20 +7,23 @@ use Rattle.aig_command.specs.declared.request.Miter.{Miter}
 use Rattle.aig_command.specs.declared.request.Reach.{Reach}
 use Rattle.aig_command.specs.declared.request.Sim.{Sim}
 use Rattle.aig_command.specs.declared.request.SolverFile.TheVariants.{Answer, Refutation}
-use Rattle.aig_witness.specs.declared.verdict.Verdict.{Verdict}
+use Rattle.aig_claims.specs.RunDump.{IsUndumped}
+use Rattle.aig_lasso.specs.declared.verdict.LassoVerdict.TheVariants as lassos
+use Rattle.aig_verdicts.specs.Judged.{IsUnjudged}
+use Rattle.aig_verdicts.specs.declared.verdict.WitnessVerdict.{WitnessVerdict}
+use Rattle.aig_verdicts.specs.declared.verdict.WitnessVerdict.TheVariants.{BadState, Justice}
 use Rattle.aig_witness.specs.declared.verdict.Verdict.TheVariants.{Confirmed, NotConfirmed}
-use Rattle.aig_dump.specs.InMemory.{IsBadStimulus, IsBadWitness}
+use Rattle.aig_dump.specs.InMemory.{IsBadStimulus}
 use Rattle.aig_fault.specs.declared.fault.Fault.{Fault}
 use Rattle.aig_fault.specs.declared.stopped.Stopped.TheVariants as stops
-use Rattle.aig_invariant.specs.Laws.{IsNever}
 use Rattle.aig_commands.specs.Comparing.{IsFirst, IsMiterText, NotFirst, NotMiter}
 use Rattle.aig_commands.specs.Conversion.{IsConversionRefused, IsConversionText}
 use Rattle.aig_commands.specs.File.{IsFileOf}
-use Rattle.aig_commands.specs.Proving.{IsInvariantModel, IsInvariantText, IsStrengthened, NotInvariantModel}
+use Rattle.aig_commands.specs.Proving.{IsInvariantModel, IsInvariantText, IsStrengthened, NoRunHas, NotInvariantModel}
 use Rattle.aig_commands.specs.Proving.{NotStrengthened}
 use Rattle.aig_commands.specs.Reaching.{IsModelRefused, IsReachRefused, IsReachText, IsSelectedModel}
 use Rattle.aig_commands.specs.Reading.{IsUnreadable}
-use Rattle.aig_commands.specs.Refuting.{IsNoneWithin, NotRefuted}
+use Rattle.aig_commands.specs.Refuting.{NoRunHasWithin, NotRefuted}
 use Rattle.aig_commands.specs.Simulation.{IsWrittenText}
 use Rattle.aig_commands.specs.Unrolling.{IsUnrollingRefused, IsUnrollingText}
 use Rattle.aig_commands.specs.WitnessDump.{IsWitnessDumpText}
@@ -79,9 +82,9 @@ UnrollAnswers options frames max_var input =
     TextAnswers (CanUnroll options frames max_var) (IsUnrollingText request input)
     (λ fault. IsUnrollingRefused request fault input)
 
-abbrev pub ClausesAnswers : (bad frames max_var : ℕ) (input before after : List ℕ) → Outcome → Type 0
-ClausesAnswers bad frames max_var input =
-    let request = clauses bad frames max_var in
+abbrev pub ClausesAnswers : (property frames max_var : ℕ) (input before after : List ℕ) → Outcome → Type 0
+ClausesAnswers property frames max_var input =
+    let request = clauses property frames max_var in
     TextAnswers (CanReach frames max_var) (IsUnrollingText request input)
     (λ fault. IsUnrollingRefused request fault input)
 
@@ -97,16 +100,16 @@ IsAnswerRefused request model answer fault =
     IsModelRefused request fault model
     ⊎ ((selected : Circuit) × IsSelectedModel request model selected × IsReachRefused request selected fault answer)
 
-abbrev pub ReachAnswers : (bad frames max_var : ℕ) (model answer before after : List ℕ) → Outcome → Type 0
-ReachAnswers bad frames max_var model answer =
-    let request = reaching Answer bad frames max_var in
+abbrev pub ReachAnswers : (property frames max_var : ℕ) (model answer before after : List ℕ) → Outcome → Type 0
+ReachAnswers property frames max_var model answer =
+    let request = reaching Answer property frames max_var in
     TextAnswers (CanReach frames max_var) (IsAnswerText request model answer) (IsAnswerRefused request model answer)
 
 -- No claim of the model, of the selected bad state, is confirmed within so many frames.
 pub record IsNoneWithinModel (request : Reach) (model : List ℕ) : Type 0 where
   pub selected : Circuit
   pub is_model : IsSelectedModel request model selected
-  pub none : IsNoneWithin is_model.has_clauses.found request.bad request.frames
+  pub none : NoRunHasWithin is_model.has_clauses.found request.property request.frames
 
 -- That is not known for this reason: the model has no clauses, or the refutation does not show it.
 abbrev pub IsNoneRefused : Reach → (model refutation : List ℕ) → Fault → Type 0
@@ -115,9 +118,9 @@ IsNoneRefused request model refutation fault =
     ⊎ ((selected : Circuit) × IsSelectedModel request model selected
     × NotRefuted request.lrat selected request.frames refutation fault)
 
-abbrev pub RefuteAnswers : (bad frames max_var : ℕ) (model refutation : List ℕ) → Outcome → Type 0
-RefuteAnswers bad frames max_var model refutation =
-    let request = reaching Refutation bad frames max_var in
+abbrev pub RefuteAnswers : (property frames max_var : ℕ) (model refutation : List ℕ) → Outcome → Type 0
+RefuteAnswers property frames max_var model refutation =
+    let request = reaching Refutation property frames max_var in
     ShowAnswers (CanReach frames max_var) (IsNoneWithinModel request model)
     (IsNoneRefused request model refutation)
 
@@ -133,9 +136,9 @@ IsProvingRefused request model invariant fault =
     NotInvariantModel request fault model
     ⊎ ((selected : Circuit) × IsInvariantModel request model selected × NotStrengthened selected fault invariant)
 
-abbrev pub InvariantAnswers : (bad max_var : ℕ) (model invariant before after : List ℕ) → Outcome → Type 0
-InvariantAnswers bad max_var model invariant =
-    let request = proving false bad max_var in
+abbrev pub InvariantAnswers : (property max_var : ℕ) (model invariant before after : List ℕ) → Outcome → Type 0
+InvariantAnswers property max_var model invariant =
+    let request = proving false property max_var in
     TextAnswers (max_var ≤ largest_index) (IsProvingText request model invariant)
     (IsProvingRefused request model invariant)
 
@@ -145,7 +148,7 @@ pub record IsNeverOfModel (request : Invariant) (model invariant : List ℕ) : T
   pub strengthened : Circuit
   pub is_model : IsInvariantModel request model selected
   pub is_strengthened : IsStrengthened selected invariant strengthened
-  pub never : IsNever is_model.has_clauses.found request.bad
+  pub never : NoRunHas is_model.has_clauses.found request.property
 
 -- That is not known for this reason: there are no clauses, or the refutation does not show it.
 abbrev pub IsNeverRefused : Invariant → (model invariant refutation : List ℕ) → Fault → Type 0
@@ -154,9 +157,9 @@ IsNeverRefused request model invariant refutation fault =
     ⊎ ((selected strengthened : Circuit) × IsInvariantModel request model selected
     × IsStrengthened selected invariant strengthened × NotRefuted request.lrat strengthened 1 refutation fault)
 
-abbrev pub NeverAnswers : (bad max_var : ℕ) (model invariant refutation : List ℕ) → Outcome → Type 0
-NeverAnswers bad max_var model invariant refutation =
-    let request = proving true bad max_var in
+abbrev pub NeverAnswers : (property max_var : ℕ) (model invariant refutation : List ℕ) → Outcome → Type 0
+NeverAnswers property max_var model invariant refutation =
+    let request = proving true property max_var in
     ShowAnswers (max_var ≤ largest_index) (IsNeverOfModel request model invariant)
     (IsNeverRefused request model invariant refutation)
 
@@ -198,30 +201,39 @@ SimulateAnswers options max_var model stimulus =
 abbrev pub IsWitnessRefused : Sim → (model witness : List ℕ) → Fault → Type 0
 IsWitnessRefused request model witness fault =
     IsUnreadable request.max_var fault model
-    ⊎ ((found : Circuit) × IsFileOf model request.max_var found × IsBadWitness found witness fault)
+    ⊎ ((found : Circuit) × IsFileOf model request.max_var found × IsUnjudged found witness fault)
+
+-- it has no dump for this reason
+abbrev pub IsDumpRefused : Sim → (model witness : List ℕ) → Fault → Type 0
+IsDumpRefused request model witness fault =
+    IsUnreadable request.max_var fault model
+    ⊎ ((found : Circuit) × IsFileOf model request.max_var found × IsUndumped found witness fault)
 
 -- the outcome of a verdict, with a text of so many bytes
-abbrev pub verdict_outcome : Verdict → (length : ℕ) → Outcome
-verdict_outcome (Confirmed step) length = ending numbers.done step length
-verdict_outcome NotConfirmed length = ending numbers.not_confirmed 0 length
+abbrev pub verdict_outcome : WitnessVerdict → (length : ℕ) → Outcome
+verdict_outcome (BadState (Confirmed step)) length = ending numbers.done step length
+verdict_outcome (BadState NotConfirmed) length = ending numbers.not_confirmed 0 length
+verdict_outcome (Justice (lassos.Confirmed start)) length = ending numbers.done start length
+verdict_outcome (Justice lassos.NotConfirmed) length = ending numbers.not_confirmed 0 length
 
 abbrev pub WitnessAnswers : (max_var : ℕ) (model witness : List ℕ) → Outcome → Type 0
 WitnessAnswers max_var model witness outcome =
     let request = simulation 0 max_var in
     Answers (max_var ≤ largest_index)
-    ((verdict : Verdict) × IsWitnessAnswer request model witness verdict × (outcome ≡ verdict_outcome verdict 0))
+    ((verdict : WitnessVerdict) × IsWitnessAnswer request model witness verdict × (outcome ≡ verdict_outcome verdict 0))
     (IsWitnessRefused request model witness) ⊤ outcome
 
 -- there is a verdict and a dump, which is put into the output where there is room for it; then the outcome tells both
 pub record Dumped (request : Sim) (model witness before after : List ℕ) (outcome : Outcome) : Type 0 where
-  pub verdict : Verdict
+  pub verdict : WitnessVerdict
   pub text : List ℕ
   pub is_dump : IsWitnessDumpText request model witness verdict text
   pub placed : IsPlacedAs (verdict_outcome verdict) text before after outcome
 
--- There is a dump exactly where there is a verdict. Without a dump the output is as it was.
+-- There is a dump where there is a verdict, and a variable is left for the mark of a loop. Without a dump the output is
+-- as it was.
 abbrev pub DumpAnswers : (max_var : ℕ) (model witness before after : List ℕ) → Outcome → Type 0
 DumpAnswers max_var model witness before after outcome =
     let request = simulation 0 max_var in
     Answers (max_var ≤ largest_index) (Dumped request model witness before after outcome)
-    (IsWitnessRefused request model witness) (after ≡ before) outcome
+    (IsDumpRefused request model witness) (after ≡ before) outcome

@@ -1,11 +1,14 @@
 -- What the numbers ask for that a call is given (this project's interface for C). Each option is a bit.
-use Rattle.std.specs.Prelude.{◌≡◌, ◌≤◌, ◌==◌, ◌+◌, ℕ, Bool, true, false, not, Option, None, Some, bit_and, bit_or}
+use Rattle.std.specs.Prelude.{◌≡◌, ◌≤◌, ◌==◌, ◌+◌, ◌-◌, ℕ, Bool, true, false, not, bit_and, bit_or, nat_le}
 use Rattle.std.specs.Prelude.{if◌then◌else◌}
 use Rattle.aig_command.specs.Aiger.{largest_index, most_frames}
 use Rattle.aig_command.specs.Answer.{HasFrames, IsDumpAlone, IsKeptAlone, IsWithoutMap}
 use Rattle.aig_command.specs.declared.request.BadStates.TheVariants.{Justice, Kept, Outputs}
 use Rattle.aig_command.specs.declared.request.Invariant.{Invariant}
 use Rattle.aig_command.specs.declared.request.Miter.{Miter}
+use Rattle.aig_command.specs.declared.request.Property.{Property}
+use Rattle.aig_command.specs.declared.request.Property.TheVariants.{AnyBad, Bad}
+use Rattle.aig_command.specs.declared.request.Property.TheVariants as properties
 use Rattle.aig_command.specs.declared.request.Reach.{Reach}
 use Rattle.aig_command.specs.declared.request.SolverFile.{SolverFile}
 use Rattle.aig_command.specs.declared.request.Sim.{Sim}
@@ -50,30 +53,33 @@ unrolling options frames max_var = record {
   max_var = max_var;
 }
 
--- the number of the selected bad state alone, unless it is all of them
-abbrev pub selected_bad : ℕ → Option ℕ
-selected_bad bad = if bad == numbers.all_bad then None else Some bad
+-- the property of this number: all bad states, a justice property, or one bad state
+abbrev pub selected : ℕ → Property
+selected property =
+    if property == numbers.all_bad then AnyBad
+    else if nat_le numbers.justice property then properties.Justice (property - numbers.justice)
+    else Bad property
 
-abbrev pub clauses : (bad frames max_var : ℕ) → Unroll
-clauses bad frames max_var = record {
+abbrev pub clauses : (property frames max_var : ℕ) → Unroll
+clauses property frames max_var = record {
   frames = frames;
-  form = Clauses (selected_bad bad);
+  form = Clauses (selected property);
   max_var = max_var;
 }
 
-abbrev pub reaching : SolverFile → (bad frames max_var : ℕ) → Reach
-reaching wrote bad frames max_var = record {
+abbrev pub reaching : SolverFile → (property frames max_var : ℕ) → Reach
+reaching wrote property frames max_var = record {
   frames = frames;
-  bad = selected_bad bad;
+  property = selected property;
   max_var = max_var;
   wrote = wrote;
   lrat = false;
 }
 
 -- an invariant: its clauses, or that a refutation of them is right
-abbrev pub proving : (refuted : Bool) (bad max_var : ℕ) → Invariant
-proving refuted bad max_var = record {
-  bad = selected_bad bad;
+abbrev pub proving : (refuted : Bool) (property max_var : ℕ) → Invariant
+proving refuted property max_var = record {
+  property = selected property;
   max_var = max_var;
   refuted = refuted;
   lrat = false;
@@ -96,9 +102,9 @@ simulation options max_var = record {
 }
 
 -- Which numbers can be met: only known options are given, the limit is at most the largest index, a map is kept in
--- binary and alone, outputs and justice properties become bad states without a map, there are as many frames as can be unrolled, also for
--- clauses and what is written on them, and a dump is asked for without the properties. Arrays are read with one option,
--- and written with one.
+-- binary and alone, outputs and justice properties become bad states without a map, there are as many frames as can be
+-- unrolled, also for clauses and what is written on them, and a dump is asked for without the properties. Arrays are read
+-- with one option, and written with one.
 abbrev pub CanConvert : (options max_var : ℕ) → Type 0
 CanConvert options max_var =
     OnlyHas options (numbers.ascii + numbers.strip + numbers.keep_map + numbers.undo_map + numbers.outputs_as_bad)

@@ -82,3 +82,7 @@ by_name = 256
 -- in the place of the number of a bad state: all of them
 abbrev pub all_bad : ℕ
 all_bad = 4294967295
+
+-- with the number of a justice property added: that property in the place of a bad state
+abbrev pub justice : ℕ
+justice = 2147483648

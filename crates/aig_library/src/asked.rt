@@ -1,9 +1,11 @@
 //! What is asked for, by numbers: each option is a bit.
 ghost use Rattle.std.specs.Prelude.{◌≡◌, ◌↔◌, IsTrue};
 ghost use Rattle.aig_library.specs.Asked.{clauses, comparison, conversion, has, justice_conversion};
-ghost use Rattle.aig_library.specs.Asked.{OnlyHas, proving, reaching, selected_bad, unrolling};
+ghost use Rattle.aig_library.specs.Asked.{OnlyHas, proving, reaching, selected, unrolling};
 
-use aig_command::{BadStates, Invariant, Miter, Reach, SolverFile, ToAig, Unroll, UnrolledForm};
+use aig_command::{
+    BadStates, Invariant, Miter, Property, Reach, SolverFile, ToAig, Unroll, UnrolledForm,
+};
 
 /// ASCII is written, and not binary.
 pub const ASCII: u32 = 1;
@@ -34,6 +36,9 @@ pub const BY_NAME: u32 = 256;
 
 /// All bad states, in the place of the number of one.
 pub const ALL_BAD: u32 = 0xFFFF_FFFF;
+
+/// With the number of a justice property added, that property in the place of a bad state.
+pub const JUSTICE: u32 = 0x8000_0000;
 
 /// Whether this option is among the options.
 pub(crate) fn has(options: u32, option: u32) -> bool
@@ -97,33 +102,39 @@ pub(crate) fn unrolling(options: u32, frames: u32, max_var: u32) -> Unroll
     }
 }
 
-/// The selected bad state alone.
-fn selected_bad(bad: u32) -> Option<u32>
-    ensures { result ≡ selected_bad bad }
+/// The property of this number: all bad states, a justice property, or one bad state.
+fn selected(property: u32) -> Property
+    ensures { result ≡ selected property }
 {
-    if bad == ALL_BAD { None } else { Some(bad) }
+    if property == ALL_BAD {
+        Property::AnyBad
+    } else if property >= JUSTICE {
+        Property::Justice(property - JUSTICE)
+    } else {
+        Property::Bad(property)
+    }
 }
 
 /// The clauses that are asked for.
-pub(crate) fn clauses(bad: u32, frames: u32, max_var: u32) -> Unroll
-    ensures { result ≡ clauses bad frames max_var }
+pub(crate) fn clauses(property: u32, frames: u32, max_var: u32) -> Unroll
+    ensures { result ≡ clauses property frames max_var }
 {
     Unroll {
         frames,
         form: UnrolledForm::Clauses {
-            bad: selected_bad(bad),
+            property: selected(property),
         },
         max_var,
     }
 }
 
 /// The request for what a solver wrote on these clauses.
-pub(crate) fn reaching(wrote: SolverFile, bad: u32, frames: u32, max_var: u32) -> Reach
-    ensures { result ≡ reaching wrote bad frames max_var }
+pub(crate) fn reaching(wrote: SolverFile, property: u32, frames: u32, max_var: u32) -> Reach
+    ensures { result ≡ reaching wrote property frames max_var }
 {
     Reach {
         frames,
-        bad: selected_bad(bad),
+        property: selected(property),
         max_var,
         wrote,
         lrat: false,
@@ -132,11 +143,11 @@ pub(crate) fn reaching(wrote: SolverFile, bad: u32, frames: u32, max_var: u32) -
 
 /// The request for the clauses in which an invariant is to be shown, or for a check of their
 /// refutation.
-pub(crate) fn proving(refuted: bool, bad: u32, max_var: u32) -> Invariant
-    ensures { result ≡ proving refuted bad max_var }
+pub(crate) fn proving(refuted: bool, property: u32, max_var: u32) -> Invariant
+    ensures { result ≡ proving refuted property max_var }
 {
     Invariant {
-        bad: selected_bad(bad),
+        property: selected(property),
         max_var,
         refuted,
         lrat: false,

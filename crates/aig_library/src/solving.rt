@@ -12,17 +12,18 @@ use aig_core::LARGEST;
 use std::alloc::Global;
 
 /// Writes the witness in a solver's answer on the clauses that `write_clauses` writes of this model
-/// by these numbers: of the run by the values of the answer, up to the first bad state.
+/// by these numbers: of the run by the values of the answer, up to the first bad state; or of a
+/// lasso, for a justice property.
 pub fn reach(
     alloc: Global,
-    bad: u32,
+    property: u32,
     frames: u32,
     max_var: u32,
     model: &[u8],
     solved: &[u8],
     output: &mut [u8],
 ) -> Outcome
-    ensures { ReachAnswers bad frames max_var model.now solved.now output.old output.new result }
+    ensures { ReachAnswers property frames max_var model.now solved.now output.old output.new result }
 {
     if !can_reach(frames, max_var) {
         return ending(BAD_OPTIONS, 0, 0);
@@ -32,22 +33,23 @@ pub fn reach(
         file: solved,
         refutation: b"",
     };
-    let request = reaching(SolverFile::Answer, bad, frames, max_var);
+    let request = reaching(SolverFile::Answer, property, frames, max_var);
     let job = Job::Read(Reading::Reach(request));
     answer(run_in_memory(alloc, &inputs, job), output)
 }
 
 /// Checks a solver's refutation of the clauses that `write_clauses` writes of this model by these
-/// numbers. The status is `DONE` where no run of so many steps reaches a bad state.
+/// numbers. The status is `DONE` where no run of so many steps reaches a bad state, or no lasso has
+/// fewer.
 pub fn refute(
     alloc: Global,
-    bad: u32,
+    property: u32,
     frames: u32,
     max_var: u32,
     model: &[u8],
     refutation: &[u8],
 ) -> Outcome
-    ensures { RefuteAnswers bad frames max_var model.now refutation.now result }
+    ensures { RefuteAnswers property frames max_var model.now refutation.now result }
 {
     if !can_reach(frames, max_var) {
         return ending(BAD_OPTIONS, 0, 0);
@@ -57,7 +59,7 @@ pub fn refute(
         file: refutation,
         refutation: b"",
     };
-    let request = reaching(SolverFile::Refutation, bad, frames, max_var);
+    let request = reaching(SolverFile::Refutation, property, frames, max_var);
     let job = Job::Read(Reading::Reach(request));
     answer_shown(run_in_memory(alloc, &inputs, job))
 }
@@ -67,13 +69,13 @@ pub fn refute(
 /// `ALL_BAD`.
 pub fn invariant_clauses(
     alloc: Global,
-    bad: u32,
+    property: u32,
     max_var: u32,
     model: &[u8],
     invariant: &[u8],
     output: &mut [u8],
 ) -> Outcome
-    ensures { InvariantAnswers bad max_var model.now invariant.now output.old output.new result }
+    ensures { InvariantAnswers property max_var model.now invariant.now output.old output.new result }
 {
     if max_var > LARGEST {
         return ending(BAD_OPTIONS, 0, 0);
@@ -83,21 +85,22 @@ pub fn invariant_clauses(
         file: invariant,
         refutation: b"",
     };
-    let job = Job::Read(Reading::Invariant(proving(false, bad, max_var)));
+    let job = Job::Read(Reading::Invariant(proving(false, property, max_var)));
     answer(run_in_memory(alloc, &inputs, job), output)
 }
 
 /// Checks a solver's refutation of the clauses that `invariant_clauses` writes of this model and
-/// this invariant by these numbers. The status is `DONE` where no run ever reaches a bad state.
+/// this invariant by these numbers. The status is `DONE` where no run ever reaches a bad state, or
+/// none is fair to the justice property.
 pub fn never(
     alloc: Global,
-    bad: u32,
+    property: u32,
     max_var: u32,
     model: &[u8],
     invariant: &[u8],
     refutation: &[u8],
 ) -> Outcome
-    ensures { NeverAnswers bad max_var model.now invariant.now refutation.now result }
+    ensures { NeverAnswers property max_var model.now invariant.now refutation.now result }
 {
     if max_var > LARGEST {
         return ending(BAD_OPTIONS, 0, 0);
@@ -107,6 +110,6 @@ pub fn never(
         file: invariant,
         refutation,
     };
-    let job = Job::Read(Reading::Invariant(proving(true, bad, max_var)));
+    let job = Job::Read(Reading::Invariant(proving(true, property, max_var)));
     answer_shown(run_in_memory(alloc, &inputs, job))
 }

@@ -129,13 +129,13 @@ pub(crate) fn can_reach(frames: u32, max_var: u32) -> bool
 /// many frames: that of this number, or any of them for `ALL_BAD`.
 pub fn write_clauses(
     alloc: Global,
-    bad: u32,
+    property: u32,
     frames: u32,
     max_var: u32,
     input: &[u8],
     output: &mut [u8],
 ) -> Outcome
-    ensures { ClausesAnswers bad frames max_var input.now output.old output.new result }
+    ensures { ClausesAnswers property frames max_var input.now output.old output.new result }
 {
     if !can_reach(frames, max_var) {
         return ending(BAD_OPTIONS, 0, 0);
@@ -145,6 +145,6 @@ pub fn write_clauses(
         file: b"",
         refutation: b"",
     };
-    let job = Job::Read(Reading::Unroll(clauses(bad, frames, max_var)));
+    let job = Job::Read(Reading::Unroll(clauses(property, frames, max_var)));
     answer(run_in_memory(alloc, &inputs, job), output)
 }

@@ -10,11 +10,18 @@ use crate::simulation::circuit_of;
 use aig_commands::Stopped;
 use aig_core::LARGEST;
 use aig_dump::verdict_on;
+use aig_lasso::LassoVerdict;
+use aig_verdicts::WitnessVerdict;
 use aig_witness::Verdict;
 use std::alloc::Global;
 
 /// The verdict on a witness file for the circuit of a model.
-fn verdict(alloc: Global, max_var: u32, model: &[u8], witness: &[u8]) -> Result<Verdict, Stopped>
+fn verdict(
+    alloc: Global,
+    max_var: u32,
+    model: &[u8],
+    witness: &[u8],
+) -> Result<WitnessVerdict, Stopped>
     ensures ok { IfOk result (IsWitnessAnswer (simulation 0 max_var) model.now witness.now) }
     ensures err { IfErr result (StopsInMemory
         (IsWitnessRefused (simulation 0 max_var) model.now witness.now)) }
@@ -26,17 +33,19 @@ fn verdict(alloc: Global, max_var: u32, model: &[u8], witness: &[u8]) -> Result<
 }
 
 /// The outcome of a verdict, with a text of so many bytes.
-pub(crate) fn verdict_outcome(verdict: Verdict, length: u64) -> Outcome
+pub(crate) fn verdict_outcome(verdict: WitnessVerdict, length: u64) -> Outcome
     ensures { result ≡ verdict_outcome verdict length }
 {
     match verdict {
-        Verdict::Confirmed(step) => ending(DONE, step, length),
-        Verdict::NotConfirmed => ending(NOT_CONFIRMED, 0, length),
+        WitnessVerdict::BadState(Verdict::Confirmed(step))
+        | WitnessVerdict::Justice(LassoVerdict::Confirmed(step)) => ending(DONE, step, length),
+        _ => ending(NOT_CONFIRMED, 0, length),
     }
 }
 
-/// Judges a witness file for the circuit of an AIGER file. The status is `DONE`, with the step, or
-/// `NOT_CONFIRMED`, where all of it is right. The largest index and the counts of the model are at
+/// Judges a witness file, of a bad state or of a justice property, for the circuit of an AIGER file.
+/// The status is `DONE`, with the step that is bad or at which a loop begins, or `NOT_CONFIRMED`,
+/// where all of it is right. The largest index and the counts of the model are at
 /// most `max_var`.
 pub fn witness(alloc: Global, max_var: u32, model: &[u8], witness: &[u8]) -> Outcome
     ensures { WitnessAnswers max_var model.now witness.now result }

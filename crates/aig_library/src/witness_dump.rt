@@ -1,7 +1,7 @@
 //! Dumps of witnesses from bytes to bytes.
 ghost use Rattle.std.specs.Prelude.{◌++◌, IfErr, IfOk, string_bytes};
 ghost use Rattle.aig_commands.specs.WitnessDump.{IsWitnessDumpText};
-ghost use Rattle.aig_library.specs.Answers.{DumpAnswers, IsWitnessRefused, verdict_outcome};
+ghost use Rattle.aig_library.specs.Answers.{DumpAnswers, IsDumpRefused, verdict_outcome};
 ghost use Rattle.aig_library.specs.Asked.{simulation};
 ghost use Rattle.aig_library.specs.Outcome.{IsPlacedAs, StopsInMemory};
 
@@ -11,7 +11,7 @@ use crate::verdicts::verdict_outcome;
 use aig_commands::Stopped;
 use aig_core::LARGEST;
 use aig_dump::{comment_line, judge_and_dump};
-use aig_witness::Verdict;
+use aig_verdicts::WitnessVerdict;
 use std::alloc::Global;
 
 /// The verdict on a witness file for the circuit of a model, the same as a comment, and the dump of
@@ -21,12 +21,12 @@ fn verdict_and_dump(
     max_var: u32,
     model: &[u8],
     witness: &[u8],
-) -> Result<(Verdict, String, Vec<u8>), Stopped>
+) -> Result<(WitnessVerdict, String, Vec<u8>), Stopped>
     ensures ok { IfOk result (λ made.
         IsWitnessDumpText (simulation 0 max_var) model.now witness.now made.0
         (string_bytes made.1 ++ made.2.items)) }
     ensures err { IfErr result (StopsInMemory
-        (IsWitnessRefused (simulation 0 max_var) model.now witness.now)) }
+        (IsDumpRefused (simulation 0 max_var) model.now witness.now)) }
 {
     let found = circuit_of(alloc, max_var, model)?;
     let (verdict, run) = judge_and_dump(alloc, found, witness)?;
@@ -40,7 +40,7 @@ fn verdict_and_dump(
 }
 
 /// Puts a comment and a run after it at the front of the output, where there is room for both.
-fn place_texts(verdict: Verdict, comment: &[u8], run: &[u8], output: &mut [u8]) -> Outcome
+fn place_texts(verdict: WitnessVerdict, comment: &[u8], run: &[u8], output: &mut [u8]) -> Outcome
     ensures { IsPlacedAs (verdict_outcome verdict) (comment.now ++ run.now)
         output.old output.new result }
 {

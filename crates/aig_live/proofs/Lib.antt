@@ -4,3 +4,4 @@ pub mod Made
 pub mod Back
 pub mod Formed
 pub mod Never
+pub mod Lassos

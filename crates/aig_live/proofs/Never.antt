@@ -1,7 +1,7 @@
 -- A fair run leads the circuit with a loop to its bad state, since among enough states, with all goals met between any
 -- two, two are the same.
-use Rattle.std.proofs.Common.{◌≡◌, ◌+◌, ◌*◌, ◌<◌, ◌≤◌, ◌++◌, ◌∙◌, ℕ, zero, suc, List, [], ◌∷◌, ap, ap₂, arith, get_or}
-use Rattle.std.proofs.Common.{inl, inr, length, map, refl, subst, sym}
+use Rattle.std.proofs.Common.{◌≡◌, ◌≢◌, ◌+◌, ◌-◌, ◌*◌, ◌<◌, ◌≤◌, ◌++◌, ◌∙◌, ℕ, zero, suc, List, [], ◌∷◌, ap, ap₂, arith}
+use Rattle.std.proofs.Common.{get_or, inl, inr, length, map, refl, slice_index_or, subst, sym}
 use Rattle.std.specs.List.{All, AllByRecursion, AllZip}
 use Rattle.std.proofs.lemmas.Bool.{cases_lt}
 use Rattle.std.proofs.lemmas.List.{length-append, length-map}
@@ -32,8 +32,9 @@ use Rattle.aig_witness.specs.Witness.{Claim, IsBad, IsConfirmedAt, IsHeld, IsVer
 use Rattle.aig_witness.proofs.Verdicts.{claims_have_files, one_verdict}
 use Rattle.aig_lasso.specs.Endless.{IsFairRun}
 use Rattle.aig_lasso.specs.Goals.{with_goals}
+use Rattle.aig_lasso.specs.Laws.{GoesRound}
 use Rattle.aig_lasso.proofs.Round.{lassos_are_fair_runs}
-use Rattle.aig_live.specs.Laws.{LivenessIsSafety, NeverMeansNoFairRun, lasso_of}
+use Rattle.aig_live.specs.Laws.{LassosAreConfirmed, LivenessIsSafety, NeverMeansNoFairRun, lasso_of}
 use Rattle.aig_live.specs.Values.{either, here_value, kept_values, noted_values, same_values}
 use Rattle.aig_live.specs.WithLoop.{copying, first_copied, first_copy, first_met, first_noted, noting, save, with_loop}
 use Rattle.aig_live.proofs.Back.{IsOne, confirmed_means_lasso, kept_long, kept_one, kept_zero, noted_long, resets_are}
@@ -351,13 +352,13 @@ pulse_behind (suc p) zero less = absurd (omega (arith, less))
 pulse_behind (suc p) (suc t) less = pulse_behind p t (omega (arith, less))
 
 module _ (d : Circuit) (formed : IsWellFormed d) (formed_too : IsWellFormed (with_loop d)) (rows : ℕ → Row)
-    (run : IsSureRun d rows) (p q : ℕ) (order : p < q) (same : (rows q).state ≡ (rows p).state)
+    (fair : IsFairRun d rows) (p q : ℕ) (sure_knot : AllByRecursion IsSure (rows p).state) (order : p < q) (same : (rows q).state ≡ (rows p).state)
     (between : (k : ℕ) → k < length d.bad → (t : ℕ) × (p ≤ t) × (t < q) × IsBad k (rows t)) where
   abbrev knot : List Val
   knot = (rows p).state
 
   long : (t : ℕ) → length (rows t).state ≡ length d.latches
-  long t = state_length d (rows t) (run.fair.endless.each t)
+  long t = state_length d (rows t) (fair.endless.each t)
 
   record IsGood (t : ℕ) (state : List Val) : Type 0 where
     pub e : Val
@@ -379,15 +380,15 @@ module _ (d : Circuit) (formed : IsWellFormed d) (formed_too : IsWellFormed (wit
     step : IsStep d r (rows t).inputs v_now (rows t).state good.e good.qs good.ms
     step =
         made_step d r (rows t).inputs v_now (rows t).state good.e good.qs good.ms is_row given
-        (inputs_length d (rows t) (run.fair.endless.each t)) (at ∙ good.is) (long t) good.copies_long
+        (inputs_length d (rows t) (fair.endless.each t)) (at ∙ good.is) (long t) good.copies_long
 
     base_is : step.base ≡ rows t
-    base_is = rows_same d formed step.base (rows t) step.is_row (run.fair.endless.each t) step.state step.inputs
+    base_is = rows_same d formed step.base (rows t) step.is_row (fair.endless.each t) step.state step.inputs
 
     now_held : IsHeld r
     now_held =
         subst (λ (cs : List Val). All IsOne cs) (ap (λ (b : Row). b.constraints) (sym base_is) ∙ step.constraints)
-        (run.fair.held t)
+        (fair.held t)
 
     abbrev i_now : Val
     i_now = either good.e v_now
@@ -429,7 +430,7 @@ module _ (d : Circuit) (formed : IsWellFormed d) (formed_too : IsWellFormed (wit
     ]
 
     as_many : length (rows t).bad ≡ length good.ms
-    as_many = bad_length d (rows t) (run.fair.endless.each t) ∙ sym good.many
+    as_many = bad_length d (rows t) (fair.endless.each t) ∙ sym good.many
 
     met_next : (k u : ℕ) → p ≤ u → u < suc t → IsBad k (rows u)
         → get_or (noted_values i_now (rows t).bad good.ms) k Zero ≡ One
@@ -449,7 +450,7 @@ module _ (d : Circuit) (formed : IsWellFormed d) (formed_too : IsWellFormed (wit
       is = step.next
           ∙ ap (λ (b : Row). b.next ++ (i_now ∷ (qs_next ++ noted_values i_now b.bad good.ms))) base_is
           ∙ ap (λ (s : List Val). s ++ (i_now ∷ (qs_next ++ noted_values i_now (rows t).bad good.ms)))
-          (sym (run.fair.endless.goes_on t));
+          (sym (fair.endless.goes_on t));
       copies_long = kept_long saving_now (rows t).state good.qs as_long ∙ good.copies_long;
       many = noted_long i_now (rows t).bad good.ms as_many ∙ good.many;
       before = λ below. outside_now (omega (arith, below));
@@ -464,7 +465,7 @@ module _ (d : Circuit) (formed : IsWellFormed d) (formed_too : IsWellFormed (wit
         let e_one : good.e ≡ One = good.entered behind in
         let knotted : (rows t).state ≡ knot = ap (λ (u : ℕ). (rows u).state) last ∙ same in
         let here_too : here_value (rows t).state good.qs ≡ One =
-        ap₂ here_value knotted (good.copied behind) ∙ here_is_one knot (run.known p) in
+        ap₂ here_value knotted (good.copied behind) ∙ here_is_one knot sure_knot in
         let all_met : AllByRecursion IsOne good.ms =
         ones_each good.ms (λ k below.
         let there_too = between k (omega (arith, below, good.many)) in
@@ -482,7 +483,7 @@ module _ (d : Circuit) (formed : IsWellFormed d) (formed_too : IsWellFormed (wit
   vector_long : (t : ℕ) → length (vector_at t) ≡ length (with_loop d).inputs
   vector_long t =
       length-append (rows t).inputs (pulse p t ∷ [])
-      ∙ ap (λ (n : ℕ). n + 1) (inputs_length d (rows t) (run.fair.endless.each t))
+      ∙ ap (λ (n : ℕ). n + 1) (inputs_length d (rows t) (fair.endless.each t))
       ∙ sym (length-append d.inputs (save d ∷ []))
 
   steps_long : (t n : ℕ) → AllByRecursion (λ (v : List Val). length v ≡ length (with_loop d).inputs) (steps_from t n)
@@ -531,7 +532,7 @@ module _ (d : Circuit) (formed : IsWellFormed d) (formed_too : IsWellFormed (wit
       (resets.Zero
       ∷ (map (λ (l : Latch). l.reset) (copying (first_copied d) (first_copy d) (latch_variables d))
       ++ map (λ (l : Latch). l.reset) (noting (first_noted d) (first_met d) d.bad)))
-      (rows 0).state (Zero ∷ (no_mets (latch_variables d) ++ no_mets d.bad)) run.fair.endless.starts (
+      (rows 0).state (Zero ∷ (no_mets (latch_variables d) ++ no_mets d.bad)) fair.endless.starts (
         refl,
         zip_append MayStartAt
             (map (λ (l : Latch). l.reset) (copying (first_copied d) (first_copy d) (latch_variables d)))
@@ -557,20 +558,25 @@ module _ (d : Circuit) (formed : IsWellFormed d) (formed_too : IsWellFormed (wit
   decided : (rs : List Row)
       → ((others : List Row) → IsTrace (with_loop d) first (steps_from 0 q) others → others ≡ rs)
       → IsConfirmedAt 0 rs q → (v : Verdict) → IsVerdict (with_loop d) loop_claim v
-      → (n : ℕ) × IsVerdict (with_loop d) loop_claim (Confirmed n)
-  decided rs once confirmed (Confirmed n) is = (n, is)
+      → (n : ℕ) × (n ≤ q) × IsVerdict (with_loop d) loop_claim (Confirmed n)
+  decided rs once confirmed (Confirmed n) is = elim (cases_lt q n) [
+    | inl earlier ↦
+        absurd (is.is_verdict.first q earlier
+        (subst (λ (xs : List Row). IsConfirmedAt 0 xs q) (sym (once is.rows is.trace)) confirmed))
+    | inr not_earlier ↦ (n, omega (arith, not_earlier), is)
+  ]
   decided rs once confirmed NotConfirmed is =
       absurd (is.is_verdict q
       (subst (λ (xs : List Row). IsConfirmedAt 0 xs q) (sym (once is.rows is.trace)) confirmed))
 
-  loop_is_confirmed : (claim : Claim) × (n : ℕ) × IsVerdict (with_loop d) claim (Confirmed n)
+  loop_is_confirmed : (claim : Claim) × (n : ℕ) × (n ≤ q) × IsVerdict (with_loop d) claim (Confirmed n)
   loop_is_confirmed =
       let one = one_trace (with_loop d) first (steps_from 0 q) formed_too starts (steps_long 0 q) in
       let confirmed = walk 0 q first one.0 (omega arith) good_first one.1.1 in
       let file = claims_have_files (with_loop d) loop_claim one.0 formed_too (omega arith) one.1 in
       let verdict = one_verdict (with_loop d) file.0 loop_claim formed_too file.1 in
       let at = decided one.0 one.2 confirmed verdict.0 verdict.1 in
-      (loop_claim, at.0, at.1)
+      (loop_claim, at.0, at.1, at.2)
 
 pub never_means_no_fair_run : NeverMeansNoFairRun
 never_means_no_fair_run c property good room never rows fair =
@@ -583,9 +589,79 @@ never_means_no_fair_run c property good room never rows fair =
     too_many (length d.latches) (λ i. (kept (at i)).state)
     (λ i. state_length d (kept (at i)) (run.fair.endless.each (at i))) (λ i. run.known (at i))
     (λ i j less same.
-    let confirmed = loop_is_confirmed d formed formed_too kept run (at i) (at j) (ascending d kept run.fair i j less)
-    (sym same) (met_between d kept run.fair i j less) in
-    never confirmed.0 confirmed.1 confirmed.2)
+    let confirmed = loop_is_confirmed d formed formed_too kept run.fair (at i) (at j) (run.known (at i))
+    (ascending d kept run.fair i j less) (sym same) (met_between d kept run.fair i j less) in
+    never confirmed.0 confirmed.1 confirmed.3)
+
+-- ---- a lasso without x is such a loop
+
+known_is_sure : (vs : List Val) → AllByRecursion (λ (v : Val). v ≢ X) vs → AllByRecursion IsSure vs
+known_is_sure [] known = tt
+known_is_sure (Zero ∷ vs) known = (tt, known_is_sure vs known.1)
+known_is_sure (One ∷ vs) known = (tt, known_is_sure vs known.1)
+known_is_sure (X ∷ vs) known = absurd (known.0 refl)
+
+known_step : (steps : List (List Val))
+    → AllByRecursion (λ (given : List Val). AllByRecursion (λ (v : Val). v ≢ X) given) steps
+    → (t : ℕ) → t < length steps → AllByRecursion IsSure (slice_index_or steps t [])
+known_step [] known t below = absurd (omega (arith, below))
+known_step (given ∷ steps) known zero below = known_is_sure given known.0
+known_step (given ∷ steps) known (suc t) below = known_step steps known.1 t (omega (arith, below))
+
+module _ (d : Circuit) (formed : IsWellFormed d) (rows : ℕ → Row) (fair : IsFairRun d rows)
+    (steps : List (List Val)) (start : ℕ) (round : GoesRound steps start rows)
+    (sure_first : AllByRecursion IsSure (rows 0).state)
+    (known : AllByRecursion (λ (given : List Val). AllByRecursion (λ (v : Val). v ≢ X) given) steps) where
+  sure_state : (t : ℕ) → t ≤ length steps → AllByRecursion IsSure (rows t).state
+  sure_state zero low = sure_first
+  sure_state (suc t) low =
+      let shown = fair.endless.each t in
+      let given : AllByRecursion IsSure (rows t).inputs =
+      subst (AllByRecursion IsSure) (sym (round.inputs t (omega (arith, low))))
+      (known_step steps known t (omega (arith, low))) in
+      subst (AllByRecursion IsSure) (sym (fair.endless.goes_on t ∙ shown.1.next_shown))
+      (all_sure d formed (rows t).state (rows t).inputs shown.0 shown.1.assigned
+      (sure_state t (omega (arith, low))) given (next_literals d) (known_next d formed))
+
+  -- what is so at a step in the loop is so at one of its first round
+  in_first_round : (k fuel t : ℕ) → t ≤ fuel → start ≤ t → IsBad k (rows t)
+      → (u : ℕ) × (start ≤ u) × (u < length steps) × IsBad k (rows u)
+  in_first_round k zero t low reached bad =
+      (t, reached, omega (arith, low, reached, round.whole, round.some), bad)
+  in_first_round k (suc fuel) t low reached bad = elim (cases_lt t (length steps)) [
+    | inl early ↦ (t, reached, early, bad)
+    | inr late ↦
+        let behind : start + round.size ≤ t = omega (arith, late, round.whole) in
+        let back : (t - round.size) + round.size ≡ t = omega (arith, behind) in
+        let in_loop : start ≤ t - round.size = omega (arith, behind) in
+        let same : rows (t - round.size) ≡ rows t = sym (round.again (t - round.size) in_loop) ∙ ap rows back in
+        in_first_round k fuel (t - round.size) (omega (arith, low, behind, round.some)) in_loop
+        (subst (IsBad k) (sym same) bad)
+  ]
+
+pub lassos_are_confirmed : LassosAreConfirmed
+lassos_are_confirmed c claim start good room is without_x =
+    let d : Circuit = with_goals claim.property c in
+    let formed = goals_within c claim.property good room in
+    let formed_too = made_is_well_formed c claim.property good room in
+    let run = lassos_are_fair_runs c claim start is in
+    let rows : ℕ → Row = run.0 in
+    let fair : IsFairRun d rows = run.1 in
+    let round : GoesRound claim.steps start rows = run.3 in
+    let sure_first : AllByRecursion IsSure (rows 0).state =
+    subst (AllByRecursion IsSure) (sym run.2) (known_is_sure claim.first without_x.0) in
+    let sure_knot : AllByRecursion IsSure (rows start).state =
+    sure_state d formed rows fair claim.steps start round sure_first without_x.1 start
+    (omega (arith, round.whole)) in
+    let same : (rows (length claim.steps)).state ≡ (rows start).state =
+    ap (λ (t : ℕ). (rows t).state) (sym round.whole)
+    ∙ ap (λ (r : Row). r.state) (round.again start (omega arith)) in
+    loop_is_confirmed d formed formed_too rows fair start (length claim.steps) sure_knot
+    (omega (arith, round.whole, round.some)) same
+    (λ k below.
+    let bad = fair.recurrent k below start in
+    in_first_round d formed rows fair claim.steps start round sure_first without_x.1 k bad.0 bad.0
+    (omega arith) bad.1 bad.2)
 
 pub liveness_is_safety : LivenessIsSafety
 liveness_is_safety c property good room = (

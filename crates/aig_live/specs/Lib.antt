@@ -1,4 +1,5 @@
 pub mod WithLoop
 pub mod Values
+pub mod FoundLasso
 pub mod Laws
 pub mod Outcome

@@ -8,7 +8,9 @@ ghost use Rattle.aig_io.specs.Devices.{TookBeginning, took};
 ghost use Rattle.aig_io.specs.Output.{Appended};
 ghost use Rattle.aig_io.specs.Runs.{Read};
 ghost use Rattle.aig_meaning.specs.Meaning.{MeansTheSame};
+ghost use Rattle.aig_step.specs.TraceText.{values_text};
 ghost use Rattle.aig_unroll.specs.Unrolled.{IsTooLarge, all_inputs, uninitialised};
+ghost use Rattle.aig_replay.specs.Finding.{SaysSteps};
 ghost use Rattle.aig_replay.specs.Held.{HoldsClaim, claim_held};
 ghost use Rattle.aig_replay.specs.Parts.{HasPlaces, RunSays, number_or};
 ghost use Rattle.aig_replay.specs.Reached.{WitnessSays};
@@ -17,7 +19,7 @@ ghost use Rattle.aig_replay.specs.WitnessLines.{witness_text};
 use crate::answer::read_answer;
 use crate::search::Hit;
 use crate::start::{FoundRun, find_run};
-use crate::writer::put_witness;
+use crate::writer::{HeldSteps, put_witness};
 use aig_core::{Checked, Circuit, DeviceFault, Latch, OutOfMemory, Output, Reset, Sink, Source};
 use aig_fault::{Kind, Stopped, refused_whole};
 use aig_step::Stepper;
@@ -196,6 +198,25 @@ pub fn find_witness<R: Source>(
 }
 
 impl FoundWitness {
+    /// The characters of its first state.
+    pub fn first(&self) -> &[u8]
+        ensures { result.now ≡ values_text self.now.first }
+    {
+        self.first.as_slice()
+    }
+
+    /// The characters of its steps.
+    pub fn steps(&self) -> HeldSteps<'_>
+        ensures { SaysSteps result.inputs result.count result.characters.now self.now.steps }
+    {
+        let end = self.used + self.count * self.inputs;
+        HeldSteps {
+            inputs: self.inputs,
+            count: self.count,
+            characters: &self.bits[self.used..end],
+        }
+    }
+
     fn put<W: Sink>(&self, output: &mut Output<W>)
         ensures { Appended output.old output.new (witness_text self.now) }
     {

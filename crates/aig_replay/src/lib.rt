@@ -21,4 +21,4 @@ pub use crate::alone::with_selected_bad;
 pub use crate::found::{FoundWitness, find_witness};
 pub use crate::search::{Hit, find_hit};
 pub use crate::start::{FoundRun, find_run};
-pub use crate::writer::put_witness;
+pub use crate::writer::{HeldSteps, put_line, put_witness};

@@ -10,7 +10,16 @@ ghost use Rattle.aig_replay.specs.WitnessLines.{step_line, witness_text};
 
 use aig_core::{Output, Sink};
 
-fn put_line<W: Sink>(output: &mut Output<W>, text: &[u8])
+/// Steps that are held as characters, so many of so many inputs.
+#[derive(Clone, Copy)]
+pub struct HeldSteps<'a> {
+    pub inputs: usize,
+    pub count: usize,
+    pub characters: &'a [u8],
+}
+
+/// Puts characters and a line feed.
+pub fn put_line<W: Sink>(output: &mut Output<W>, text: &[u8])
     ensures { Appended output.old output.new (text.now ++ codes "\n") }
 {
     output.put(text);

@@ -9,7 +9,7 @@ use Rattle.aig_circuit.specs.declared.circuit.Circuit.{Circuit}
 use Rattle.aig_command.specs.declared.request.Sim.{Sim}
 use Rattle.aig_step.specs.Outcome.{IsTraceUpTo}
 use Rattle.aig_step.specs.declared.trace.Columns.{Columns}
-use Rattle.aig_witness.specs.declared.verdict.Verdict.{Verdict}
+use Rattle.aig_verdicts.specs.declared.verdict.WitnessVerdict.{WitnessVerdict}
 use Rattle.aig_fault.specs.declared.stopped.Stopped.{Stopped}
 use Rattle.aig_fault.specs.declared.stopped.Stopped.TheVariants as stops
 use Rattle.aig_claims.specs.RunDump.{HasNoDump, JudgedWith, comment_line}
@@ -71,7 +71,7 @@ pub simulations_write_their_texts : SimulationsWriteTheirTexts
 simulations_write_their_texts request = by_task request.witness request.vcd request
 
 -- where no witness file is judged, there is no verdict
-none_judged : (witness vcd : Bool) (request : Sim) (c : Circuit) (verdict : Verdict) (bytes text : List ℕ)
+none_judged : (witness vcd : Bool) (request : Sim) (c : Circuit) (verdict : WitnessVerdict) (bytes text : List ℕ)
     (ending : Ending) (delivery : Delivery) → witness ≡ false
     → TaskSays (if witness then (if vcd then tasks.RunDump else tasks.Verdict)
     else (if vcd then tasks.Dump request.batch else tasks.Trace request.batch (columns_of request))) c
@@ -80,7 +80,7 @@ none_judged true vcd request c verdict bytes text ending delivery none says = ab
 none_judged false true request c verdict bytes text ending delivery none says = says
 none_judged false false request c verdict bytes text ending delivery none says = says
 
-pub unjudged : (request : Sim) (c : Circuit) (verdict : Option Verdict) (bytes : List ℕ) (ending : Ending)
+pub unjudged : (request : Sim) (c : Circuit) (verdict : Option WitnessVerdict) (bytes : List ℕ) (ending : Ending)
     (text : List ℕ) (delivery : Delivery) → request.witness ≡ false
     → TaskSays (task_of request) c (Ok verdict) bytes ending text delivery
     → TaskSays (task_of request) c (Ok None) bytes ending text delivery
@@ -89,7 +89,7 @@ unjudged request c (Some verdict) bytes ending text delivery none says =
     absurd (none_judged request.witness request.vcd request c verdict bytes text ending delivery none says)
 
 -- the dump of a run after the verdict
-pub judged_with : (c : Circuit) (verdict : Verdict) (bytes run : List ℕ) → JudgedRun c verdict bytes run
+pub judged_with : (c : Circuit) (verdict : WitnessVerdict) (bytes run : List ℕ) → JudgedRun c verdict bytes run
     → JudgedWith c verdict bytes (comment_line verdict ++ run)
 judged_with c verdict bytes run (judged, is_run) =
     record { judged = judged; is_dump = record { run = run; is_run = is_run; is_text = refl } }

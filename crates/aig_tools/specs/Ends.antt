@@ -18,7 +18,9 @@ use Rattle.aig_commands.specs.declared.job.Reading.{Reading}
 use Rattle.aig_commands.specs.declared.task.Task.{Task}
 use Rattle.aig_fault.specs.declared.stopped.Stopped.{Stopped}
 use Rattle.aig_io.specs.Files.{with_sync}
-use Rattle.aig_witness.specs.declared.verdict.Verdict.{Verdict}
+use Rattle.aig_lasso.specs.declared.verdict.LassoVerdict.TheVariants as lassos
+use Rattle.aig_verdicts.specs.declared.verdict.WitnessVerdict.{WitnessVerdict}
+use Rattle.aig_verdicts.specs.declared.verdict.WitnessVerdict.TheVariants.{BadState, Justice}
 use Rattle.aig_witness.specs.declared.verdict.Verdict.TheVariants.{Confirmed, NotConfirmed}
 use Rattle.aig_tools.specs.Lines.{IsReported, name_at, stop_line, usage_text}
 use Rattle.aig_tools.specs.SimulationOutcome.{TaskSays, without_verdict}
@@ -30,13 +32,15 @@ pub record IsReportedIn (line : List ℕ) (before after : World) : Type 0 where
   pub reported : IsReported line before.errors after.errors
 
 -- the status where what was asked for is done: 1 where a witness is not confirmed, else 0
-abbrev pub done_status : Option Verdict → ℕ
+abbrev pub done_status : Option WitnessVerdict → ℕ
 done_status None = 0
-done_status (Some (Confirmed step)) = 0
-done_status (Some NotConfirmed) = 1
+done_status (Some (BadState (Confirmed step))) = 0
+done_status (Some (BadState NotConfirmed)) = 1
+done_status (Some (Justice (lassos.Confirmed start))) = 0
+done_status (Some (Justice lassos.NotConfirmed)) = 1
 
 -- it is done, and nothing is reported, also where a witness is not confirmed; or it stopped, which is
-abbrev pub Concludes : Names → Part → Result (Option Verdict) Stopped → (before after : World) → ℕ → Type 0
+abbrev pub Concludes : Names → Part → Result (Option WitnessVerdict) Stopped → (before after : World) → ℕ → Type 0
 Concludes names part (Ok verdict) before after status = (status ≡ done_status verdict) × (after ≡ before)
 Concludes names part (Err stopped) before after status =
     (status ≡ 1) × IsReportedIn (stop_line names part stopped) before after
@@ -53,7 +57,7 @@ pub data Ends (names : Names) : Job → World → World → ℕ → Type 0 where
       (name_at names (source_of reading)) before between
       → Concludes names (source_of reading) (Err stopped) between after status
       → Ends names (jobs.Read reading) before after status
-  answers_steps : (task : Task) (model : Circuit) (answer : Result (Option Verdict) Stopped)
+  answers_steps : (task : Task) (model : Circuit) (answer : Result (Option WitnessVerdict) Stopped)
       (before between after : World) (status : ℕ)
       → TransferredBetween (TaskSays task model answer) (name_at names File) None before between
       → Concludes names File answer between after status → Ends names (jobs.Steps task model) before after status

@@ -10,7 +10,7 @@ use aig_command::Sim;
 use aig_commands::{Stopped, Task, judge, read_source, task_of};
 use aig_core::{Checked, Keep, Sink, Source};
 use aig_dump::{read_and_dump, send_dump, write_dump, write_trace};
-use aig_witness::Verdict;
+use aig_verdicts::WitnessVerdict;
 use std::alloc::Global;
 
 /// Judges a witness file, and writes the verdict in a comment and the dump of the run. The file is
@@ -20,7 +20,7 @@ fn dump_run<R: Source, W: Sink>(
     found: Checked,
     witness: &mut R,
     output: &mut W,
-) -> Result<Verdict, Stopped>
+) -> Result<WitnessVerdict, Stopped>
     ensures transferred { Transferred (RunDumpSays found result)
         (R.history witness.old) (R.history witness.new) (W.history output.old)
         (W.history output.new) }
@@ -39,7 +39,7 @@ pub(crate) fn perform<R: Source, W: Sink>(
     found: Checked,
     stimulus: &mut R,
     output: &mut W,
-) -> Result<Option<Verdict>, Stopped>
+) -> Result<Option<WitnessVerdict>, Stopped>
     ensures stimulus { (R.history stimulus.new).origin ≡ (R.history stimulus.old).origin }
     ensures transferred { Transferred (TaskSays task found result)
         (R.history stimulus.old) (R.history stimulus.new) (W.history output.old)
@@ -62,7 +62,7 @@ pub(crate) fn perform<R: Source, W: Sink>(
 }
 
 /// An answer of one who asks for no verdict.
-pub(crate) fn without_verdict(done: Result<(), Stopped>) -> Result<Option<Verdict>, Stopped>
+pub(crate) fn without_verdict(done: Result<(), Stopped>) -> Result<Option<WitnessVerdict>, Stopped>
     ensures { result ≡ without_verdict done }
 {
     match done {

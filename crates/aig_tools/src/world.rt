@@ -17,6 +17,8 @@ use aig_command::Names;
 use aig_commands::{Answer, Job, Part, Reading, Stopped, Task};
 use aig_core::{Checked, Sink, Source};
 use aig_files::{FileAccess, NamedSink, NamedSource};
+use aig_lasso::LassoVerdict;
+use aig_verdicts::WitnessVerdict;
 use aig_witness::Verdict;
 use std::alloc::Global;
 use std::marker::Model;
@@ -54,7 +56,7 @@ fn answer_named<A: FileAccess, W: Sink>(
     task: Task,
     model: Checked,
     output: &mut W,
-) -> Result<Option<Verdict>, Stopped>
+) -> Result<Option<WitnessVerdict>, Stopped>
     requires idle { (A.files files.old).current ≡ None }
     ensures idle { (A.files files.new).current ≡ None }
     ensures transferred { (input errors : History)
@@ -70,12 +72,14 @@ fn answer_named<A: FileAccess, W: Sink>(
 
 /// The status where what was asked for is done. That a witness is not confirmed is an answer, but
 /// no success.
-fn done_status(verdict: Option<Verdict>) -> u8
+fn done_status(verdict: Option<WitnessVerdict>) -> u8
     ensures { result ≡ done_status verdict }
 {
     match verdict {
-        None | Some(Verdict::Confirmed(_)) => DONE,
-        Some(Verdict::NotConfirmed) => FAILED,
+        None => DONE,
+        Some(WitnessVerdict::BadState(Verdict::Confirmed(_))) => DONE,
+        Some(WitnessVerdict::Justice(LassoVerdict::Confirmed(_))) => DONE,
+        Some(_) => FAILED,
     }
 }
 
@@ -116,7 +120,7 @@ impl<A: FileAccess, R: Source, W: Sink, E: Sink> World<A, R, W, E> {
         name: &Option<String>,
         task: Task,
         model: Checked,
-    ) -> Result<Option<Verdict>, Stopped>
+    ) -> Result<Option<WitnessVerdict>, Stopped>
         requires { IsIdle self.old }
         ensures idle { self.new.files.current ≡ None }
         ensures errors { self.new.errors ≡ self.old.errors }
@@ -165,7 +169,7 @@ impl<A: FileAccess, R: Source, W: Sink, E: Sink> World<A, R, W, E> {
         &mut self,
         names: &Names,
         part: Part,
-        done: Result<Option<Verdict>, Stopped>,
+        done: Result<Option<WitnessVerdict>, Stopped>,
     ) -> u8
         requires idle { self.old.files.current ≡ None }
         ensures idle { self.new.files.current ≡ None }

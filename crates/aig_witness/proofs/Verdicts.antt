@@ -3,7 +3,7 @@ use Rattle.std.proofs.Common.{◌≡◌, ◌+◌, ◌++◌, ◌∙◌, ◌∷◌
 use Rattle.std.proofs.Common.{None, Some, Result, Ok, ap, arith, codes, inl, inr, length, length-append, map, refl}
 use Rattle.std.proofs.Common.{subst, sym, append_assoc, append-nil, get_or, rules, zero, ap₂, nat_lt, decimal, Decides}
 use Rattle.std.proofs.Common.{lt-ltb, ne_eqb}
-use Rattle.std.specs.List.{AllByRecursion, list_all}
+use Rattle.std.specs.List.{AllByRecursion, AllZip, list_all}
 use Rattle.std.proofs.lemmas.List.{length-map}
 use Rattle.std.proofs.lemmas.List.Elements.{Contains-push, All-from_recursion}
 use Rattle.std.proofs.lemmas.Bool.{cases_lt}
@@ -14,7 +14,7 @@ use Rattle.aig_circuit.specs.declared.value.Val.TheVariants.{Zero, One, X}
 use Rattle.aig_circuit.specs.declared.value.Val.{Val}
 use Rattle.aig_circuit.specs.Wellformed.{IsWellFormed}
 use Rattle.aig_meaning.specs.Meaning.{Row}
-use Rattle.aig_meaning.specs.Trace.{Follow, IsTrace}
+use Rattle.aig_meaning.specs.Trace.{Follow, IsTrace, MayStartAt}
 use Rattle.aig_meaning.proofs.Traces.{one_trace, inputs_length}
 use Rattle.aig_lines.specs.Lines.{Line, bytes_of, line, lines_of}
 use Rattle.aig_lines.specs.Laws.{EndInLineFeeds, IsOneLine}
@@ -27,15 +27,16 @@ use Rattle.aig_step.specs.Stimulus.{judged_lines, text_of, without_return}
 use Rattle.aig_step.specs.TraceText.{values_text, character_of}
 use Rattle.aig_witness.specs.Laws.{FirstWrongLinesAreFound, OneVerdict, ClaimsHaveFiles}
 use Rattle.aig_witness.specs.Witness.{Nothing, Property, Said, Shape, Steps, Version, Whole, is_whole, said_behind}
-use Rattle.aig_witness.specs.Witness.{said_with, shape_of, wrong_line, IsVerdictOf, is_canonical, Claim, SaysClaim}
+use Rattle.aig_witness.specs.Witness.{said_with, shape_of, wrong_line, IsVerdictOf, is_canonical, Claim, Says}
+use Rattle.aig_witness.specs.Witness.{SaysClaim}
 use Rattle.aig_witness.specs.WrongLine.{HaveEnd, IsFirstWrong}
 use Rattle.aig_witness.specs.declared.search.StepSearch.{StepSearch}
 use Rattle.aig_witness.specs.declared.verdict.Verdict.{Verdict}
 use Rattle.aig_witness.specs.declared.verdict.Verdict.TheVariants.{Confirmed, NotConfirmed}
 use Rattle.aig_witness.specs.Parts.Witnessing.{TellsRows, are_ones, is_one, looked, verdict_of}
-use Rattle.aig_witness.specs.WitnessText.{witness_texts}
+use Rattle.aig_witness.specs.WitnessText.{property_texts}
 use Rattle.aig_witness.proofs.WitnessTexts.{IsAfter, IsNext, by_texts, next_line, no_end, said_texts, whole_is}
-use Rattle.aig_witness.proofs.WitnessTexts.{witness_files_are_read}
+use Rattle.aig_witness.proofs.WitnessTexts.{texts_say, witness_files_are_read}
 use Rattle.aig_witness.proofs.Confirmed.{tells_more, tells_nothing}
 use Rattle.aig_witness.proofs.Witnessing.{not_one, one_of, ones_are, ones_not}
 
@@ -194,7 +195,7 @@ are_lines (t ∷ u ∷ us) kept =
     let rest = are_lines (u ∷ us) kept.1 in ((one_line t kept.0, rest.0), (refl, rest.1))
 
 -- the lines of a file have the texts that were written
-read_again : (texts : List (List ℕ)) → AllByRecursion IsKept texts
+pub read_again : (texts : List (List ℕ)) → AllByRecursion IsKept texts
     → map text_of (lines_of (bytes_of (as_lines texts))) ≡ texts
 read_again texts kept =
     let are = are_lines texts kept in
@@ -209,7 +210,7 @@ values_kept : (vs : List Val) → IsKept (values_text vs)
 values_kept [] = tt
 values_kept (v ∷ vs) = (value_stays v, values_kept vs)
 
-steps_kept : (steps : List (List Val)) → AllByRecursion IsKept (map values_text steps ++ codes "." ∷ [])
+pub steps_kept : (steps : List (List Val)) → AllByRecursion IsKept (map values_text steps ++ codes "." ∷ [])
 steps_kept [] = (((λ e. omega (arith, e), λ e. omega (arith, e)), tt), tt)
 steps_kept (given ∷ steps) = (values_kept given, steps_kept steps)
 
@@ -250,32 +251,54 @@ each_long c state (v ∷ vs) [] follow = absurd follow
 each_long c state (v ∷ vs) (r ∷ rs) follow =
     (ap length (sym follow.1) ∙ inputs_length c r follow.2, each_long c r.next vs rs follow.3)
 
--- the file of a claim
-abbrev pub file_of : Claim → List ℕ
-file_of claim = bytes_of (as_lines (witness_texts (decimal claim.property) claim))
+-- the file of a claim whose property is named by this letter
+abbrev pub file_by : ℕ → Claim → List ℕ
+file_by letter claim = bytes_of (as_lines (property_texts letter (decimal claim.property) claim))
 
-pub file_says : (c : Circuit) (claim : Claim) (rows : List Row) → IsWellFormed c → claim.property < length c.bad
-    → IsTrace c claim.first claim.steps rows → SaysClaim c (file_of claim) claim
-file_says c claim rows formed below trace =
-    let small : claim.property < 2 ^ 64 = omega (arith, below, formed.limits.literals.1.0) in
+-- what can be claimed by a file of this shape
+pub record IsClaimable (shape : Shape) (claim : Claim) : Type 0 where
+  pub letter : Stays shape.letter
+  pub few : shape.properties < 2 ^ 64
+  pub below : claim.property < shape.properties
+  pub starts : AllZip MayStartAt shape.resets claim.first
+  pub each : AllByRecursion (λ (given : List Val). length given ≡ shape.inputs) claim.steps
+
+pub file_by_says : (shape : Shape) (claim : Claim) → IsClaimable shape claim
+    → Says shape (file_by shape.letter claim) claim
+file_by_says shape claim is =
+    let small : claim.property < 2 ^ 64 = omega (arith, is.below, is.few) in
     let number = decimal_is_number claim.property small in
-    let texts = witness_texts (decimal claim.property) claim in
+    let texts = property_texts shape.letter (decimal claim.property) claim in
     let kept : AllByRecursion IsKept texts = (
       ((λ e. omega (arith, e), λ e. omega (arith, e)), tt),
       (
-        ((λ e. omega (arith, e), λ e. omega (arith, e)), digits_kept (decimal claim.property) number.digits),
+        (is.letter, digits_kept (decimal claim.property) number.digits),
         (values_kept claim.first, steps_kept claim.steps),
       ),
     ) in
-    (witness_files_are_read c (file_of claim) claim).1 (record {
+    texts_say shape (file_by shape.letter claim) claim (record {
       digits = decimal claim.property;
       canonical = decimal_is_canonical claim.property small;
       number = number.value;
-      below = below;
-      starts = trace.0;
-      each = each_long c claim.first claim.steps rows trace.1;
+      below = is.below;
+      starts = is.starts;
+      each = is.each;
       texts = read_again texts kept;
     })
+
+-- the file of a claim of a bad state
+abbrev pub file_of : Claim → List ℕ
+file_of claim = file_by 98 claim
+
+pub file_says : (c : Circuit) (claim : Claim) (rows : List Row) → IsWellFormed c → claim.property < length c.bad
+    → IsTrace c claim.first claim.steps rows → SaysClaim c (file_of claim) claim
+file_says c claim rows formed below trace = file_by_says (shape_of c) claim (record {
+  letter = (λ e. omega (arith, e), λ e. omega (arith, e));
+  few = omega (arith, formed.limits.literals.1.0);
+  below = below;
+  starts = trace.0;
+  each = each_long c claim.first claim.steps rows trace.1;
+})
 
 pub claims_have_files : ClaimsHaveFiles
 claims_have_files c claim rows formed below trace = (file_of claim, file_says c claim rows formed below trace)

@@ -9,7 +9,8 @@ use Rattle.aig_meaning.proofs.Traces.{same_meaning_same_traces}
 use Rattle.aig_io.specs.declared.device.DeviceFault.{DeviceFault}
 use Rattle.aig_io.specs.Devices.{History}
 use Rattle.aig_io.specs.Runs.{AtEnd, Broken, Ending, Open, Read, is_at_end}
-use Rattle.aig_lines.specs.Feeders.{Feeder, FoldedSource}
+use Rattle.aig_lines.specs.Feeders.{Feeder, FoldedSource, HasFoldedLines}
+use Rattle.aig_lines.specs.Feeding.{fold_lines}
 use Rattle.aig_lines.specs.Texts.{judged_lines}
 use Rattle.aig_fault.specs.declared.stopped.Stopped.{Stopped}
 use Rattle.aig_fault.specs.declared.stopped.Stopped.TheVariants as stops
@@ -22,7 +23,7 @@ use Rattle.aig_witness.specs.Witness.{wrong_line}
 use Rattle.aig_witness.specs.Parts.Witnessing.{HasWitnessState, StandsWhen, Witnessing, longest_line, witness_state}
 use Rattle.aig_witness.specs.Parts.Witnessing.{witness_step}
 use Rattle.aig_witness.specs.Parts.Witnessing.{verdict_of}
-use Rattle.aig_witness.proofs.WitnessState.{none_wrong, one_wrong}
+use Rattle.aig_witness.proofs.WitnessState.{IsRight, folded_said, none_wrong, one_wrong}
 
 -- a line is missing where one is due
 one_missing : (lines : ℕ) (w : Witnessing) (said : Said) → StandsWhen w said → w.due ≢ due.Nothing
@@ -52,25 +53,36 @@ module _ (c : Circuit) (few : length c.bad ≤ LARGEST) (source source_now : His
     abbrev Answers : Result Verdict Stopped → Type 0
     Answers result = Read (ConfirmSays c result) source source_now
 
+    -- which line is wrong, and what the lines say where none is
+    module _ (bytes : List ℕ) (over : Bool) (stands : HasFoldedLines HasWitnessState f w
+        (fold_lines witness_step longest (witness_state c Nothing) 1 (judged_lines bytes over))) where
+      one_line_wrong : f.refused ≡ true → first_bad_witness_line c bytes over ≡ Some f.number
+      one_line_wrong refused = one_wrong HasWitnessState (witness_state c) (shape_of c) bytes over f w _
+          (folded_said c few (judged_lines bytes over) Nothing 1) stands refused
+
+      no_line_wrong : f.refused ≡ false → IsRight HasWitnessState (witness_state c) (shape_of c) bytes over f w
+      no_line_wrong going = none_wrong HasWitnessState (witness_state c) (shape_of c) bytes over f w _
+          (folded_said c few (judged_lines bytes over) Nothing 1) stands going
+
     -- a line was refused
     pub wrong_among : CameAt longest (Ok false) → Answers (Err (stops.Refused (bad_witness f.number)))
     wrong_among (true, r) = record {
       bytes = r.bytes;
       ending = AtEnd;
-      says = (f.number, refl, tt, one_wrong c few r.bytes true f w r.stands r.refused);
+      says = (f.number, refl, tt, one_line_wrong r.bytes true r.stands r.refused);
       came = r.history;
     }
     wrong_among (false, r) = record {
       bytes = r.bytes;
       ending = Open;
-      says = (f.number, refl, tt, one_wrong c few r.bytes false f w r.stands r.refused);
+      says = (f.number, refl, tt, one_line_wrong r.bytes false r.stands r.refused);
       came = r.history;
     }
 
     -- the source failed
     pub cut_off : (fault : DeviceFault) → CameAt longest (Err fault) → Answers (Err stops.ReadFailed)
     cut_off fault r =
-        let right = none_wrong c few r.bytes false f w r.stands r.refused in
+        let right = no_line_wrong r.bytes false r.stands r.refused in
         let lines = length (judged_lines r.bytes false) in
         record {
           bytes = r.bytes;
@@ -83,7 +95,7 @@ module _ (c : Circuit) (few : length c.bad ≤ LARGEST) (source source_now : His
     pub wrong_behind : CameAt longest (Ok true) → w.due ≢ due.Nothing
         → Answers (Err (stops.Refused (bad_witness f.number)))
     wrong_behind r some =
-        let right = none_wrong c few r.bytes true f w r.stands r.refused in
+        let right = no_line_wrong r.bytes true r.stands r.refused in
         let lines = length (judged_lines r.bytes true) in
         let first = ap (wrong_line lines true) right.says ∙ one_missing lines w right.said right.has_state.1 some
         ∙ ap (λ (n : ℕ). Some n) (sym right.number) in
@@ -110,13 +122,13 @@ module _ (c : Circuit) (few : length c.bad ≤ LARGEST) (source source_now : His
     pub judged : (v : Verdict) → CameAt longest (Ok true) → w.due ≡ due.Nothing → v ≡ verdict_of w.search.found
         → Answers (Ok v)
     judged v r none is =
-        let right = none_wrong c few r.bytes true f w r.stands r.refused in
+        let right = no_line_wrong r.bytes true r.stands r.refused in
         let judged = whole v r.bytes right.said right.has_state.1 none right.has_state.0 right.says is in
         record { bytes = r.bytes; ending = AtEnd; says = (refl, judged); came = r.history }
 
 -- circuits that mean the same, with as many bad states, have the same witness files
 module _ (c d : Circuit) (means : MeansTheSame c d) (bad : length d.bad ≡ length c.bad) where
-  same_shape : shape_of d ≡ shape_of c
+  pub same_shape : shape_of d ≡ shape_of c
   same_shape = rw (bad, means.resets, means.inputs) refl
 
   same_wrong : (bytes : List ℕ) (ended : Bool)

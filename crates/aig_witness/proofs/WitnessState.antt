@@ -16,7 +16,7 @@ use Rattle.aig_lines.specs.Texts.{judged_lines, text_of}
 use Rattle.aig_rows.specs.Spelling.{is_digit, value_of}
 use Rattle.aig_step.proofs.LineValues.{too_long_text}
 use Rattle.aig_witness.specs.Witness.{Nothing, Property, Said, Shape, Steps, Version, Whole, begun_at, is_canonical}
-use Rattle.aig_witness.specs.Witness.{number_below, property_in, said_with, with_entry, first_bad_witness_line}
+use Rattle.aig_witness.specs.Witness.{number_below, property_by, said_with, with_entry, first_bad_line}
 use Rattle.aig_witness.specs.Witness.{said_behind, said_by, shape_of, witness_of, wrong_line}
 use Rattle.aig_witness.specs.Parts.Witnessing.{digits_below, longest_line, HasWitnessState, WitnessState, NotDue}
 use Rattle.aig_witness.specs.Parts.Witnessing.{TookDue}
@@ -113,22 +113,23 @@ none_either : (begins : Bool) (o : Option ℕ) → o ≡ None → (if begins the
 none_either true o none = none
 none_either false o none = refl
 
-property_long : (bad : ℕ) (text : List ℕ) → bad ≤ LARGEST → 12 < length text → property_in bad text ≡ None
-property_long bad [] few long = refl
-property_long bad (b ∷ bs) few long =
-    none_either (b == 98) (number_below bad bs) (number_long bad bs few (omega (arith, long)))
+property_long : (letter count : ℕ) (text : List ℕ) → count ≤ LARGEST → 12 < length text
+    → property_by letter count text ≡ None
+property_long letter count [] few long = refl
+property_long letter count (b ∷ bs) few long =
+    none_either (b == letter) (number_below count bs) (number_long count bs few (omega (arith, long)))
 
 other_text : (text word : List ℕ) → length text ≢ length word → bytes_eq text word ≡ false
 other_text text word other =
     false_from_ne_true (bytes_eq text word) (λ e. other (ap length ((bytes_eq-Decides text word).0 e)))
 
 -- a text that is too long is not due, whichever line is
-long_due : (shape : Shape) (said : Said) (text : List ℕ) → shape.bad ≤ LARGEST
+pub long_due : (shape : Shape) (said : Said) (text : List ℕ) → shape.properties ≤ LARGEST
     → longest_line shape < length text → said_with shape said text ≡ None
 long_due shape Nothing text few long =
     ap (λ (b : Bool). if b then Some Version else None) (other_text text (codes "1") (omega (arith, long)))
 long_due shape Version text few long =
-    ap (option_map Property) (property_long shape.bad text few (omega (arith, long)))
+    ap (option_map Property) (property_long shape.letter shape.properties text few (omega (arith, long)))
 long_due shape (Property p) text few long =
     ap (option_map (begun_at p)) (no_first_state shape.resets text (omega (arith, long)))
 long_due shape (Steps claim) text few long =
@@ -155,26 +156,67 @@ checked_is : (h : WitnessState) (text : List ℕ) → length h.circuit.bad ≤ L
     → checked_line witness_step (longest_line (shape_of h.circuit)) h text ≡ witness_step h text
 checked_is h text few = search (rules, cases_lt, lt-leb, long_due, le-leb)
 
+-- what was folded is what is said, after lines up to this number
+abbrev pub IsSaid : {S : Type 0} → (Said → S) → ℕ → Result Said ℕ → Folded S → Type 0
+IsSaid state next (Ok said) t = t ≡ folded_to (state said) next false
+IsSaid state next (Err number) t = (t.number ≡ number) × (t.refused ≡ true)
+
+-- where what was folded is what the lines say of a file of this shape
+module _ {T S : Type 0} (IsAt : T → S → Type 0) (state : Said → S) (shape : Shape) (bytes : List ℕ) (over : Bool)
+    (f : Feeder) (w : T) where
+  abbrev count : ℕ
+  count = length (judged_lines bytes over)
+
+  -- no line is wrong of those that are judged
+  pub record IsRight : Type 0 where
+    pub said : Said
+    pub says : witness_of shape bytes over ≡ Ok said
+    pub has_state : IsAt w (state said)
+    pub number : f.number ≡ 1 + count
+
+  wrong_by : (r : Result Said ℕ) (t : Folded S) → IsSaid state (1 + count) r t → t.refused ≡ true
+      → wrong_line count over r ≡ Some t.number
+  wrong_by (Ok said) t is refused = let none = ap (λ (u : Folded S). u.refused) is in cc
+  wrong_by (Err number) t is refused = ap (λ (n : ℕ). Some n) (sym is.0)
+
+  right_by : (r : Result Said ℕ) (t : Folded S) → witness_of shape bytes over ≡ r → IsSaid state (1 + count) r t
+      → HasFoldedLines IsAt f w t → f.refused ≡ false → IsRight
+  right_by (Ok said) t says is has going = record {
+    said = said;
+    says = says;
+    has_state = subst (λ (u : Folded S). IsAt w u.state) is has.taker;
+    number = has.number ∙ ap (λ (u : Folded S). u.number) is;
+  }
+  right_by (Err number) t says is has going =
+      let one : f.refused ≡ true = has.refused ∙ is.1 in cc
+
+  module _ (t : Folded S) (is : IsSaid state (1 + count) (witness_of shape bytes over) t)
+      (stands : HasFoldedLines IsAt f w t) where
+    -- one was refused, which is the first that is wrong
+    pub one_wrong : f.refused ≡ true → first_bad_line shape bytes over ≡ Some f.number
+    one_wrong refused =
+        wrong_by (witness_of shape bytes over) t is (sym stands.refused ∙ refused)
+        ∙ ap (λ (n : ℕ). Some n) (sym stands.number)
+
+    -- none was refused
+    pub none_wrong : f.refused ≡ false → IsRight
+    none_wrong going = right_by (witness_of shape bytes over) t refl is stands going
+
 module _ (c : Circuit) (few : length c.bad ≤ LARGEST) where
   abbrev limit : ℕ
   limit = longest_line (shape_of c)
 
-  -- what was folded is what is said, after lines up to this number
-  abbrev IsSaid : ℕ → Result Said ℕ → Folded WitnessState → Type 0
-  IsSaid next (Ok said) t = t ≡ folded_to (witness_state c said) next false
-  IsSaid next (Err number) t = (t.number ≡ number) × (t.refused ≡ true)
-
   said_rest : (o : Option Said) (said : Said) (number next : ℕ) (ls : List Line)
-      → ((s : Said) → IsSaid next (said_by (shape_of c) (suc number) s ls)
+      → ((s : Said) → IsSaid (witness_state c) next (said_by (shape_of c) (suc number) s ls)
       (fold_lines witness_step limit (witness_state c s) (suc number) ls))
       → (let t = said_turn c said o in
-      IsSaid next (said_behind number o (λ s. said_by (shape_of c) (suc number) s ls))
+      IsSaid (witness_state c) next (said_behind number o (λ s. said_by (shape_of c) (suc number) s ls))
       (if t.goes_on then fold_lines witness_step limit t.state (suc number) ls else folded_to t.state number true))
   said_rest None said number next ls again = (refl, refl)
   said_rest (Some s) said number next ls again = again s
 
-  folded_said : (ls : List Line) (said : Said) (number : ℕ)
-      → IsSaid (number + length ls) (said_by (shape_of c) number said ls)
+  pub folded_said : (ls : List Line) (said : Said) (number : ℕ)
+      → IsSaid (witness_state c) (number + length ls) (said_by (shape_of c) number said ls)
       (fold_lines witness_step limit (witness_state c said) number ls)
   folded_said [] said number =
       let same : number ≡ number + 0 = omega arith in ap (λ (n : ℕ). folded_to (witness_state c said) n false) same
@@ -183,50 +225,8 @@ module _ (c : Circuit) (few : length c.bad ≤ LARGEST) where
       if t.goes_on then fold_lines witness_step limit t.state (suc number) ls else folded_to t.state number true in
       let next = number + length (l ∷ ls) in
       let same : suc number + length ls ≡ next = omega arith in
-      subst (IsSaid next (said_by (shape_of c) number said (l ∷ ls)))
+      subst (IsSaid (witness_state c) next (said_by (shape_of c) number said (l ∷ ls)))
       (ap on (sym (checked_is (witness_state c said) (text_of l) few)))
       (said_rest (said_with (shape_of c) said (text_of l)) said number next ls
-      (λ s. subst (λ (n : ℕ). IsSaid n (said_by (shape_of c) (suc number) s ls)
+      (λ s. subst (λ (n : ℕ). IsSaid (witness_state c) n (said_by (shape_of c) (suc number) s ls)
       (fold_lines witness_step limit (witness_state c s) (suc number) ls)) same (folded_said ls s (suc number))))
-
-  module _ (bytes : List ℕ) (over : Bool) (f : Feeder) (w : Witnessing)
-      (stands : HasFoldedLines HasWitnessState f w (fold_lines witness_step limit (witness_state c Nothing) 1
-      (judged_lines bytes over))) where
-    abbrev lines : ℕ
-    lines = length (judged_lines bytes over)
-
-    -- no line is wrong of those that are judged
-    pub record IsRight : Type 0 where
-      pub said : Said
-      pub says : witness_of (shape_of c) bytes over ≡ Ok said
-      pub has_state : HasWitnessState w (witness_state c said)
-      pub number : f.number ≡ 1 + lines
-
-    wrong_by : (r : Result Said ℕ) (t : Folded WitnessState) → IsSaid (1 + lines) r t → t.refused ≡ true
-        → wrong_line lines over r ≡ Some t.number
-    wrong_by (Ok said) t is refused = let none = ap (λ (u : Folded WitnessState). u.refused) is in cc
-    wrong_by (Err number) t is refused = ap (λ (n : ℕ). Some n) (sym is.0)
-
-    -- one was refused, which is the first that is wrong
-    pub one_wrong : f.refused ≡ true → first_bad_witness_line c bytes over ≡ Some f.number
-    one_wrong refused =
-        wrong_by (witness_of (shape_of c) bytes over) _ (folded_said (judged_lines bytes over) Nothing 1)
-        (sym stands.refused ∙ refused)
-        ∙ ap (λ (n : ℕ). Some n) (sym stands.number)
-
-    right_by : (r : Result Said ℕ) (t : Folded WitnessState) → witness_of (shape_of c) bytes over ≡ r
-        → IsSaid (1 + lines) r t → HasFoldedLines HasWitnessState f w t → f.refused ≡ false → IsRight
-    right_by (Ok said) t says is has going = record {
-      said = said;
-      says = says;
-      has_state = subst (λ (u : Folded WitnessState). HasWitnessState w u.state) is has.taker;
-      number = has.number ∙ ap (λ (u : Folded WitnessState). u.number) is;
-    }
-    right_by (Err number) t says is has going =
-        let one : f.refused ≡ true = has.refused ∙ is.1 in cc
-
-    -- none was refused
-    pub none_wrong : f.refused ≡ false → IsRight
-    none_wrong going =
-        right_by (witness_of (shape_of c) bytes over) _ refl (folded_said (judged_lines bytes over) Nothing 1) stands
-        going

@@ -2,7 +2,7 @@
 use Rattle.std.proofs.Common.{◌≡◌, ◌≢◌, ◌&&◌, ◌||◌, ◌<◌, ◌++◌, ◌∷◌, ◌∙◌, if◌then◌else◌, rules, ℕ, suc, List, [], Bool}
 use Rattle.std.proofs.Common.{true, false, length, Option, Some, None, Result, Ok, refl, sym, ap, ap₂, subst}
 use Rattle.std.proofs.Common.{append_assoc, append-nil, bytes_eq, codes, filter, inl, inr, map, nat_lt, option_map}
-use Rattle.std.proofs.Common.{Decides, Contains, lt-ltb}
+use Rattle.std.proofs.Common.{Decides, Contains, eq-eqb, lt-ltb}
 use Rattle.std.specs.List.{AllByRecursion, AllZip}
 use Rattle.std.proofs.lemmas.List.{map-append}
 use Rattle.std.proofs.lemmas.List.Elements.{All-contains, All-from_recursion, Contains-push}
@@ -20,8 +20,9 @@ use Rattle.aig_step.specs.StimulusText.{AreSteps}
 use Rattle.aig_step.specs.TraceText.{values_text}
 use Rattle.aig_witness.specs.Witness.{Claim, Nothing, Property, Said, SaysClaim, Shape, Steps, Version, Whole, begun_at}
 use Rattle.aig_witness.specs.Witness.{first_state_in, is_canonical, may_start_at, may_start_in, number_below}
-use Rattle.aig_witness.specs.Witness.{property_in, said_behind, said_by, said_with, shape_of, with_entry}
-use Rattle.aig_witness.specs.WitnessText.{IsWitnessFile}
+use Rattle.aig_witness.specs.Witness.{Says, property_by, property_in, said_behind, said_by, said_with, shape_of}
+use Rattle.aig_witness.specs.Witness.{with_entry}
+use Rattle.aig_witness.specs.WitnessText.{IsWitnessFile, property_texts}
 use Rattle.aig_witness.specs.WrongLine.{IsRightBehind, NamesBadState}
 use Rattle.aig_step.proofs.LineValues.{says_values, values_back}
 use Rattle.aig_step.proofs.StimulusTexts.{IsEntryText, entry_read, says_step}
@@ -54,10 +55,9 @@ all_judged [] = refl
 all_judged (l ∷ ls) = search (rules, or_true, all_judged ls)
 
 -- the texts of the lines that are judged at the end
-said_all : (c : Circuit) (bytes : List ℕ)
-    → said_by (shape_of c) 1 Nothing (judged_lines bytes true)
-    ≡ said_texts (shape_of c) 1 Nothing (map text_of (lines_of bytes))
-said_all c bytes = search (rules, all_judged, by_texts)
+pub said_all : (shape : Shape) (bytes : List ℕ)
+    → said_by shape 1 Nothing (judged_lines bytes true) ≡ said_texts shape 1 Nothing (map text_of (lines_of bytes))
+said_all shape bytes = search (rules, all_judged, by_texts)
 
 -- the line of the first state
 one_may : (r : Reset) (v : Val) → MayStartAt r v → may_start_at r v ≡ true
@@ -81,7 +81,7 @@ pub number_said : (bound : ℕ) (digits : List ℕ) (p : ℕ) → is_canonical d
 number_said bound digits p canonical number below = search (rules, nat_lt, lt-ltb)
 
 -- no step has the text of the end
-no_stop : (vs : List Val) → values_text vs ≢ codes "."
+pub no_stop : (vs : List Val) → values_text vs ≢ codes "."
 no_stop vs is = let says : values_of (codes ".") ≡ Some vs = ap values_of (sym is) ∙ says_values vs in cc
 
 pub no_end : (steps : List (List Val)) → ¬ Contains (map values_text steps) (codes ".")
@@ -231,12 +231,40 @@ module _ (shape : Shape) where
       ∙ ap (λ (ss : List (List Val)). Ok (Whole (record claim { steps = ss })))
       (append_assoc claim.steps (given ∷ []) more)
 
+-- lines of these texts make the claim
+pub record AreTexts (shape : Shape) (bytes : List ℕ) (claim : Claim) : Type 0 where
+  pub digits : List ℕ
+  pub canonical : is_canonical digits ≡ true
+  pub number : number_of digits ≡ claim.property
+  pub below : claim.property < shape.properties
+  pub starts : AllZip MayStartAt shape.resets claim.first
+  pub each : AllByRecursion (λ (given : List Val). length given ≡ shape.inputs) claim.steps
+  pub texts : map text_of (lines_of bytes) ≡ property_texts shape.letter digits claim
+
+named_too : (letter count : ℕ) (digits : List ℕ)
+    → property_by letter count (letter ∷ digits) ≡ number_below count digits
+named_too letter count digits =
+    ap (λ (b : Bool). if b then number_below count digits else None) (eq-eqb letter letter refl)
+
+pub texts_say : (shape : Shape) (bytes : List ℕ) (claim : Claim) → AreTexts shape bytes claim → Says shape bytes claim
+unfolding said_texts
+texts_say shape bytes claim are =
+    let named = named_too shape.letter shape.properties are.digits
+    ∙ number_said shape.properties are.digits claim.property are.canonical are.number are.below in
+    said_all shape bytes ∙ ap (said_texts shape 1 Nothing) are.texts
+    ∙ ap (λ (o : Option ℕ). said_behind 2 (option_map Property o) (λ next. said_texts shape 3 next
+    (values_text claim.first ∷ (map values_text claim.steps ++ codes "." ∷ [])))) named
+    ∙ ap (λ (o : Option (List Val)). said_behind 3 (option_map (begun_at claim.property) o)
+    (λ next. said_texts shape 4 next (map values_text claim.steps ++ codes "." ∷ [])))
+    (first_said shape.resets claim.first are.starts)
+    ∙ steps_said shape 4 (record { property = claim.property; first = claim.first; steps = [] }) claim.steps are.each
+
 -- the file as a whole
 module _ (c : Circuit) (bytes : List ℕ) (claim : Claim) where
   is_file : SaysClaim c bytes claim → IsWitnessFile c bytes claim
   is_file says =
       let texts = map text_of (lines_of bytes) in
-      let after = said_lines c 1 claim [] texts Nothing refl (sym (said_all c bytes) ∙ says) in
+      let after = said_lines c 1 claim [] texts Nothing refl (sym (said_all (shape_of c) bytes) ∙ says) in
       let names = after.1.names in
       record {
         digits = names.digits;
@@ -251,8 +279,15 @@ module _ (c : Circuit) (bytes : List ℕ) (claim : Claim) where
       }
 
   says_file : IsWitnessFile c bytes claim → SaysClaim c bytes claim
-  unfolding said_texts
-  says_file file = search (rules, said_all, said_texts, option_map, number_said, first_said, steps_said)
+  says_file file = texts_say (shape_of c) bytes claim (record {
+    digits = file.digits;
+    canonical = file.canonical;
+    number = file.number;
+    below = file.below;
+    starts = file.starts;
+    each = file.each;
+    texts = file.texts;
+  })
 
 pub witness_files_are_read : WitnessFilesAreRead
 witness_files_are_read c bytes claim = (is_file c bytes claim, says_file c bytes claim)

@@ -19,7 +19,9 @@ use Rattle.aig_step.specs.Parts.Lines.{vector_in, row_read}
 use Rattle.aig_step.specs.Stimulus.{values_of}
 use Rattle.aig_step.proofs.LineValues.{values_length, row_is_read, vector_says}
 use Rattle.aig_step.proofs.Running.Machines.{state_after_last}
-use Rattle.aig_witness.specs.Witness.{property_in, shape_of, first_state_in, if_may_start, may_start_at, may_start_in}
+use Rattle.aig_rows.specs.Spelling.{value_of as number_of}
+use Rattle.aig_witness.specs.Witness.{property_by, property_in, shape_of, first_state_in, if_may_start, may_start_at}
+use Rattle.aig_witness.specs.Witness.{is_canonical, may_start_in}
 use Rattle.aig_witness.specs.Witness.{Claim, Nothing, Property, Said, Steps, Version, Whole, begun_at, with_entry}
 use Rattle.aig_witness.specs.WrongLine.{NamesBadState}
 use Rattle.aig_witness.specs.declared.checker.Due.TheVariants as due
@@ -40,9 +42,29 @@ byte_by : (begins : Bool) (o : Option ℕ) (p : ℕ) → (if begins then o else 
 byte_by true o p is = (refl, is)
 byte_by false o p is = cc
 
+-- the text names this property by this letter, where there are so many
+pub record NamesProperty (letter count : ℕ) (text : List ℕ) (property : ℕ) : Type 0 where
+  pub digits : List ℕ
+  pub text_is : text ≡ letter ∷ digits
+  pub canonical : is_canonical digits ≡ true
+  pub number : number_of digits ≡ property
+  pub below : property < count
+
+pub property_read : (letter count : ℕ) (text : List ℕ) (p : ℕ) → property_by letter count text ≡ Some p
+    → NamesProperty letter count text p
+property_read letter count [] p is = cc
+property_read letter count (b ∷ bs) p is = search (rules, byte_by, number_by, nat_lt, ltb-true, eqb-true)
+
 pub number_read : (bound : ℕ) (text : List ℕ) (p : ℕ) → property_in bound text ≡ Some p → NamesBadState bound text p
-number_read bound [] p is = cc
-number_read bound (b ∷ bs) p is = search (rules, byte_by, number_by, nat_lt, ltb-true, eqb-true)
+number_read bound text p is =
+    let named = property_read 98 bound text p is in
+    record {
+      digits = named.digits;
+      text_is = named.text_is;
+      canonical = named.canonical;
+      number = named.number;
+      below = named.below;
+    }
 
 second : (a b : Bool) → (a && b) ≡ true → b ≡ true
 second true b is = is

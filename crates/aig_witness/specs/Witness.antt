@@ -21,21 +21,25 @@ use Rattle.aig_witness.specs.declared.verdict.Verdict.{Verdict}
 use Rattle.aig_witness.specs.declared.verdict.Verdict.TheVariants.{Confirmed, NotConfirmed}
 use Rattle.aig_step.specs.Stimulus.{Entry, Step, Stop, entry_in, judged_lines, text_of, values_of}
 
--- what a witness file says: that this bad state is reached from this first state, by steps with these inputs
+-- what a witness file says: that this property is met from this first state, by steps with these inputs
 pub record Claim : Type 0 where
   pub property : ℕ
   pub first : List Val
   pub steps : List (List Val)
 
--- what of a circuit decides which lines a witness file may have
+-- what decides which lines a witness file may have: the letter of the properties that it may name, how many of them
+-- there are, and the resets and the number of inputs of the circuit
 pub record Shape : Type 0 where
-  pub bad : ℕ
+  pub letter : ℕ
+  pub properties : ℕ
   pub resets : List Reset
   pub inputs : ℕ
 
+-- where the properties are bad states
 abbrev pub shape_of : Circuit → Shape
 shape_of c = record {
-  bad = length c.bad;
+  letter = 98;
+  properties = length c.bad;
   resets = map (λ (l : Latch). l.reset) c.latches;
   inputs = length c.inputs;
 }
@@ -48,10 +52,14 @@ is_canonical text = nat_lt 0 (length text) && list_all is_digit text && not (is_
 abbrev pub number_below : ℕ → List ℕ → Option ℕ
 number_below bound text = if is_canonical text && nat_lt (number_of text) bound then Some (number_of text) else None
 
+-- the property that a line names by this letter, where there are so many
+abbrev pub property_by : ℕ → ℕ → List ℕ → Option ℕ
+property_by letter count [] = None
+property_by letter count (b ∷ bs) = if b == letter then number_below count bs else None
+
 -- the bad state that a line names, where there are so many
 abbrev pub property_in : ℕ → List ℕ → Option ℕ
-property_in bad [] = None
-property_in bad (b ∷ bs) = if b == 98 then number_below bad bs else None
+property_in bad text = property_by 98 bad text
 
 -- whether a latch may start at this value: an uninitialised one at any
 abbrev pub may_start_at : Reset → Val → Bool
@@ -102,7 +110,7 @@ with_entry claim Stop = Whole claim
 -- what is said with one more line of this text, where that is a line that is due
 abbrev pub said_with : Shape → Said → List ℕ → Option Said
 said_with shape Nothing text = if bytes_eq text (codes "1") then Some Version else None
-said_with shape Version text = option_map Property (property_in shape.bad text)
+said_with shape Version text = option_map Property (property_by shape.letter shape.properties text)
 said_with shape (Property property) text = option_map (begun_at property) (first_state_in shape.resets text)
 said_with shape (Steps claim) text = option_map (with_entry claim) (entry_in shape.inputs text)
 said_with shape (Whole claim) text = None
@@ -135,13 +143,20 @@ wrong_line lines ended (Ok said) = missing_line lines ended said
 wrong_line lines ended (Err number) = Some number
 
 -- the number of the first line that is not as it has to be, or that is missing where the bytes have ended
-abbrev pub first_bad_witness_line : Circuit → List ℕ → Bool → Option ℕ
-first_bad_witness_line c bytes ended =
-    wrong_line (length (judged_lines bytes ended)) ended (witness_of (shape_of c) bytes ended)
+abbrev pub first_bad_line : Shape → List ℕ → Bool → Option ℕ
+first_bad_line shape bytes ended =
+    wrong_line (length (judged_lines bytes ended)) ended (witness_of shape bytes ended)
 
--- the bytes are a witness file of the circuit, which says this
+abbrev pub first_bad_witness_line : Circuit → List ℕ → Bool → Option ℕ
+first_bad_witness_line c bytes ended = first_bad_line (shape_of c) bytes ended
+
+-- the bytes are a witness file of this shape, which says this
+abbrev pub Says : Shape → List ℕ → Claim → Type 0
+Says shape bytes claim = witness_of shape bytes true ≡ Ok (Whole claim)
+
+-- the bytes are a witness file of a bad state of the circuit
 abbrev pub SaysClaim : Circuit → List ℕ → Claim → Type 0
-SaysClaim c bytes claim = witness_of (shape_of c) bytes true ≡ Ok (Whole claim)
+SaysClaim c bytes claim = Says (shape_of c) bytes claim
 
 -- all constraints are 1
 abbrev pub IsHeld : Row → Type 0

@@ -10,10 +10,14 @@ use Rattle.aig_step.specs.Stimulus.{text_of}
 use Rattle.aig_step.specs.TraceText.{values_text}
 use Rattle.aig_witness.specs.Witness.{Claim, is_canonical}
 
--- the texts of its lines, where these digits are the number of the bad state
+-- the texts of its lines, where this letter and these digits name the property
+abbrev pub property_texts : ℕ → List ℕ → Claim → List (List ℕ)
+property_texts letter digits claim =
+    codes "1" ∷ (letter ∷ digits) ∷ values_text claim.first ∷ (map values_text claim.steps ++ codes "." ∷ [])
+
+-- where these digits are the number of the bad state
 abbrev pub witness_texts : List ℕ → Claim → List (List ℕ)
-witness_texts digits claim =
-    codes "1" ∷ (codes "b" ++ digits) ∷ values_text claim.first ∷ (map values_text claim.steps ++ codes "." ∷ [])
+witness_texts digits claim = property_texts 98 digits claim
 
 -- The bytes are a witness file of the circuit, and this is what it says.
 pub record IsWitnessFile (c : Circuit) (bytes : List ℕ) (claim : Claim) : Type 0 where

@@ -16,7 +16,7 @@ ghost use Rattle.aig_witness.specs.Parts.Witnessing.{are_ones, is_one, longest_l
 
 use crate::search::StepSearch;
 use crate::verdict::Verdict;
-use crate::witness_line::{is_version, property_in, read_first_state};
+use crate::witness_line::{is_version, property_by, read_first_state};
 use aig_checked::Checked;
 use aig_circuit::{Lit, OutOfMemory, Val};
 use aig_lines::LineTaker;
@@ -41,7 +41,7 @@ pub(crate) enum Due {
 
 /// What judges the lines of a witness file, and follows what they claim.
 #[derive(Drop)]
-pub(crate) struct Checker {
+pub struct Checker {
     stepper: Stepper,
     due: Due,
     search: StepSearch,
@@ -88,7 +88,7 @@ pub fn are_ones(literals: &[Lit], values: &Table) -> bool
 
 impl Checker {
     /// It stands before the first line. All room that it needs is made here.
-    pub(crate) fn new(alloc: Global, checked: &Checked) -> Result<Self, OutOfMemory>
+    pub fn new(alloc: Global, checked: &Checked) -> Result<Self, OutOfMemory>
         ensures same { IfOk result (λ c. MeansTheSame checked.now c.circuit) }
         ensures bad { IfOk result (λ c. length c.circuit.bad ≡ length checked.now.bad) }
         ensures few { IfOk result (λ c. length c.circuit.bad ≤ LARGEST) }
@@ -110,7 +110,7 @@ impl Checker {
     }
 
     /// How long a line may be: none that is due is longer.
-    pub(crate) fn longest_line(&self) -> usize
+    pub fn longest_line(&self) -> usize
         ensures is { result ≡ longest_line (shape_of self.now.circuit) }
         ensures few { result < 2 ^ 62 }
     {
@@ -143,7 +143,7 @@ impl Checker {
         ensures steps { self.new.search.steps ≡ self.old.search.steps }
     {
         let bad = self.stepper.machine().parts().bad.as_slice();
-        let Some(property) = property_in(text, bad.len()) else {
+        let Some(property) = property_by(b'b', bad.len(), text) else {
             return false;
         };
         self.search.literal = bad[property];
@@ -152,7 +152,7 @@ impl Checker {
     }
 
     /// Takes the line of the first state, and answers whether it is good.
-    fn take_first_state(&mut self, text: &[u8]) -> bool
+    pub fn take_first_state(&mut self, text: &[u8]) -> bool
         ensures good { result ≡ true → TookFirstState self.old self.new text.now }
         ensures bad { result ≡ false
             → first_state_in (shape_of self.old.circuit).resets text.now ≡ None }
@@ -223,8 +223,23 @@ impl Checker {
         }
     }
 
+    /// How many inputs a step has.
+    pub fn count_inputs(&self) -> usize
+        ensures { result ≡ length self.now.circuit.inputs }
+    {
+        self.stepper.machine().parts().inputs.len()
+    }
+
+    /// Whether the line is due that names the property.
+    pub fn awaits_property(&self) -> bool
+        ensures yes { result ≡ true → self.now.due ≡ due.Property }
+        ensures no { result ≡ false → self.now.due ≢ due.Property }
+    {
+        matches!(self.due, Due::Property)
+    }
+
     /// Whether no line is due.
-    pub(crate) fn is_whole(&self) -> bool
+    pub fn is_whole(&self) -> bool
         ensures whole { result ≡ true → self.now.due ≡ due.Nothing }
         ensures due { result ≡ false → self.now.due ≢ due.Nothing }
     {
@@ -232,7 +247,7 @@ impl Checker {
     }
 
     /// What the steps so far come to.
-    pub(crate) fn verdict(&self) -> Verdict
+    pub fn verdict(&self) -> Verdict
         ensures { result ≡ verdict_of self.now.search.found }
     {
         self.search.verdict()

@@ -5,7 +5,7 @@ ghost use Rattle.aig_circuit.specs.declared.circuit.Latch.{Latch as LatchRecord}
 ghost use Rattle.aig_circuit.specs.declared.circuit.TheConstants.{LARGEST};
 ghost use Rattle.aig_rows.specs.CanonicalNumber.{is_padded};
 ghost use Rattle.aig_witness.specs.Witness.{first_state_in, may_start_at, may_start_in};
-ghost use Rattle.aig_witness.specs.Witness.{number_below, property_in, shape_of};
+ghost use Rattle.aig_witness.specs.Witness.{number_below, property_by, shape_of};
 ghost use Rattle.aig_witness.specs.Parts.Witnessing.{digits_below};
 
 use aig_circuit::{Latch, Reset, Val};
@@ -58,15 +58,18 @@ fn number_below(text: &[u8], bound: usize) -> Option<usize>
     digits_below(text, bound)
 }
 
-/// The bad state that a line names, where there are so many.
-pub(crate) fn property_in(text: &[u8], bad: usize) -> Option<usize>
-    requires { bad ≤ LARGEST }
-    ensures { result ≡ property_in bad text.now }
+/// The property that a line names by this letter, where there are so many.
+pub fn property_by(letter: u8, count: usize, text: &[u8]) -> Option<usize>
+    requires { count ≤ LARGEST }
+    ensures { result ≡ property_by letter count text.now }
 {
-    match text {
-        [b'b', number @ ..] => number_below(number, bad),
-        _ => None,
+    let [first, number @ ..] = text else {
+        return None;
+    };
+    if *first != letter {
+        return None;
     }
+    number_below(number, count)
 }
 
 /// Whether a latch may start at this value.

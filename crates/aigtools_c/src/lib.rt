@@ -78,7 +78,7 @@ pub extern "C" fn aigtools_unroll(
 #[unsafe(no_mangle)]
 pub extern "C" fn aigtools_clauses(
     alloc: Global,
-    bad: u32,
+    property: u32,
     frames: u32,
     max_var: u32,
     input: &[u8],
@@ -86,10 +86,10 @@ pub extern "C" fn aigtools_clauses(
     outcome: &mut Outcome,
 ) -> u32
     ensures status { result ≡ outcome.new.status }
-    ensures answers { ClausesAnswers bad frames max_var input.now
+    ensures answers { ClausesAnswers property frames max_var input.now
         output.old output.new outcome.new }
 {
-    *outcome = write_clauses(alloc, bad, frames, max_var, input, output);
+    *outcome = write_clauses(alloc, property, frames, max_var, input, output);
     outcome.status
 }
 
@@ -97,7 +97,7 @@ pub extern "C" fn aigtools_clauses(
 #[unsafe(no_mangle)]
 pub extern "C" fn aigtools_answer(
     alloc: Global,
-    bad: u32,
+    property: u32,
     frames: u32,
     max_var: u32,
     model: &[u8],
@@ -106,10 +106,10 @@ pub extern "C" fn aigtools_answer(
     outcome: &mut Outcome,
 ) -> u32
     ensures status { result ≡ outcome.new.status }
-    ensures answers { ReachAnswers bad frames max_var model.now answer.now
+    ensures answers { ReachAnswers property frames max_var model.now answer.now
         output.old output.new outcome.new }
 {
-    *outcome = reach(alloc, bad, frames, max_var, model, answer, output);
+    *outcome = reach(alloc, property, frames, max_var, model, answer, output);
     outcome.status
 }
 
@@ -117,7 +117,7 @@ pub extern "C" fn aigtools_answer(
 #[unsafe(no_mangle)]
 pub extern "C" fn aigtools_refute(
     alloc: Global,
-    bad: u32,
+    property: u32,
     frames: u32,
     max_var: u32,
     model: &[u8],
@@ -125,9 +125,9 @@ pub extern "C" fn aigtools_refute(
     outcome: &mut Outcome,
 ) -> u32
     ensures status { result ≡ outcome.new.status }
-    ensures answers { RefuteAnswers bad frames max_var model.now refutation.now outcome.new }
+    ensures answers { RefuteAnswers property frames max_var model.now refutation.now outcome.new }
 {
-    *outcome = refute(alloc, bad, frames, max_var, model, refutation);
+    *outcome = refute(alloc, property, frames, max_var, model, refutation);
     outcome.status
 }
 
@@ -135,7 +135,7 @@ pub extern "C" fn aigtools_refute(
 #[unsafe(no_mangle)]
 pub extern "C" fn aigtools_invariant_clauses(
     alloc: Global,
-    bad: u32,
+    property: u32,
     max_var: u32,
     model: &[u8],
     invariant: &[u8],
@@ -143,10 +143,10 @@ pub extern "C" fn aigtools_invariant_clauses(
     outcome: &mut Outcome,
 ) -> u32
     ensures status { result ≡ outcome.new.status }
-    ensures answers { InvariantAnswers bad max_var model.now invariant.now
+    ensures answers { InvariantAnswers property max_var model.now invariant.now
         output.old output.new outcome.new }
 {
-    *outcome = invariant_clauses(alloc, bad, max_var, model, invariant, output);
+    *outcome = invariant_clauses(alloc, property, max_var, model, invariant, output);
     outcome.status
 }
 
@@ -154,7 +154,7 @@ pub extern "C" fn aigtools_invariant_clauses(
 #[unsafe(no_mangle)]
 pub extern "C" fn aigtools_never(
     alloc: Global,
-    bad: u32,
+    property: u32,
     max_var: u32,
     model: &[u8],
     invariant: &[u8],
@@ -162,10 +162,10 @@ pub extern "C" fn aigtools_never(
     outcome: &mut Outcome,
 ) -> u32
     ensures status { result ≡ outcome.new.status }
-    ensures answers { NeverAnswers bad max_var model.now invariant.now refutation.now
+    ensures answers { NeverAnswers property max_var model.now invariant.now refutation.now
         outcome.new }
 {
-    *outcome = never(alloc, bad, max_var, model, invariant, refutation);
+    *outcome = never(alloc, property, max_var, model, invariant, refutation);
     outcome.status
 }
 
@@ -309,5 +309,5 @@ pub extern "C" fn aigtools_message(outcome: &Outcome, output: &mut [u8]) -> usiz
 pub extern "C" fn aigtools_version() -> u32
     ensures { version_text result ≡ VERSION.now }
 {
-    0x01_03_00
+    0x01_04_00
 }

@@ -1,7 +1,7 @@
 //! Command lines and what is answered to them.
 use aig_command::{
-    BadStates, Command, CommandLine, Invariant, Miter, Names, Reach, Sim, SolverFile, ToAig,
-    Unroll, UnrolledForm, Usage, command,
+    BadStates, Command, CommandLine, Invariant, Miter, Names, Property, Reach, Sim, SolverFile,
+    ToAig, Unroll, UnrolledForm, Usage, command,
 };
 use std::alloc::{AllocError, Global};
 use std::test::Fail;
@@ -104,6 +104,8 @@ aigunroll --cnf --frames 2 a.aig b.aag => 2 clauses of any 2147483647 a.aig b.aa
 aigunroll --frames 2 --bad 0 --cnf - b => 2 clauses of 0 2147483647 - b;\
 aigunroll --cnf a --bad=+07 --frames 2 --max-var 7 => 2 clauses of 7 7 a -;\
 aigunroll --frames 2 --cnf --bad 2147483647 => 2 clauses of 2147483647 2147483647 - -;\
+aigunroll --frames 2 --justice 0 --cnf - b => 2 clauses of justice 0 2147483647 - b;\
+aigunroll --cnf a --justice=+07 --frames 2 --max-var 7 => 2 clauses of justice 7 7 a -;\
 aigunroll --frames 2 --cnf -- --ascii --bad => 2 clauses of any 2147483647 --ascii --bad";
 
 /// Arguments after the program's name, and what they ask for: the frames, the bad state, the limit,
@@ -111,6 +113,7 @@ aigunroll --frames 2 --cnf -- --ascii --bad => 2 clauses of any 2147483647 --asc
 const REACHINGS: &str = "\
 aigunroll --frames 1 --answer a m => 1 any 2147483647 m answer a -;\
 aigunroll --frames 1000000 --answer=a m w => 1000000 any 2147483647 m answer a w;\
+aigunroll --frames 1 --justice 2 --answer a m => 1 justice 2 2147483647 m answer a -;\
 aigunroll --answer - --frames 2 m => 2 any 2147483647 m answer - -;\
 aigunroll --frames 2 --answer a => 2 any 2147483647 - answer a -;\
 aigunroll --frames 2 - w --answer a => 2 any 2147483647 - answer a w;\
@@ -123,6 +126,8 @@ aigunroll --frames 2 --answer <> => 2 any 2147483647 - answer <> -;\
 aigunroll --frames 2 --answer a -- --cnf --ascii => 2 any 2147483647 --cnf answer a --ascii;\
 aigunroll --frames 1 --refutation p m => 1 any 2147483647 m refutation p -;\
 aigunroll --refutation=p --frames 1000000 m r => 1000000 any 2147483647 m refutation p r;\
+aigunroll --frames 1 --refutation p --justice 2 m \
+=> 1 justice 2 2147483647 m refutation p -;\
 aigunroll --refutation - --frames 2 m => 2 any 2147483647 m refutation - -;\
 aigunroll --frames 2 --refutation p => 2 any 2147483647 - refutation p -;\
 aigunroll --frames 2 --lrat --refutation p => 2 any 2147483647 - lrat p -;\
@@ -141,6 +146,7 @@ aigunroll --frames 2 --refutation p -- --bad --cnf => 2 any 2147483647 --bad ref
 /// its invariant, what comes of both and in which file, and the destination.
 const PROVINGS: &str = "\
 aigunroll --invariant i --cnf m => any 2147483647 m i clauses -;\
+aigunroll --invariant i --cnf --justice 3 m => justice 3 2147483647 m i clauses -;\
 aigunroll --cnf --invariant=i m d => any 2147483647 m i clauses d;\
 aigunroll --invariant - --cnf m => any 2147483647 m - clauses -;\
 aigunroll --invariant i --cnf => any 2147483647 - i clauses -;\
@@ -249,6 +255,14 @@ aigunroll --refutation a --frames 2 --answer a m x.gz \
 => --refutation excludes --cnf, --ascii and --answer;\
 aigunroll --frames 2 --bad 0 => --bad needs --cnf, --answer or --refutation;\
 aigunroll --bad 7 --ascii --frames 2 - x.gz => --bad needs --cnf, --answer or --refutation;\
+aigunroll --frames 2 --justice 0 => --justice needs --cnf, --answer or --refutation;\
+aigunroll --frames 2 --justice 0 --lrat => --justice needs --cnf, --answer or --refutation;\
+aigunroll --frames 2 --justice 1 -- --cnf => --justice needs --cnf, --answer or --refutation;\
+aigunroll --frames 2 --justice 0 --bad 0 => --bad excludes --justice;\
+aigunroll --frames 2 --cnf --bad 3 --justice 3 => --bad excludes --justice;\
+aigunroll --invariant p --justice 0 --bad 0 --cnf m => --bad excludes --justice;\
+aigunroll --justice 0 --cnf => --frames or --invariant is needed;\
+aigunroll --invariant p --justice 0 m => --invariant needs --cnf or --refutation;\
 aigunroll --frames 2 --lrat => --lrat needs --refutation;\
 aigunroll --frames 2 --lrat --cnf m => --lrat needs --refutation;\
 aigunroll --frames 2 --lrat --answer - => --lrat needs --refutation;\
@@ -559,11 +573,12 @@ fn shown_simulation(alloc: Global, names: &Names, request: Sim) -> Result<String
     format!(in alloc; "{batch}{properties}{witness}{vcd}{limit} {model} {stimulus}")
 }
 
-/// The bad state of this number, as a row shows it.
-fn shown_bad(alloc: Global, bad: Option<u32>) -> Result<String, AllocError> {
-    match bad {
-        Some(number) => format!(in alloc; "{number}"),
-        None => String::from_str(alloc, "any"),
+/// The property, as a row shows it.
+fn shown_property(alloc: Global, property: Property) -> Result<String, AllocError> {
+    match property {
+        Property::AnyBad => String::from_str(alloc, "any"),
+        Property::Bad(number) => format!(in alloc; "{number}"),
+        Property::Justice(number) => format!(in alloc; "justice {number}"),
     }
 }
 
@@ -571,9 +586,9 @@ fn shown_form(alloc: Global, form: UnrolledForm) -> Result<String, AllocError> {
     match form {
         UnrolledForm::Binary => String::from_str(alloc, ""),
         UnrolledForm::Ascii => String::from_str(alloc, "ascii "),
-        UnrolledForm::Clauses { bad } => {
-            let bad = shown_bad(alloc, bad)?;
-            format!(in alloc; "clauses of {bad} ")
+        UnrolledForm::Clauses { property } => {
+            let property = shown_property(alloc, property)?;
+            format!(in alloc; "clauses of {property} ")
         }
     }
 }
@@ -593,7 +608,7 @@ fn refutation_word(lrat: bool) -> &'static str {
 
 fn shown_reaching(alloc: Global, names: &Names, request: Reach) -> Result<String, AllocError> {
     let frames = request.frames;
-    let bad = shown_bad(alloc, request.bad)?;
+    let property = shown_property(alloc, request.property)?;
     let model = show_file(&names.model);
     let wrote = match request.wrote {
         SolverFile::Answer => "answer",
@@ -602,7 +617,7 @@ fn shown_reaching(alloc: Global, names: &Names, request: Reach) -> Result<String
     let file = show_file(&names.file);
     let destination = show_file(&names.destination);
     let limit = request.max_var;
-    format!(in alloc; "{frames} {bad} {limit} {model} {wrote} {file} {destination}")
+    format!(in alloc; "{frames} {property} {limit} {model} {wrote} {file} {destination}")
 }
 
 /// The refutation that is checked, or that clauses are written, as a row shows it.
@@ -617,13 +632,13 @@ fn shown_work(alloc: Global, names: &Names, request: Invariant) -> Result<String
 }
 
 fn shown_proving(alloc: Global, names: &Names, request: Invariant) -> Result<String, AllocError> {
-    let bad = shown_bad(alloc, request.bad)?;
+    let property = shown_property(alloc, request.property)?;
     let model = show_file(&names.model);
     let file = show_file(&names.file);
     let work = shown_work(alloc, names, request)?;
     let destination = show_file(&names.destination);
     let limit = request.max_var;
-    format!(in alloc; "{bad} {limit} {model} {file} {work} {destination}")
+    format!(in alloc; "{property} {limit} {model} {file} {work} {destination}")
 }
 
 fn shown_miter(alloc: Global, names: &Names, request: Miter) -> Result<String, AllocError> {

@@ -28,7 +28,7 @@ LINE = re.compile(rf"(?P<name>.*) \((?P<source>.*?)\): (?P<answer>{ANSWERS})(?P<
 KINDS = ["never", "none within", "reached", "unknown"]
 LIVE_KINDS = ["holds", "no lasso within", "lasso", "unknown"]
 SUM = re.compile(r"(\d+) (liveness )?assertions?(?:: (.*))?")
-KEPT = re.compile(r"(model|live)-[0-9a-f]+\.aig|.+\.(aiw|vcd|loop|drat|pla|check\.sh)")
+KEPT = re.compile(r"(model|live)-[0-9a-f]+\.aig|.+\.(aiw|vcd|drat|pla|check\.sh)")
 EXACT, BOUNDED, SAFE = "exact", "bounded", "safe"
 
 
@@ -285,15 +285,19 @@ def judge_lasso(room_, kept, it, said):
     need(one == "1" and re.fullmatch(r"j\d+", property_) and inputs[-2:] == [".", ""], f"{it} has another form", said)
     made = circuit_of(room_.program, model_of(kept, "live"))
     starts = liveness.starts(made, int(property_[1:]), state, inputs[:-2])
-    need(it.steps in starts, f"{it} has a witness that begins at {starts}", said)
+    need([it.steps] == starts[:1], f"{it} has a witness that begins at {starts}", said)
     waves = file.with_suffix(".vcd").read_text(encoding="latin-1")
-    need(f"$comment confirmed {len(inputs) - 2} $end" in waves, f"{it} has another waveform", said)
-    save, entered = f"i{len(made.inputs)}", f"l{len(made.latches)}"
-    named = f"$var wire 1 {save} loop_starts $end" in waves and f"$var reg 1 {entered} in_loop $end" in waves
-    need(named, f"the waveform of {it} has no names for the loop", said)
-    for code, step in ((save, it.steps), (entered, it.steps + 1)):
-        before = waves[: re.search(f"^1{code}$", waves, re.MULTILINE).start()]
-        need(re.findall(r"^#(\d+)$", before, re.MULTILINE)[-1] == str(step), f"{code} is 1 in another step", said)
+    need(waves.startswith(f"$comment confirmed {it.steps} $end\n"), f"{it} has another waveform", said)
+    code = f"i{len(made.inputs)}"
+    need(f"$var wire 1 {code} loop $end" in waves, f"the waveform of {it} does not tell the loop", said)
+    changes, step = {}, None
+    for line in waves.partition("$enddefinitions")[2].splitlines():
+        step = int(line[1:]) if line[:1] == "#" else step
+        changes |= {step: line[0]} if line[1:] == code else {}
+    begins = {0: "1"} if it.steps == 0 else {0: "0", it.steps: "1"}
+    need(changes == {**begins, len(inputs) - 2: "z"}, f"the waveform of {it} tells the loop by {changes}", said)
+    for name in re.findall(rb"^[il]\d+ ([A-Za-z_]\w*)$", model_of(kept, "live").read_bytes(), re.MULTILINE):
+        need(f" {name.decode()} $end" in waves, f"the waveform of {it} lacks the name {name}", said)
 
 
 def judge_kept(room_, kept, found, said):

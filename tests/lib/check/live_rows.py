@@ -100,6 +100,15 @@ def read(text):
     return dataclasses.replace(reached.read(text.encode()), symbols=symbols)
 
 
+def need_shortest(room, found, wanted, said):
+    """That each lasso that is kept has as few steps as any, unless a note says that this is not proved."""
+    least = {it.name: it.step for it in wanted if it.has_lasso}
+    for it in found:
+        if it.answer == "lasso" and f"{it.name} ({it.source}): that no shorter lasso" not in said.err:
+            steps = len((room.here / it.witness).read_text(encoding="ascii").splitlines()) - 4
+            checked.need(steps == least[it.name], f"{it} has {steps} steps, and not {least[it.name]}", said)
+
+
 def of_model(which, has_tools, room):
     """A model in text and in binary, in lines and as an object, and what is kept."""
     text, steps, lassos = TEXTS[which]
@@ -110,7 +119,9 @@ def of_model(which, has_tools, room):
     (room.here / "model.aig").write_bytes(model_rows.binary(room, text))
     room.may_write.add("kept")
     said = room.run("--frames", "12", "--keep", "kept", "model.aag", changes=changes)
-    checked.judge_kept(room, room.here / "kept", checked.judge(said, found, frames=12), said)
+    answers = checked.judge(said, found, frames=12)
+    checked.judge_kept(room, room.here / "kept", answers, said)
+    need_shortest(room, answers, found, said)
     said = room.run("--frames", "12", "--json", "model.aig", changes=changes)
     checked.judge(said, truths(read(text), "model.aig"), frames=12)
 
@@ -122,8 +133,10 @@ def by_chance(at, has_tools, way, frames, room):
     (room.here / name).write_bytes(images.image(made) if at % 2 else images.ascii_text(made))
     room.may_write.add("kept")
     said = room.run("--keep", "kept", "--frames", str(frames), "--jobs", "1", name, changes=changes)
-    found = checked.judge(said, truths(made, name), way, frames)
+    wanted = truths(made, name)
+    found = checked.judge(said, wanted, way, frames)
     checked.judge_kept(room, room.here / "kept", found, said)
+    need_shortest(room, found, wanted, said)
 
 
 def in_design(design, room):
@@ -203,7 +216,12 @@ def changed(how, room):
 
 
 def another_run(kept):
-    (kept / "j0.loop").write_text("1\nb0\n00000\n00\n00\n.\n", encoding="ascii")
+    (kept / "j0.aiw").write_text("1\nj0\n0\n0\n0\n.\n", encoding="ascii")
+
+
+def another_property(kept):
+    run = (kept / "j0.aiw").read_text(encoding="ascii")
+    (kept / "j0.aiw").write_text(run.replace("j0", "j1"), encoding="ascii")
 
 
 def another_model(kept):
@@ -212,7 +230,7 @@ def another_model(kept):
 
 
 def no_run(kept):
-    (kept / "j0.loop").unlink()
+    (kept / "j0.aiw").unlink()
 
 
 AIGER = [("--justice-as-bad", "", 1), ("--justice-as-bad", "", 0), ("--justice-as-bad", "aig 0 0 0 0 0", 0)]
@@ -240,5 +258,5 @@ def rows():
     for frames, answer in ((4, "no lasso within 4"), (5, "no lasso within 5"), (6, "lasso at 4")):
         yield f"liveness within {frames}", each(bound, frames, answer)
     yield "a lasso that is too far", too_far
-    for how in (another_run, another_model, no_run):
+    for how in (another_run, another_property, another_model, no_run):
         yield f"a lasso with {how.__name__}", each(changed, how)

@@ -12,7 +12,7 @@ LARGEST = 2**31 - 1
 WORDS = """aigtoaig aigtoaig aigsim aigsim aigunroll aigunroll aigmiter aigmiter --ascii --strip --keep-map --undo-map
     --outputs-as-bad --justice-as-bad --justice-as-bad=0
     --max-var --max-var=9 --max-var=2147483648 --frames --frames=2 --frames=0 --batch --properties
-    --vcd --witness --cnf --cnf --bad=0 --bad=1 --answer=source --answer
+    --vcd --witness --cnf --cnf --bad=0 --bad=1 --justice=0 --answer=source --answer
     --refutation=source --refutation --lrat --invariant=source --invariant --by-name --sync --help -h -- - source source source out.aag
     out.aig out.gz 3 --unknown""".split() + [""]
 # what the arguments that refusals.py lists are refused for, in this order; and names of files that cannot be there
@@ -29,7 +29,9 @@ aigsim --vcd --properties model
 aigunroll --frames 2 --cnf --ascii
 aigunroll --frames 2 --answer model --cnf
 aigunroll --frames 2 --refutation model --answer -
+aigunroll --frames 2 --cnf --bad 0 --justice 0
 aigunroll --frames 2 --bad 0
+aigunroll --frames 2 --justice 0
 aigunroll --frames 2 --lrat --answer model
 aigunroll --frames 2 --answer - -
 aigunroll --frames 2 --refutation - -

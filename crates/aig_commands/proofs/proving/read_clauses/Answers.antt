@@ -1,4 +1,4 @@
-use Rattle.std.proofs.Common.{None}
+use Rattle.aig_command.specs.declared.request.Property.TheVariants.{AnyBad}
 use Rattle.std.proofs.lemmas.Result.{err_from_is_err_and}
 use Rattle.aig_cnf.specs.ClauseText.{cnf_text}
 use Rattle.aig_command.specs.declared.request.UnrolledForm.TheVariants.{Clauses}
@@ -30,4 +30,4 @@ returns-clause-read g c =
     c.in_ok-circuit.ensures.ok.0 c.in_ok-circuit.ensures.ok.1) (made_whole _ _ _ _ c.in_ok-strengthened.ensures)
 
 pub returns-clause-some : goal.returns-clause-some
-returns-clause-some g c = unrolled_begins (Clauses None) c.in_ok-circuit.circuit
+returns-clause-some g c = unrolled_begins (Clauses AnyBad) c.in_ok-circuit.circuit

@@ -8,7 +8,7 @@ pub returns : goal.returns
 returns c =
     let can : CanReach c.args.frames c.args.max_var = search rules in
     text_answered (λ v. v.items) _ _ _ _ _ can
-    (answer_refused _ c.args.bad c.args.frames c.args.max_var) _ _ _
-    (answer_text _ c.args.bad c.args.frames c.args.max_var) c.run_in_memory.result
+    (answer_refused _ c.args.property c.args.frames c.args.max_var) _ _ _
+    (answer_text _ c.args.property c.args.frames c.args.max_var) c.run_in_memory.result
     (rw c.reaching-request.ensures at c.run_in_memory.ensures.ok)
     (rw c.reaching-request.ensures at c.run_in_memory.ensures.err) c.answer.ensures.text c.answer.ensures.stopped

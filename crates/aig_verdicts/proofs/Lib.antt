@@ -1,0 +1,6 @@
+pub mod HeldClaims
+pub mod Lines
+pub mod Folds
+pub mod Ends
+pub mod Files
+pub mod Verdicts

@@ -1,0 +1,5 @@
+pub mod Kinds
+pub mod JusticeText
+pub mod Judged
+pub mod Parts
+pub mod Laws

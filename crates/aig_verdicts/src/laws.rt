@@ -1,0 +1,25 @@
+//! Laws: facts about the definitions alone, each the contract of a function with an empty body.
+ghost use Rattle.aig_verdicts.specs.Laws.{JusticeClaimsHaveVerdicts, JusticeFilesAreRead, LassosHaveFiles};
+ghost use Rattle.aig_verdicts.specs.Laws.{OneVerdictAtMost};
+
+/// Each claim of a justice property that can be made of a well-formed circuit, by a trace of it, is
+/// said by the witness file that has its texts.
+pub fn lassos_have_files()
+    ensures { LassosHaveFiles }
+{}
+
+/// A file is read as a witness file of a justice property exactly where its texts are those of one.
+pub fn justice_files_are_read()
+    ensures { JusticeFilesAreRead }
+{}
+
+/// What a witness file claims of a justice property with goals that a circuit may have, has a
+/// verdict.
+pub fn justice_claims_have_verdicts()
+    ensures { JusticeClaimsHaveVerdicts }
+{}
+
+/// A witness file claims one thing, and has one verdict at most.
+pub fn one_verdict_at_most()
+    ensures { OneVerdictAtMost }
+{}

@@ -1,0 +1,15 @@
+//! Witness files of bad states and of justice properties, read and judged.
+//!
+//! Others call `judge_witness`.
+//!
+//! The definition that matters most is `WitnessSays`.
+#![tactic(auto)]
+
+mod held;
+pub mod laws;
+mod reader;
+mod verdict;
+mod witness;
+
+pub use crate::verdict::WitnessVerdict;
+pub use crate::witness::judge_witness;
