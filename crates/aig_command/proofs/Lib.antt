@@ -2,3 +2,4 @@ pub mod Within
 pub mod Entered
 pub mod Answered
 pub mod Walked
+pub mod ByName

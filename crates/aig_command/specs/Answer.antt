@@ -89,10 +89,11 @@ IsUsage words (usage.Words text) =
     × (kind ≡ DisplayVersion → asks_for_version words ≡ false) × (0 < string_len text)
 IsUsage words reason = command_of words ≡ Some (refused reason)
 
--- A map is kept in binary, of the whole circuit that was read, or not at all.
+-- A map is kept in binary, of the whole circuit that was read with all its gates, or not at all.
 abbrev pub IsKeptAlone : ToAig → Type 0
 IsKeptAlone request =
     request.keep_map ≡ true → (request.ascii ≡ false) × (request.strip ≡ false) × (request.undo_map ≡ false)
+    × (request.simplify ≡ false)
 
 -- What is no bad state in the source becomes one without a map, which does not tell what it was.
 abbrev pub IsWithoutMap : ToAig → Type 0

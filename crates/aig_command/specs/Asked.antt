@@ -117,6 +117,7 @@ conversion rows destination = record {
   keep_map = is_set (codes "keep-map") rows;
   undo_map = is_set (codes "undo-map") rows;
   bad_states = bad_states rows;
+  simplify = is_set (codes "simplify") rows;
   max_var = limit rows;
 }
 
@@ -132,12 +133,14 @@ abbrev pub are_of_justice : BadStates → Bool
 are_of_justice (bads.Justice property) = true
 are_of_justice wanted = false
 
--- the first reason to refuse a conversion to this destination: no map tells what bad states were in the source
+-- the first reason to refuse a conversion to this destination: no map tells what bad states were in the source, or
+-- which gates are gone
 abbrev pub refusal : List Row → Option Text → ToAig → Option Usage
 refusal rows destination c =
     if c.keep_map && c.ascii then Some usage.KeepMapNeedsBinary
     else if c.keep_map && c.strip then Some usage.KeepMapExcludesStrip
     else if c.keep_map && c.undo_map then Some usage.KeepMapExcludesUndoMap
+    else if c.keep_map && c.simplify then Some usage.KeepMapExcludesSimplify
     else if are_outputs c.bad_states && c.keep_map then Some usage.OutputsAsBadExcludesKeepMap
     else if are_outputs c.bad_states && c.undo_map then Some usage.OutputsAsBadExcludesUndoMap
     else if asks_for_both rows then Some usage.JusticeAsBadAlone
@@ -189,6 +192,7 @@ abbrev pub unrolling : List Row → Option Text → Unroll
 unrolling rows destination = record {
   frames = frames rows;
   form = unrolled_form rows destination;
+  simplify = is_set (codes "simplify") rows;
   max_var = limit rows;
 }
 
@@ -205,6 +209,7 @@ reaching wrote rows = record {
   max_var = limit rows;
   wrote = wrote;
   lrat = is_set (codes "lrat") rows;
+  simplify = is_set (codes "simplify") rows;
 }
 
 -- the standard input is one stream, and cannot give a model and what a solver wrote
@@ -224,6 +229,7 @@ proving rows = record {
   max_var = limit rows;
   refuted = is_given (codes "refutation") rows;
   lrat = is_set (codes "lrat") rows;
+  simplify = is_set (codes "simplify") rows;
 }
 
 -- the first reason to refuse the files of a model, of its invariant and of a refutation: the standard input is one
@@ -274,6 +280,7 @@ abbrev pub comparison : List Row → Option Text → Miter
 comparison rows destination = record {
   ascii = wants_ascii rows destination;
   by_name = is_set (codes "by-name") rows;
+  simplify = is_set (codes "simplify") rows;
   max_var = limit rows;
 }
 

@@ -8,6 +8,7 @@ usage_words (usages.Words text) = string_bytes text
 usage_words usages.KeepMapNeedsBinary = codes "--keep-map needs binary output"
 usage_words usages.KeepMapExcludesStrip = codes "--keep-map excludes --strip"
 usage_words usages.KeepMapExcludesUndoMap = codes "--keep-map excludes --undo-map"
+usage_words usages.KeepMapExcludesSimplify = codes "--keep-map excludes --simplify"
 usage_words usages.OutputsAsBadExcludesKeepMap = codes "--outputs-as-bad excludes --keep-map"
 usage_words usages.OutputsAsBadExcludesUndoMap = codes "--outputs-as-bad excludes --undo-map"
 usage_words usages.JusticeAsBadAlone =

@@ -10,7 +10,7 @@ use std::alloc::{AllocError, Global};
 
 /// The program's version, the one place in the sources that has it. By its contract the library's
 /// number is the same.
-pub const VERSION: &str = "1.4.0";
+pub const VERSION: &str = "1.5.0";
 
 const ABOUT: &str = "Tools for circuits in the AIGER format";
 
@@ -35,6 +35,12 @@ a run without end that meets each literal of justice property N and each
 fairness constraint again and again, with all constraints kept. So what proves
 that it is never reached, as --invariant of aigunroll does, proves liveness.
 
+With --simplify gates go that are not needed: constants and equal operands go
+through, gates with the same operands become one, and a gate on which nothing
+depends that the circuit shows is left out. The circuit has the same traces,
+also with x. All but gates stays in its place, by its name, so stimuli,
+witnesses, answers and invariants are good for both.
+
 Exit status:
   0  done, also for --help
   1  the input was refused, a file or stream failed, or memory ran out
@@ -46,7 +52,8 @@ Examples:
   aiger aigtoaig --keep-map model.aag image.aig   to binary, with a map
   aiger aigtoaig --undo-map image.aig again.aag   undone by that map
   aiger aigtoaig --outputs-as-bad model.aag bad.aag   outputs as bad states
-  aiger aigtoaig --justice-as-bad 0 model.aag live.aig   its property 0";
+  aiger aigtoaig --justice-as-bad 0 model.aag live.aig   its property 0
+  aiger aigtoaig --simplify model.aag small.aig   with fewer gates";
 
 const SIM_ABOUT: &str = "Simulate a circuit, step by step";
 
@@ -152,8 +159,14 @@ place of bad states: for a run that comes back to a state in which it was, and
 on the way meets each literal of the property and each fairness constraint. The
 clauses are those of the circuit that aigtoaig --justice-as-bad N makes, and the
 witness has jN in the place of bN. 'none within K' then says that no such run
-has fewer than K steps, and 'never' that no run without end meets them all again
-and again.
+without x has fewer than K steps, and 'never' that no run without end meets them
+all again and again.
+
+With --simplify resets and constants go through all frames, and gates that are
+not needed go. Clauses are made of what is left of the bad states alone; the
+inputs keep their numbers. A refutation of them is checked with --simplify, and
+an answer on them is read with or without. All frames are held in memory. It
+helps where much folds; a solver may also take longer than without.
 
 Exit status:
   0  done, also for --help
@@ -175,7 +188,8 @@ Examples:
   aiger aigunroll --invariant model.pla --cnf model.aig never.cnf
   cadical -q never.cnf never.drat
   aiger aigunroll --invariant model.pla --refutation never.drat model.aig
-  aiger aigunroll --frames 20 --justice 0 --cnf model.aig live.cnf   liveness";
+  aiger aigunroll --frames 20 --justice 0 --cnf model.aig live.cnf   liveness
+  aiger aigunroll --frames 20 --simplify --cnf model.aig small.cnf";
 
 const MITER_ABOUT: &str = "Make one circuit of two, to show that they are equal";
 
@@ -205,6 +219,10 @@ The miter is ASCII where --ascii is given or the name of the destination ends in
 .aag, and else binary. Nothing is written before both circuits were read, so the
 destination may be one of them; it is lost if writing fails. Justice properties
 and fairness constraints cannot be compared.
+
+With --simplify the miter is simplified, as aigtoaig --simplify does: what is
+built alike in both circuits is there once, and where all of it is, no gate is
+left and no solver needed.
 
 Exit status:
   0  done, also for --help
@@ -297,6 +315,19 @@ Write a circuit that reaches its one bad state
 where justice property N, counted from 0, has a fair
 run; not with --outputs-as-bad, --keep-map or
 --undo-map";
+
+const SIMPLIFY_HELP: &str = "\
+Write a circuit with fewer gates that has the same
+traces; not with --keep-map";
+
+const SIMPLIFY_UNROLLED_HELP: &str = "\
+Simplify the unrolled circuit first; with --cnf, and
+then also with --answer and --refutation, keep only what
+bad states need";
+
+const SIMPLIFY_MITER_HELP: &str = "\
+Simplify the miter, so that what is built alike in both
+circuits is there once";
 
 const SYNC_HELP: &str = "\
 End only once the disk has the destination; not for
@@ -436,6 +467,7 @@ fn to_aig<'a>(alloc: Global) -> Result<Command<'a>, AllocError>
         command,
         property_option(alloc, "justice-as-bad", JUSTICE_AS_BAD_HELP),
     );
+    let command = with_argument(command, flag(alloc, "simplify", SIMPLIFY_HELP));
     let command = with_argument(command, flag(alloc, "sync", SYNC_HELP));
     let command = with_argument(command, max_var(alloc));
     let command = with_argument(command, file(alloc, "source", SOURCE_HELP));
@@ -474,6 +506,7 @@ fn aigunroll<'a>(alloc: Global) -> Result<Command<'a>, AllocError>
     let command = with_argument(command, solver_file(alloc, "invariant", INVARIANT_HELP));
     let command = with_argument(command, property_option(alloc, "bad", BAD_HELP));
     let command = with_argument(command, property_option(alloc, "justice", JUSTICE_HELP));
+    let command = with_argument(command, flag(alloc, "simplify", SIMPLIFY_UNROLLED_HELP));
     let command = with_argument(command, flag(alloc, "sync", SYNC_HELP));
     let command = with_argument(command, max_var(alloc));
     let command = with_argument(command, file(alloc, "source", SOURCE_HELP));
@@ -486,6 +519,7 @@ fn aigmiter<'a>(alloc: Global) -> Result<Command<'a>, AllocError>
     let command = Ok(command(alloc, "aigmiter", MITER_ABOUT, MITER_AFTER));
     let command = with_argument(command, flag(alloc, "by-name", BY_NAME_HELP));
     let command = with_argument(command, flag(alloc, "ascii", ASCII_HELP));
+    let command = with_argument(command, flag(alloc, "simplify", SIMPLIFY_MITER_HELP));
     let command = with_argument(command, flag(alloc, "sync", SYNC_HELP));
     let command = with_argument(command, max_var(alloc));
     let command = with_argument(command, required_file(alloc, "first", FIRST_HELP));

@@ -32,6 +32,7 @@ fn comparison(matches: &ArgMatches<'_>, destination: &Option<String>) -> Miter
     Miter {
         ascii: wants_ascii(matches, destination),
         by_name: is_set(matches, "by-name"),
+        simplify: is_set(matches, "simplify"),
         max_var: limit(matches),
     }
 }

@@ -22,6 +22,7 @@ fn proving(matches: &ArgMatches<'_>) -> Invariant
         max_var: limit(matches),
         refuted: is_given(matches, "refutation"),
         lrat: is_set(matches, "lrat"),
+        simplify: is_set(matches, "simplify"),
     }
 }
 

@@ -33,6 +33,7 @@ fn reaching(matches: &ArgMatches<'_>, wrote: SolverFile) -> Reach
         max_var: limit(matches),
         wrote,
         lrat: is_set(matches, "lrat"),
+        simplify: is_set(matches, "simplify"),
     }
 }
 

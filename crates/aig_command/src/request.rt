@@ -26,6 +26,9 @@ pub struct ToAig {
     pub undo_map: bool,
     /// Which bad states are written.
     pub bad_states: BadStates,
+    /// Whether a circuit with fewer gates is written that means the same. This stands without
+    /// `keep_map`.
+    pub simplify: bool,
     /// The limit on the largest variable index and the counts of the source.
     pub max_var: u32,
 }
@@ -80,6 +83,8 @@ pub struct Unroll {
     pub frames: u32,
     /// What is written of the unrolled circuit.
     pub form: UnrolledForm,
+    /// Whether it is simplified first.
+    pub simplify: bool,
     /// The limit on the largest variable index and the counts of the source.
     pub max_var: u32,
 }
@@ -107,6 +112,8 @@ pub struct Reach {
     pub wrote: SolverFile,
     /// Whether a refutation is LRAT, with hints; else it is DRAT.
     pub lrat: bool,
+    /// Whether the clauses are those of the simplified circuit.
+    pub simplify: bool,
 }
 
 /// An invariant of a model: the clauses in which it is to be shown, or that a solver's refutation
@@ -121,6 +128,8 @@ pub struct Invariant {
     pub refuted: bool,
     /// Whether that is LRAT, with hints; else it is DRAT.
     pub lrat: bool,
+    /// Whether the clauses are those of the simplified circuit.
+    pub simplify: bool,
 }
 
 /// A miter of two circuits, which says where they differ.
@@ -130,6 +139,8 @@ pub struct Miter {
     pub ascii: bool,
     /// Whether inputs, outputs and bad states are paired by their symbols, and not by their places.
     pub by_name: bool,
+    /// Whether the miter is simplified first.
+    pub simplify: bool,
     /// The limit on the largest variable index and the counts of each circuit.
     pub max_var: u32,
 }

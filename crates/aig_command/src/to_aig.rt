@@ -48,6 +48,7 @@ fn conversion(matches: &ArgMatches<'_>, destination: &Option<String>) -> ToAig
         keep_map: is_set(matches, "keep-map"),
         undo_map: is_set(matches, "undo-map"),
         bad_states: bad_states(matches),
+        simplify: is_set(matches, "simplify"),
         max_var: limit(matches),
     }
 }
@@ -80,6 +81,9 @@ fn check_request(
     }
     if request.keep_map && request.undo_map {
         return Err(Usage::KeepMapExcludesUndoMap);
+    }
+    if request.keep_map && request.simplify {
+        return Err(Usage::KeepMapExcludesSimplify);
     }
     if request.bad_states.are_outputs() && request.keep_map {
         return Err(Usage::OutputsAsBadExcludesKeepMap);

@@ -36,6 +36,7 @@ fn unrolling(matches: &ArgMatches<'_>, destination: &Option<String>) -> Unroll
     Unroll {
         frames: frame_count(matches),
         form: unrolled_form(matches, destination),
+        simplify: is_set(matches, "simplify"),
         max_var: limit(matches),
     }
 }

@@ -18,6 +18,8 @@ pub enum Usage {
     KeepMapExcludesStrip,
     /// A map is undone, and none is kept by that.
     KeepMapExcludesUndoMap,
+    /// A map is kept, which does not tell of gates that are gone.
+    KeepMapExcludesSimplify,
     /// Outputs become bad states, and a map, which does not tell that, is kept.
     OutputsAsBadExcludesKeepMap,
     /// Outputs become bad states, and what was converted is to come back as it was.
@@ -78,6 +80,7 @@ impl Usage {
             Usage::KeepMapNeedsBinary => "--keep-map needs binary output",
             Usage::KeepMapExcludesStrip => "--keep-map excludes --strip",
             Usage::KeepMapExcludesUndoMap => "--keep-map excludes --undo-map",
+            Usage::KeepMapExcludesSimplify => "--keep-map excludes --simplify",
             Usage::OutputsAsBadExcludesKeepMap => "--outputs-as-bad excludes --keep-map",
             Usage::OutputsAsBadExcludesUndoMap => "--outputs-as-bad excludes --undo-map",
             Usage::JusticeAsBadAlone => {

@@ -7,7 +7,7 @@ use Rattle.aig_fault.specs.declared.stopped.Stopped.TheVariants.{Refused}
 use Rattle.aig_miter.specs.Outcome.{IsComparable, comparable, miter_of}
 use Rattle.aig_pairing.specs.ByNames.{by_names}
 use Rattle.aig_pairing.specs.NameFaults.{first_name_fault}
-use Rattle.aig_commands.specs.Conversion.{IsTextAs}
+use Rattle.aig_commands.specs.Conversion.{IsTextAs, IsWritten}
 use Rattle.aig_commands.specs.File.{IsFileOf}
 use Rattle.aig_commands.specs.Reading.{IsUnreadable}
 
@@ -55,13 +55,16 @@ NotMadeOf request first second fault =
     ⊎ ((paired : Circuit) × IsPaired request.by_name first second paired
     × (miter_of first paired ≡ Err (Refused fault)))
 
--- The text that is written for these bytes of the second circuit: that of the miter, in ASCII or in binary.
+-- The text that is written for these bytes of the second circuit: that of the miter, or of what it is simplified to, in
+-- ASCII or in binary.
 pub record IsMiterText (request : Miter) (first : Circuit) (bytes text : List ℕ) : Type 0 where
   pub second : Circuit
   pub made : Circuit
+  pub written : Circuit
   pub read : IsFileOf bytes request.max_var second
   pub is_made : IsMadeOf request first second made
-  pub written_as : IsTextAs request.ascii false made text
+  pub is_written : IsWritten request.simplify made written
+  pub written_as : IsTextAs request.ascii false written text
 
 -- There is no such text, for this reason.
 abbrev pub NotMiter : Miter → Circuit → Fault → List ℕ → Type 0

@@ -15,6 +15,7 @@ use Rattle.aig_fault.specs.declared.fault.Place.TheVariants.{Whole}
 use Rattle.aig_fault.specs.declared.kind.Kind.TheVariants.{HasBad}
 use Rattle.aig_live.specs.Laws.{live}
 use Rattle.aig_lasso.specs.Goaled.{HasNoJustice}
+use Rattle.aig_simplify.specs.Simplified.{IsSimplified}
 use Rattle.aig_live.specs.Outcome.{HasLive, HasNoLive}
 use Rattle.aig_commands.specs.File.{IsFileOf}
 use Rattle.aig_commands.specs.OutputsAsBad.{with_outputs_as_bad}
@@ -39,9 +40,14 @@ turned (bads.Justice property) source = live property source
 abbrev pub stripped_if_asked : ToAig → Circuit → Circuit
 stripped_if_asked request source = if request.strip then stripped source else source
 
--- the circuit that is written for that one
+-- the circuit of the source, with the bad states that are asked for, and without what is to be left out
 abbrev pub changed : ToAig → Circuit → Circuit
 changed request source = stripped_if_asked request (turned request.bad_states source)
+
+-- the circuit that is written for that one: simplified where that is asked for
+abbrev pub IsWritten : (simplify : Bool) → Circuit → Circuit → Type 0
+IsWritten true c written = IsSimplified c written
+IsWritten false c written = written ≡ c
 
 -- the image that is written in binary, with a map or without
 abbrev pub IsImageAs : Bool → Circuit → Circuit → Type 0
@@ -70,10 +76,12 @@ CannotTurn (bads.Justice property) source fault =
 pub record IsConversionText (request : ToAig) (bytes text : List ℕ) : Type 0 where
   pub found : Circuit
   pub source : Circuit
+  pub written : Circuit
   pub read : IsFileOf bytes request.max_var found
   pub is_source : IsSource request.undo_map found source
   pub can_turn : CanTurn request.bad_states source
-  pub written_as : IsTextAs request.ascii request.keep_map (changed request source) text
+  pub is_written : IsWritten request.simplify (changed request source) written
+  pub written_as : IsTextAs request.ascii request.keep_map written text
 
 -- The bytes have no conversion text for this reason: they are no file of a circuit; they are the file of one that was
 -- to be undone, and this is why it has no undone one; or the circuit cannot have the bad states

@@ -18,7 +18,7 @@ use Rattle.aig_commands.specs.Conversion.{IsConversionRefused, IsConversionText}
 use Rattle.aig_commands.specs.File.{IsFileOf}
 use Rattle.aig_commands.specs.Proving.{IsInvariantModel, IsInvariantText, IsNeverText, IsStrengthened}
 use Rattle.aig_commands.specs.Proving.{NotInvariantModel}
-use Rattle.aig_commands.specs.Proving.{NotStrengthened, never_text}
+use Rattle.aig_commands.specs.Proving.{NotStrengthened, never_text, over_one_frame}
 use Rattle.aig_commands.specs.Reaching.{IsModelRefused, IsReachRefused, IsReachText, IsSelectedModel}
 use Rattle.aig_commands.specs.Reading.{AtAnyTime, AtItsEnd, IsUnreadable}
 use Rattle.aig_commands.specs.Refuting.{CanUnroll, IsNoneText, IsRefutationRefused, none_text}
@@ -39,6 +39,7 @@ text_of (answers.Ascii circuit) = ascii_text circuit
 text_of (answers.Binary image) = binary_text image
 text_of (answers.Mapped image) = binary_text image
 text_of (answers.Unrolled form circuit) = unrolled_text form circuit
+text_of (answers.Simplified form circuit) = unrolled_text form circuit
 text_of (answers.Witness claim) = witness_text claim
 text_of (answers.Lasso claim) = lasso_text claim
 text_of (answers.NoneWithin frames) = none_text frames
@@ -63,7 +64,7 @@ source_of (readings.Unroll request) = Model
 source_of (readings.Reach request) = Model
 source_of (readings.Solved request selected) = File
 source_of (readings.Invariant request) = Model
-source_of (readings.Clauses selected) = File
+source_of (readings.Clauses request selected) = File
 source_of (readings.Strengthen request selected) = File
 source_of (readings.Never request strengthened) = Refutation
 source_of (readings.First request) = Model
@@ -82,12 +83,12 @@ IsSolvedText wrote.Refutation request selected bytes text = IsNoneText request s
 -- why there is none
 abbrev pub IsSolvedRefused : SolverFile → Reach → Circuit → Fault → List ℕ → Ending → Type 0
 IsSolvedRefused wrote.Answer request selected = AtAnyTime (IsReachRefused request selected)
-IsSolvedRefused wrote.Refutation request selected = IsRefutationRefused request.lrat selected request.frames
+IsSolvedRefused wrote.Refutation request selected = IsRefutationRefused request selected
 
 -- what an invariant of this circuit is read for: its clauses are refuted, or written
 abbrev pub read_for : Bool → Invariant → Circuit → Reading
 read_for true request selected = readings.Strengthen request selected
-read_for false request selected = readings.Clauses selected
+read_for false request selected = readings.Clauses request selected
 
 -- what is to be done once these bytes of the source came
 abbrev pub Makes : Reading → List ℕ → Job → Type 0
@@ -101,7 +102,7 @@ Makes (readings.Solved request selected) bytes next = WritesText (IsSolvedText r
 Makes (readings.Invariant request) bytes next =
     (selected : Circuit) × IsInvariantModel request bytes selected
     × (next ≡ jobs.Read (read_for request.refuted request selected))
-Makes (readings.Clauses selected) bytes next = WritesText (IsInvariantText selected bytes) next
+Makes (readings.Clauses request selected) bytes next = WritesText (IsInvariantText request selected bytes) next
 Makes (readings.Strengthen request selected) bytes next =
     (strengthened : Circuit) × IsStrengthened selected bytes strengthened
     × (next ≡ jobs.Read (readings.Never request strengthened))
@@ -119,9 +120,9 @@ Refuses (readings.Unroll request) = AtItsEnd (IsUnrollingRefused request)
 Refuses (readings.Reach request) = AtItsEnd (IsModelRefused request)
 Refuses (readings.Solved request selected) = IsSolvedRefused request.wrote request selected
 Refuses (readings.Invariant request) = AtItsEnd (NotInvariantModel request)
-Refuses (readings.Clauses selected) = AtItsEnd (NotStrengthened selected)
+Refuses (readings.Clauses request selected) = AtItsEnd (NotStrengthened selected)
 Refuses (readings.Strengthen request selected) = AtItsEnd (NotStrengthened selected)
-Refuses (readings.Never request strengthened) = IsRefutationRefused request.lrat strengthened 1
+Refuses (readings.Never request strengthened) = IsRefutationRefused (over_one_frame request) strengthened
 Refuses (readings.First request) = AtItsEnd (NotFirst request)
 Refuses (readings.Second request first) = AtItsEnd (NotMiter request first)
 Refuses (readings.Sim request) = AtItsEnd (IsUnreadable request.max_var)

@@ -7,11 +7,13 @@ use Rattle.aig_cnf.specs.ClauseText.{cnf_text}
 use Rattle.aig_command.specs.declared.request.Invariant.{Invariant}
 use Rattle.aig_command.specs.declared.request.Reach.{Reach}
 use Rattle.aig_command.specs.declared.request.SolverFile.TheVariants.{Refutation}
+use Rattle.aig_command.specs.declared.request.Unroll.{Unroll}
 use Rattle.aig_command.specs.declared.request.UnrolledForm.TheVariants.{Clauses}
 use Rattle.aig_invariant.specs.Invariant.{Cube, with_invariant}
 use Rattle.aig_invariant.specs.Laws.{IsNever}
 use Rattle.aig_invariant.specs.Outcome.{HasCubes, IsInvariantRefused}
 use Rattle.aig_lasso.specs.Endless.{IsFairRun}
+use Rattle.aig_reduce.specs.Reduced.{IsReducedIf}
 use Rattle.aig_lasso.specs.Goals.{with_goals}
 use Rattle.aig_meaning.specs.Meaning.{Row}
 use Rattle.aig_command.specs.declared.request.Property.{Property}
@@ -30,6 +32,16 @@ over_one_frame request = record {
   max_var = request.max_var;
   wrote = Refutation;
   lrat = request.lrat;
+  simplify = request.simplify;
+}
+
+-- the request for the clauses of the circuit in which the invariant is to be shown
+abbrev pub clauses_over_one_frame : Invariant → Unroll
+clauses_over_one_frame request = record {
+  frames = 1;
+  form = Clauses AnyBad;
+  simplify = request.simplify;
+  max_var = request.max_var;
 }
 
 -- The model is the file of a circuit that has clauses over one frame, and this circuit stands for the property of that.
@@ -58,11 +70,14 @@ NotStrengthened selected fault invariant =
     ⊎ ((cubes : List Cube) × HasCubes selected invariant cubes
     × NotUnrolledAs (Clauses AnyBad) 1 (with_invariant cubes selected) fault)
 
--- The text that is written for these bytes of an invariant: the clauses in which it is to be shown.
-pub record IsInvariantText (selected : Circuit) (invariant text : List ℕ) : Type 0 where
+-- The text that is written for these bytes of an invariant: the clauses in which it is to be shown, or those of what is
+-- left of their circuit where it is to be simplified.
+pub record IsInvariantText (request : Invariant) (selected : Circuit) (invariant text : List ℕ) : Type 0 where
   pub strengthened : Circuit
+  pub written : Circuit
   pub is_strengthened : IsStrengthened selected invariant strengthened
-  pub written_as : text ≡ cnf_text is_strengthened.unrolled
+  pub is_written : IsReducedIf request.simplify is_strengthened.unrolled written
+  pub written_as : text ≡ cnf_text written
 
 -- no run ever has the property: none reaches a bad state at any step, or none without end is fair
 abbrev pub NoRunHas : Circuit → Property → Type 0

@@ -1,6 +1,6 @@
 -- Which witness is written for a solver's answer (this project's profile): a model is read, what stands for the property
 -- is run by the values of the answer, and where a bad state is reached, that is claimed.
-use Rattle.std.specs.Prelude.{◌≡◌, ℕ, List, None, Some}
+use Rattle.std.specs.Prelude.{◌≡◌, ℕ, List, None, Some, false}
 use Rattle.aig_circuit.specs.declared.circuit.Circuit.{Circuit}
 use Rattle.aig_circuit.specs.Wellformed.{IsWellFormed}
 use Rattle.aig_io.specs.Runs.{AtEnd}
@@ -18,11 +18,12 @@ use Rattle.aig_fault.specs.declared.stopped.Stopped.TheVariants.{Refused}
 use Rattle.aig_commands.specs.Property.{HasProperty, property_model}
 use Rattle.aig_commands.specs.Unrolling.{IsUnrollingRefused, IsUnrollingText}
 
--- the request for the clauses on which the answer is
+-- the request for the clauses of the model, before they are simplified
 abbrev pub clauses_selected : Reach → Unroll
 clauses_selected request = record {
   frames = request.frames;
   form = Clauses request.property;
+  simplify = false;
   max_var = request.max_var;
 }
 

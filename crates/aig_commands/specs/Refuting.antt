@@ -10,6 +10,7 @@ use Rattle.aig_command.specs.declared.request.Property.{Property}
 use Rattle.aig_command.specs.declared.request.Property.TheVariants.{AnyBad, Bad, Justice}
 use Rattle.aig_lasso.specs.Lasso.{IsLasso}
 use Rattle.aig_live.specs.Laws.{IsWithoutX}
+use Rattle.aig_reduce.specs.Reduced.{IsReducedIf}
 use Rattle.aig_replay.specs.Laws.{IsOfSelected}
 use Rattle.aig_unroll.specs.Unrolled.{IsTooLarge, IsUnrolled, IsUnsupported}
 use Rattle.aig_witness.specs.declared.verdict.Verdict.TheVariants.{Confirmed}
@@ -66,12 +67,18 @@ abbrev pub format_of : Bool → RefutationFormat
 format_of true = Lrat
 format_of false = Drat
 
--- A refutation of the circuit's clauses, unrolled over so many frames, is refused for this reason, where its bytes
--- ended so.
-abbrev pub IsRefutationRefused : (lrat : Bool) → Circuit → ℕ → Fault → List ℕ → Ending → Type 0
-IsRefutationRefused lrat c frames fault bytes ending = (d : Circuit) × IsWellFormed d × IsUnrolled c frames d
-    × IsRefusedWhere (format_of lrat) (bad_clauses d) (literals_of d) fault bytes ending
+-- the circuit whose clauses are refuted: the unrolled one, or what is left of it where it is to be simplified
+pub record IsRefutedFor (request : Reach) (c d : Circuit) : Type 0 where
+  pub unrolled : Circuit
+  pub formed : IsWellFormed unrolled
+  pub is_unrolled : IsUnrolled c request.frames unrolled
+  pub is_reduced : IsReducedIf request.simplify unrolled d
+
+-- A refutation of the circuit's clauses is refused for this reason, where its bytes ended so.
+abbrev pub IsRefutationRefused : Reach → Circuit → Fault → List ℕ → Ending → Type 0
+IsRefutationRefused request c fault bytes ending = (d : Circuit) × IsRefutedFor request c d
+    × IsRefusedWhere (format_of request.lrat) (bad_clauses d) (literals_of d) fault bytes ending
 
 -- It is not known that the clauses are refuted, for this reason.
-abbrev pub NotRefuted : (lrat : Bool) → Circuit → ℕ → (refutation : List ℕ) → Fault → Type 0
-NotRefuted lrat c frames refutation fault = IsRefutationRefused lrat c frames fault refutation AtEnd
+abbrev pub NotRefuted : Reach → Circuit → (refutation : List ℕ) → Fault → Type 0
+NotRefuted request c refutation fault = IsRefutationRefused request c fault refutation AtEnd

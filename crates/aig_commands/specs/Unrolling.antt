@@ -1,6 +1,6 @@
 -- Which text an unrolling writes (this project's profile): a circuit is read, and what is written is its unrolled
--- circuit, or the clauses by which a bad state of that is 1.
-use Rattle.std.specs.Prelude.{◌≡◌, ◌⊎◌, ℕ, List, ⊤}
+-- circuit, or the clauses by which a bad state of that is 1; or it is simplified first.
+use Rattle.std.specs.Prelude.{◌≡◌, ◌⊎◌, ℕ, List, Bool, true, false, ⊤}
 use Rattle.aig_circuit.specs.declared.circuit.Circuit.{Circuit}
 use Rattle.aig_text.specs.AsciiText.{ascii_text}
 use Rattle.aig_binary.specs.BinaryText.{binary_text}
@@ -8,6 +8,8 @@ use Rattle.aig_cnf.specs.ClauseText.{cnf_text}
 use Rattle.aig_fault.specs.declared.fault.Fault.{Fault}
 use Rattle.aig_fault.specs.declared.stopped.Stopped.{Stopped}
 use Rattle.aig_fault.specs.declared.stopped.Stopped.TheVariants.{Refused}
+use Rattle.aig_reduce.specs.Reduced.{IsReducedIf}
+use Rattle.aig_simplify.specs.Simplified.{IsSimplified}
 use Rattle.aig_unroll.specs.Outcome.{HasClauses, NotInClauses, NotUnrolled}
 use Rattle.aig_unroll.specs.Unrolled.{IsTooLarge, IsUnrolled, IsUnsupported}
 use Rattle.aig_command.specs.declared.request.Property.{Property}
@@ -50,15 +52,28 @@ pub record IsUnrolledFor (property : Property) (frames : ℕ) (c d : Circuit) : 
   pub fits : ¬ IsTooLarge (property_model property c) frames
   pub is_unrolled : IsUnrolled (property_model property c) frames d
 
--- The text that is written for these bytes: they are the file of a circuit that can be unrolled, and this is the
--- text of the unrolled circuit.
-pub record IsUnrollingText (request : Unroll) (bytes text : List ℕ) : Type 0 where
-  pub found : Circuit
+-- The circuit that is written for an unrolled one: the same, or simplified where that is asked for. Of clauses the
+-- outputs are no part.
+abbrev pub IsWrittenFor : (simplify : Bool) → UnrolledForm → Circuit → Circuit → Type 0
+IsWrittenFor simplify (Clauses property) d written = IsReducedIf simplify d written
+IsWrittenFor true form d written = IsSimplified d written
+IsWrittenFor false form d written = written ≡ d
+
+-- The text that is written for this circuit: it can be unrolled, and this is the text of the unrolled circuit, or of
+-- what that is simplified to.
+pub record IsTextOf (request : Unroll) (found : Circuit) (text : List ℕ) : Type 0 where
   pub unrolled : Circuit
-  pub read : IsFileOf bytes request.max_var found
+  pub written : Circuit
   pub is_unrolled : IsUnrolledFor (property_of request.form) request.frames found unrolled
   pub is_writable : IsWritable request.form unrolled
-  pub written_as : text ≡ unrolled_text request.form unrolled
+  pub is_written : IsWrittenFor request.simplify request.form unrolled written
+  pub written_as : text ≡ unrolled_text request.form written
+
+-- The text that is written for these bytes: they are the file of such a circuit.
+pub record IsUnrollingText (request : Unroll) (bytes text : List ℕ) : Type 0 where
+  pub found : Circuit
+  pub read : IsFileOf bytes request.max_var found
+  pub is_text : IsTextOf request found text
 
 -- A circuit is not unrolled so: it has not the property; it cannot be unrolled; or no clauses can be made of what is
 -- unrolled.

@@ -13,6 +13,7 @@ use aig_convert::{MappedImage, write_mapped};
 use aig_core::{Checked, DeviceFault, Output, Sink};
 use aig_fault::{Message, Stopped};
 use aig_live::FoundLasso;
+use aig_reduce::write_clauses;
 use aig_replay::FoundWitness;
 use aig_text::write_ascii;
 use aig_unroll::Unrolling;
@@ -28,6 +29,8 @@ pub enum Answer {
     Mapped(MappedImage),
     /// An unrolled circuit, in this form.
     Unrolled(UnrolledForm, Unrolling),
+    /// What an unrolled circuit was simplified to, in this form.
+    Simplified(UnrolledForm, Ordered),
     /// A witness that a bad state is reached.
     Witness(FoundWitness),
     /// A witness that a justice property is met.
@@ -54,6 +57,23 @@ fn write_unrolled<W: Sink>(
         UnrolledForm::Binary => circuit.write_binary(sink),
         UnrolledForm::Ascii => circuit.write_ascii(sink),
         UnrolledForm::Clauses { property: _ } => circuit.write_cnf(sink),
+    }
+}
+
+fn write_simplified<W: Sink>(
+    form: UnrolledForm,
+    circuit: &Ordered,
+    sink: &mut W,
+) -> Result<(), DeviceFault>
+    ensures ok { OnOk result (W.history sink.new
+        ≡ took (unrolled_text form circuit.now) (W.history sink.old)) }
+    ensures err { OnErr result (TookBeginning (unrolled_text form circuit.now)
+        (W.history sink.old) (W.history sink.new)) }
+{
+    match form {
+        UnrolledForm::Binary => write_binary(circuit, sink),
+        UnrolledForm::Ascii => write_ascii(circuit.as_checked(), sink),
+        UnrolledForm::Clauses { property: _ } => write_clauses(circuit, sink),
     }
 }
 
@@ -118,6 +138,11 @@ impl Answer {
                 Ok(written?)
             }
             Answer::Unrolled(form, circuit) => Ok(write_unrolled(form, circuit, sink)?),
+            Answer::Simplified(form, circuit) => {
+                let written = write_simplified(form, &circuit, sink);
+                drop(circuit); // for the proof
+                Ok(written?)
+            }
             Answer::Witness(witness) => Ok(witness.write(sink)?),
             Answer::Lasso(lasso) => Ok(lasso.write(sink)?),
             Answer::NoneWithin(frames) => Ok(send_none_within(frames, sink)?),

@@ -9,7 +9,7 @@ ghost use Rattle.aig_commands.specs.Jobs.{text_of};
 ghost use Rattle.aig_commands.specs.Reading.{AtItsEnd, ReadSays};
 
 use crate::answer::Answer;
-use crate::conversion::convert_as;
+use crate::conversion::{convert_as, simplify_if_asked};
 use aig_binary::read_source;
 use aig_command::Miter;
 use aig_core::{Checked, Keep, Source, Steps};
@@ -91,7 +91,8 @@ fn compare(
     }
 }
 
-/// Reads the second circuit to its end, as a file of either kind, and makes the miter of both.
+/// Reads the second circuit to its end, as a file of either kind, and makes the miter of both,
+/// simplified where that is asked for.
 pub(crate) fn read_second<R: Source>(
     alloc: Global,
     request: &Miter,
@@ -107,5 +108,6 @@ pub(crate) fn read_second<R: Source>(
 {
     let second = read_source(alloc, source, request.max_var, Keep::Circuit)?;
     let made = compare(alloc, request, first, second)?;
-    Ok(convert_as(alloc, request.ascii, false, made)?)
+    let written = simplify_if_asked(alloc, request.simplify, made)?;
+    Ok(convert_as(alloc, request.ascii, false, written)?)
 }

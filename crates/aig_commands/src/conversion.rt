@@ -7,7 +7,7 @@ ghost use Rattle.aig_io.specs.Runs.{Read, Transferred};
 ghost use Rattle.aig_map.specs.Undone.{IsMapFault};
 ghost use Rattle.aig_command.specs.Answer.{IsKeptAlone};
 ghost use Rattle.aig_commands.specs.Conversion.{CanTurn, CannotTurn, IsConversionRefused};
-ghost use Rattle.aig_commands.specs.Conversion.{IsConversionText, IsSource, IsTextAs};
+ghost use Rattle.aig_commands.specs.Conversion.{IsConversionText, IsSource, IsTextAs, IsWritten};
 ghost use Rattle.aig_commands.specs.Conversion.{stripped_if_asked, turned};
 ghost use Rattle.aig_commands.specs.OutputsAsBad.{with_outputs_as_bad};
 ghost use Rattle.aig_commands.specs.Jobs.{text_of};
@@ -22,14 +22,16 @@ use aig_convert::{into_binary, into_binary_with_map, undo};
 use aig_core::{Checked, Circuit, Keep, OutOfMemory, Sink, Source, Steps, Symbols};
 use aig_fault::Stopped;
 use aig_live::live;
+use aig_simplify::simplify;
 use std::alloc::Global;
 
 /// What is wanted of the check later: a binary image of the circuit that is read needs an order of
-/// its gates. ASCII needs none, a circuit that is undone comes from gates in order, and one that
-/// gets other bad states is another.
+/// its gates, and so does a simplified one. ASCII needs none, a circuit that is undone comes from
+/// gates in order, and one that gets other bad states is another.
 fn what_to_keep(request: &ToAig) -> Keep {
     let turns = !matches!(request.bad_states, BadStates::Kept);
-    if request.ascii || request.undo_map || turns {
+    let as_read = request.ascii && !request.simplify;
+    if as_read || request.undo_map || turns {
         Keep::Circuit
     } else {
         Keep::Order
@@ -92,6 +94,20 @@ fn undo_if_asked(alloc: Global, request: &ToAig, found: Checked) -> Result<Check
     undo(alloc, found)
 }
 
+/// The circuit, simplified where that is asked for.
+pub(crate) fn simplify_if_asked(
+    alloc: Global,
+    asked: bool,
+    circuit: Checked,
+) -> Result<Checked, OutOfMemory>
+    ensures { IfOk result (IsWritten asked circuit) }
+{
+    if !asked {
+        return Ok(circuit);
+    }
+    Ok(simplify(alloc, circuit)?.into_checked())
+}
+
 /// The circuit in ASCII, or its binary image, with a map or without.
 pub(crate) fn convert_as(
     alloc: Global,
@@ -131,7 +147,8 @@ pub(crate) fn read_conversion<R: Source>(
     let source_circuit = undo_if_asked(alloc, request, found)?;
     let turned_circuit = turn(alloc, request.bad_states, source_circuit)?;
     let circuit = strip_if_asked(alloc, request, turned_circuit);
-    Ok(convert_as(alloc, request.ascii, request.keep_map, circuit)?)
+    let written = simplify_if_asked(alloc, request.simplify, circuit)?;
+    Ok(convert_as(alloc, request.ascii, request.keep_map, written)?)
 }
 
 /// Reads the source to its end, and writes what the request asks for. Nothing is sent before the

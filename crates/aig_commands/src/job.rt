@@ -50,6 +50,7 @@ pub enum Reading {
     Invariant(Invariant),
     /// An invariant of this circuit, whose clauses are written.
     Clauses {
+        request: Invariant,
         selected: Checked,
     },
     /// An invariant of this circuit, and then a refutation of its clauses.
@@ -112,7 +113,7 @@ fn read_for(request: Invariant, selected: Checked) -> Reading
     if request.refuted {
         Reading::Strengthen { request, selected }
     } else {
-        Reading::Clauses { selected }
+        Reading::Clauses { request, selected }
     }
 }
 
@@ -159,8 +160,8 @@ impl Reading {
                 let selected = read_proving_model(alloc, &request, source)?;
                 Ok(Job::Read(read_for(request, selected)))
             }
-            Reading::Clauses { selected } => {
-                let answer = read_clauses(alloc, selected, source)?;
+            Reading::Clauses { request, selected } => {
+                let answer = read_clauses(alloc, &request, selected, source)?;
                 Ok(Job::Write(answer))
             }
             Reading::Strengthen { request, selected } => {

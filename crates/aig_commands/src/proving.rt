@@ -1,9 +1,9 @@
 //! `aigunroll --invariant`: an invariant, and a solver's proof that no bad state is ever reached.
-ghost use Rattle.std.specs.Prelude.{◌<◌, IfOk, length};
+ghost use Rattle.std.specs.Prelude.{◌≡◌, ◌<◌, IfOk, length};
 ghost use Rattle.aig_io.specs.Runs.{Read};
 ghost use Rattle.aig_commands.specs.Proving.{IsInvariantModel, IsInvariantText, NotInvariantModel};
 ghost use Rattle.aig_commands.specs.Proving.{IsNeverText, IsStrengthened, NotStrengthened};
-ghost use Rattle.aig_commands.specs.Proving.{never_text};
+ghost use Rattle.aig_commands.specs.Proving.{clauses_over_one_frame, never_text, over_one_frame};
 ghost use Rattle.aig_commands.specs.Jobs.{text_of};
 ghost use Rattle.aig_commands.specs.Reading.{AtItsEnd, ReadSays};
 ghost use Rattle.aig_commands.specs.Refuting.{CanUnroll, IsRefutationRefused};
@@ -11,9 +11,9 @@ ghost use Rattle.aig_commands.specs.Refuting.{CanUnroll, IsRefutationRefused};
 use crate::answer::Answer;
 use crate::reaching::selected_with_clauses;
 use crate::refuting::read_refutation;
-use crate::unrolling::unroll_as;
+use crate::unrolling::unrolled_answer;
 use aig_binary::read_source;
-use aig_command::{Invariant, Property, UnrolledForm};
+use aig_command::{Invariant, Property, Reach, SolverFile, Unroll, UnrolledForm};
 use aig_core::{Checked, Keep, Source};
 use aig_fault::Stopped;
 use aig_invariant::with_invariant;
@@ -52,24 +52,50 @@ pub(crate) fn read_strengthened<R: Source>(
     selected_with_clauses(alloc, strengthened, Property::AnyBad, 1)
 }
 
+/// The request for the clauses of the circuit in which an invariant is to be shown.
+fn clauses_over_one_frame(request: &Invariant) -> Unroll
+    ensures { result ≡ clauses_over_one_frame request.now }
+{
+    Unroll {
+        frames: 1,
+        form: UnrolledForm::Clauses {
+            property: Property::AnyBad,
+        },
+        simplify: request.simplify,
+        max_var: request.max_var,
+    }
+}
+
 /// Reads an invariant to its end, of the circuit that stands for the property, and makes the clauses
 /// in which it is to be shown.
 pub(crate) fn read_clauses<R: Source>(
     alloc: Global,
+    request: &Invariant,
     selected: Checked,
     source: &mut R,
 ) -> Result<Answer, Stopped>
-    ensures read { Read (ReadSays (λ answer bytes. IsInvariantText selected bytes (text_of answer))
+    ensures read { Read (ReadSays (λ answer bytes.
+        IsInvariantText request.now selected bytes (text_of answer))
         (AtItsEnd (NotStrengthened selected)) result) (R.history source.old)
         (R.history source.new) }
     ensures some { IfOk result (λ answer. 0 < length (text_of answer)) }
 {
-    let form = UnrolledForm::Clauses {
-        property: Property::AnyBad,
-    };
     let strengthened = with_invariant(alloc, selected, source)?;
-    let circuit = unroll_as(alloc, form, 1, strengthened)?;
-    Ok(Answer::Unrolled(form, circuit))
+    unrolled_answer(alloc, &clauses_over_one_frame(request), strengthened)
+}
+
+/// The request for a refutation of these clauses.
+fn over_one_frame(request: &Invariant) -> Reach
+    ensures { result ≡ over_one_frame request.now }
+{
+    Reach {
+        frames: 1,
+        property: request.property,
+        max_var: request.max_var,
+        wrote: SolverFile::Refutation,
+        lrat: request.lrat,
+        simplify: request.simplify,
+    }
 }
 
 /// Reads a refutation of the clauses of this circuit, in which an invariant is to be shown: by it no
@@ -82,11 +108,11 @@ pub(crate) fn read_never<R: Source>(
 ) -> Result<(), Stopped>
     requires can_unroll { CanUnroll strengthened 1 }
     ensures { Read (ReadSays (λ _ _. IsNeverText request.now strengthened never_text)
-        (IsRefutationRefused request.now.lrat strengthened 1) result)
+        (IsRefutationRefused (over_one_frame request.now) strengthened) result)
         (R.history source.old) (R.history source.new) }
 {
     let _circuit = strengthened.circuit(); // for the proof
-    let checked = read_refutation(alloc, &strengthened, 1, request.lrat, source);
+    let checked = read_refutation(alloc, &over_one_frame(request), &strengthened, source);
     drop(strengthened); // for the proof
     checked
 }

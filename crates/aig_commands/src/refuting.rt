@@ -6,17 +6,18 @@ ghost use Rattle.aig_unroll.specs.Unrolled.{IsUnrolled};
 ghost use Rattle.aig_commands.specs.Jobs.{text_of};
 ghost use Rattle.aig_commands.specs.Reading.{ReadSays};
 ghost use Rattle.aig_commands.specs.Refuting.{CanUnroll, IsNoneText, IsRefutationRefused};
-ghost use Rattle.aig_commands.specs.Refuting.{IsUnsatisfiable, format_of};
+ghost use Rattle.aig_commands.specs.Refuting.{IsRefutedFor, IsUnsatisfiable, format_of};
 
 use crate::answer::Answer;
 use aig_command::Reach;
 use aig_core::{Checked, Ordered, Source};
 use aig_fault::Stopped;
+use aig_reduce::reduce;
 use aig_refute::{RefutationFormat, check_refutation};
 use aig_unroll::unroll;
 use std::alloc::Global;
 
-/// The unrolled circuit, whose clauses a refutation is of.
+/// The unrolled circuit.
 fn unrolled_of(alloc: Global, selected: &Checked, frames: u32) -> Result<Ordered, Stopped>
     requires { CanUnroll selected.now frames }
     ensures ok { IfOk result (λ d. IsUnrolled selected.now frames d) }
@@ -26,6 +27,20 @@ fn unrolled_of(alloc: Global, selected: &Checked, frames: u32) -> Result<Ordered
         Ok(unrolled) => Ok(unrolled),
         Err(_) => Err(Stopped::OutOfMemory),
     }
+}
+
+/// The circuit whose clauses a refutation is of: unrolled, and simplified where that is asked for.
+fn refuted_of(alloc: Global, request: &Reach, selected: &Checked) -> Result<Ordered, Stopped>
+    requires { CanUnroll selected.now request.now.frames }
+    ensures ok { IfOk result (λ d. IsRefutedFor request.now selected.now d) }
+    ensures err { IfErr result (λ stopped. stopped ≡ OutOfMemory) }
+{
+    let unrolled = unrolled_of(alloc, selected, request.frames)?;
+    let _circuit = unrolled.as_checked().circuit(); // for the proof
+    if request.simplify {
+        return Ok(reduce(alloc, unrolled)?);
+    }
+    Ok(unrolled)
 }
 
 /// How a refutation is written.
@@ -42,20 +57,19 @@ fn format_of(lrat: bool) -> RefutationFormat
 /// Reads a solver's refutation of the clauses of this circuit over so many frames, and checks it.
 pub(crate) fn read_refutation<R: Source>(
     alloc: Global,
+    request: &Reach,
     selected: &Checked,
-    frames: u32,
-    lrat: bool,
     source: &mut R,
 ) -> Result<(), Stopped>
-    requires can_unroll { CanUnroll selected.now frames }
-    ensures { Read (ReadSays (λ _ _. IsUnsatisfiable selected.now frames)
-        (IsRefutationRefused lrat selected.now frames) result)
+    requires can_unroll { CanUnroll selected.now request.now.frames }
+    ensures { Read (ReadSays (λ _ _. IsUnsatisfiable selected.now request.now.frames)
+        (IsRefutationRefused request.now selected.now) result)
         (R.history source.old) (R.history source.new) }
 {
-    let unrolled = unrolled_of(alloc, selected, frames)?;
-    let format = format_of(lrat);
-    let checked = check_refutation(alloc, format, unrolled.as_checked().circuit(), source);
-    drop(unrolled); // for the proof
+    let refuted = refuted_of(alloc, request, selected)?;
+    let format = format_of(request.lrat);
+    let checked = check_refutation(alloc, format, refuted.as_checked().circuit(), source);
+    drop(refuted); // for the proof
     checked
 }
 
@@ -69,10 +83,10 @@ pub(crate) fn read_none_within<R: Source>(
 ) -> Result<Answer, Stopped>
     requires can_unroll { CanUnroll selected.now request.now.frames }
     ensures read { Read (ReadSays (λ answer _. IsNoneText request.now selected.now (text_of answer))
-        (IsRefutationRefused request.now.lrat selected.now request.now.frames) result)
+        (IsRefutationRefused request.now selected.now) result)
         (R.history source.old) (R.history source.new) }
     ensures some { IfOk result (λ answer. 0 < length (text_of answer)) }
 {
-    read_refutation(alloc, selected, request.frames, request.lrat, source)?;
+    read_refutation(alloc, request, selected, source)?;
     Ok(Answer::NoneWithin(request.frames))
 }

@@ -1,22 +1,24 @@
 //! `aigunroll`: copies of a circuit in time, as one circuit or as clauses.
-ghost use Rattle.std.specs.Prelude.{◌≡◌, ◌<◌, ◌≤◌, IfErr, IfOk, length, OnOk};
+ghost use Rattle.std.specs.Prelude.{◌≡◌, ◌<◌, ◌≤◌, IfErr, IfOk, length, OnOk, true};
 ghost use Rattle.aig_fault.specs.Stopping.{StopsFor};
 ghost use Rattle.aig_io.specs.Runs.{Read, Transferred};
 ghost use Rattle.aig_command.specs.Answer.{HasFrames};
 ghost use Rattle.aig_commands.specs.Jobs.{text_of};
 ghost use Rattle.aig_commands.specs.Outcome.{Says};
 ghost use Rattle.aig_commands.specs.Reading.{AtItsEnd, ReadSays};
-ghost use Rattle.aig_commands.specs.Unrolling.{property_of, IsUnrolledFor, IsUnrollingRefused};
-ghost use Rattle.aig_commands.specs.Unrolling.{IsUnrollingText, IsWritable, NotUnrolledAs};
-ghost use Rattle.aig_commands.specs.Unrolling.{NotWritable};
+ghost use Rattle.aig_commands.specs.Unrolling.{property_of, IsTextOf, IsUnrolledFor};
+ghost use Rattle.aig_commands.specs.Unrolling.{IsUnrollingRefused, IsUnrollingText, IsWritable};
+ghost use Rattle.aig_commands.specs.Unrolling.{IsWrittenFor, NotUnrolledAs, NotWritable};
 
 use crate::answer::Answer;
 use crate::property::property_model;
-use aig_binary::read_source;
+use aig_binary::{Ordered, read_source};
 use aig_command::{Property, Unroll, UnrolledForm};
-use aig_core::{Checked, Keep, Sink, Source};
+use aig_core::{Checked, Keep, OutOfMemory, Sink, Source};
 use aig_fault::Stopped;
-use aig_unroll::Unrolling;
+use aig_reduce::{check_clauses, reduce};
+use aig_simplify::simplify;
+use aig_unroll::{Unrolling, unroll};
 use std::alloc::Global;
 
 /// The property that is asked for.
@@ -62,6 +64,76 @@ pub(crate) fn unroll_as(
     }
 }
 
+/// Whether an unrolled circuit that is held can be written as it is asked for.
+fn check_whole(form: UnrolledForm, circuit: &Ordered) -> Result<(), Stopped>
+    ensures ok { OnOk result (IsWritable form circuit.now) }
+    ensures err { IfErr result (NotWritable form circuit.now) }
+{
+    match form {
+        UnrolledForm::Clauses { property: _ } => check_clauses(circuit.as_checked().circuit()),
+        UnrolledForm::Binary | UnrolledForm::Ascii => Ok(()),
+    }
+}
+
+/// The circuit unrolled over so many frames, as a whole, where it can be written as it is asked
+/// for.
+fn unroll_whole(
+    alloc: Global,
+    form: UnrolledForm,
+    frames: u32,
+    found: Checked,
+) -> Result<Ordered, Stopped>
+    requires { (1 ≤ frames) × (frames ≤ 1000000) }
+    ensures ok { IfOk result (λ d. IsUnrolledFor (property_of form) frames found d × IsWritable form d) }
+    ensures err { IfErr result (StopsFor (NotUnrolledAs form frames found)) }
+{
+    let selected = property_model(alloc, property_of(form), found)?;
+    let made = unroll(alloc, &selected, frames);
+    drop(selected); // for the proof
+    let circuit = made?;
+    match check_whole(form, &circuit) {
+        Ok(()) => Ok(circuit),
+        Err(fault) => {
+            drop(circuit); // for the proof
+            Err(fault)
+        }
+    }
+}
+
+/// What is written of an unrolled circuit that is simplified: of clauses the outputs are no part.
+fn simplify_for(
+    alloc: Global,
+    form: UnrolledForm,
+    circuit: Ordered,
+) -> Result<Ordered, OutOfMemory>
+    ensures { IfOk result (IsWrittenFor true form circuit) }
+{
+    match form {
+        UnrolledForm::Clauses { property: _ } => reduce(alloc, circuit),
+        UnrolledForm::Binary | UnrolledForm::Ascii => simplify(alloc, circuit.into_checked()),
+    }
+}
+
+/// The text of a circuit, unrolled as the request asks.
+pub(crate) fn unrolled_answer(
+    alloc: Global,
+    request: &Unroll,
+    found: Checked,
+) -> Result<Answer, Stopped>
+    requires frames { HasFrames request.now }
+    ensures text { IfOk result (λ answer. IsTextOf request.now found (text_of answer)) }
+    ensures some { IfOk result (λ answer. 0 < length (text_of answer)) }
+    ensures err { IfErr result (StopsFor (NotUnrolledAs request.now.form request.now.frames found)) }
+{
+    if request.simplify {
+        let circuit = unroll_whole(alloc, request.form, request.frames, found)?;
+        let written = simplify_for(alloc, request.form, circuit)?;
+        return Ok(Answer::Simplified(request.form, written));
+    }
+    let circuit = unroll_as(alloc, request.form, request.frames, found)?;
+    Ok(Answer::Unrolled(request.form, circuit))
+}
+
 /// Reads a source to its end, and unrolls its circuit as the request asks. It fails if the source
 /// or an allocation fails, if the bytes are no file of a circuit, if that has not the property or
 /// cannot be unrolled, or if no clauses can be made of it.
@@ -78,8 +150,7 @@ pub(crate) fn read_unrolling<R: Source>(
     ensures some { IfOk result (λ answer. 0 < length (text_of answer)) }
 {
     let found = read_source(alloc, source, request.max_var, Keep::Order)?;
-    let circuit = unroll_as(alloc, request.form, request.frames, found)?;
-    Ok(Answer::Unrolled(request.form, circuit))
+    unrolled_answer(alloc, request, found)
 }
 
 /// Reads the source to its end, and writes the circuit unrolled as the request asks. Nothing is

@@ -1,0 +1,14 @@
+use Rattle.std.proofs.Common.{codes, refl}
+use Rattle.aig_command.specs.Asked.{aigmiter, aigunroll}
+use Rattle.aig_command.proofs.ByName.{met_answered}
+use Rattle.aig_command.proofs.reader.read_matches.Goals as goal
+
+pub returns-in-aigunroll-clause-answer : goal.returns-in-aigunroll-clause-answer
+returns-in-aigunroll-clause-answer c =
+    met_answered _ aigunroll (codes "aigunroll") (λ rows. refl) _ _ _ _ c.in-aigunroll.is c.in-Some.ensures.name
+    c.in-Some.ensures.rows c.aigunroll.ensures.answer
+
+pub returns-in-aigmiter-clause-answer : goal.returns-in-aigmiter-clause-answer
+returns-in-aigmiter-clause-answer c =
+    met_answered _ aigmiter (codes "aigmiter") (λ rows. refl) _ _ _ _ c.in-aigmiter.is c.in-Some.ensures.name
+    c.in-Some.ensures.rows c.aigmiter.ensures.answer
