@@ -1,5 +1,5 @@
 -- What is known of a miter's file is known of both circuits.
-use Rattle.std.proofs.Common.{◌≡◌, ◌<◌, ◌+◌, ℕ, List, Ok, None, Some, Bool, arith, true, false, length, refl}
+use Rattle.std.proofs.Common.{◌≡◌, ◌<◌, ◌+◌, ◌∙◌, ℕ, List, Ok, None, Some, Bool, arith, true, false, length, refl}
 use Rattle.std.proofs.Common.{subst, sym}
 use Rattle.aig_circuit.specs.declared.circuit.Circuit.{Circuit}
 use Rattle.aig_circuit.specs.declared.circuit.TheConstants.{LARGEST}
@@ -12,7 +12,7 @@ use Rattle.aig_invariant.specs.Invariant.{with_invariant}
 use Rattle.aig_invariant.specs.Laws.{IsNever}
 use Rattle.aig_invariant.specs.Outcome.{HasCubes}
 use Rattle.aig_meaning.specs.Meaning.{MeansTheSame}
-use Rattle.aig_meaning.proofs.Traces.{same_back}
+use Rattle.aig_meaning.proofs.Traces.{same_back, same_through}
 use Rattle.aig_miter.specs.Laws.{IsMiterOf}
 use Rattle.aig_miter.proofs.Whole.{miter_is_well_formed}
 use Rattle.aig_pairing.specs.NameFaults.{first_name_fault}
@@ -30,7 +30,7 @@ use Rattle.aig_commands.specs.Conversion.{IsTextAs}
 use Rattle.aig_commands.specs.File.{IsFileOf}
 use Rattle.aig_commands.specs.Proving.{NoRunHas}
 use Rattle.aig_commands.specs.Refuting.{IsNoneWithin, NoRunHasWithin}
-use Rattle.aig_commands.proofs.Meant.{file_as}
+use Rattle.aig_commands.proofs.Meant.{file_as, written_by}
 use Rattle.aig_commands.proofs.Properties.{any_claim}
 use Rattle.aig_commands.proofs.Trips.{one_text}
 use Rattle.aig_commands.proofs.TripsExist.{well_formed_file}
@@ -59,7 +59,10 @@ module _ (request : Miter) (first : Circuit) (one two text : List ℕ) (is_first
   good_made = miter_is_well_formed first p.is_made.paired p.made made_of
 
   pub the_file : (d : Circuit) × IsFileOf text LARGEST d × MeansTheSame p.made d
-  the_file = file_as request.ascii false p.made text good_made p.written_as
+  the_file =
+      let written = written_by request.simplify p.made p.written good_made p.is_written in
+      let held = file_as request.ascii false p.written text written.0 p.written_as in
+      (held.0, held.1, same_through p.made p.written held.0 written.1 held.2)
 
   -- what is read of the text is that circuit
   is_it : (limit : ℕ) (found : Circuit) → limit ≡ LARGEST → IsFileOf text limit found → found ≡ the_file.0
@@ -97,14 +100,17 @@ one_paired true first again second other paired paired_too same same_second is i
 one_paired false first again second other paired paired_too same same_second is is_too = cc
 
 pub one_miter_text : MiterTextsAreUnambiguous
-one_miter_text request first again one two text other is_first is_again p q =
+one_miter_text request first again one two text other whole is_first is_again p q =
     let same = one_circuit one request.max_var first again is_first.read is_again.read in
     let same_second = one_circuit two request.max_var p.second q.second p.read q.read in
     let paired = one_paired request.by_name first again p.second q.second p.is_made.paired q.is_made.paired same
     same_second p.is_made.is_paired q.is_made.is_paired in
     let made : p.made ≡ q.made = cc in
-    one_text request.ascii false q.made text other (subst (λ m. IsTextAs request.ascii false m text) made p.written_as)
-    q.written_as
+    let is : p.written ≡ p.made = rw whole at p.is_written in
+    let is_too : q.written ≡ q.made = rw whole at q.is_written in
+    one_text request.ascii false q.made text other
+    (subst (λ m. IsTextAs request.ascii false m text) (is ∙ made) p.written_as)
+    (subst (λ m. IsTextAs request.ascii false m other) is_too q.written_as)
 
 pub none_means_alike : NoneMeansAlike
 none_means_alike request reach first selected one two text said is_first p limit any of_model is =
@@ -112,7 +118,7 @@ none_means_alike request reach first selected one two text said is_first p limit
     let same = is_it request first one two text is_first p reach.max_var has.found limit has.read in
     let none : IsNoneWithin has.found None reach.frames =
     subst (λ (property : Property). NoRunHasWithin has.found property reach.frames) any
-    (is.none has.found (well_formed_file text reach.max_var has.found has.read) has.is_unrolled.has_property
+    (is.none has.found (well_formed_file text reach.max_var has.found has.read) has.is_text.is_unrolled.has_property
     of_model.selected_is) in
     alike_where request first one two text is_first p reach.frames
     (λ claim step low verdict.
@@ -127,7 +133,7 @@ never_means_alike request proving first selected strengthened one two text invar
     let never : IsNever has.found None =
     subst (λ (property : Property). NoRunHas has.found property) any
     (is.never has.found invariant of_invariant.cubes
-    (well_formed_file text proving.max_var has.found has.read) has.is_unrolled.has_property
+    (well_formed_file text proving.max_var has.found has.read) has.is_text.is_unrolled.has_property
     (subst (λ c. HasCubes c invariant of_invariant.cubes) of_model.selected_is of_invariant.has_cubes)
     (subst (λ c. strengthened ≡ with_invariant of_invariant.cubes c) of_model.selected_is
     of_invariant.strengthened_is)) in

@@ -18,7 +18,8 @@ use Rattle.aig_wave.specs.Laws.{ShowTheSame}
 use Rattle.aig_wave.specs.Wave.{wave_text}
 use Rattle.aig_wave.proofs.Alike.{same_wave}
 use Rattle.aig_wave.proofs.Retold.{dumps_lose_nothing}
-use Rattle.aig_commands.specs.Conversion.{IsConversionText, IsSource, IsTextAs}
+use Rattle.aig_circuit.specs.declared.circuit.Kind.TheVariants as kinds
+use Rattle.aig_commands.specs.Conversion.{IsConversionText, IsSource, IsTextAs, IsWritten}
 use Rattle.aig_commands.specs.DumpLaws.{ConversionsAreDumpedAlike, DumpsAreKept, DumpsAreUnambiguous, DumpsTellTraces}
 use Rattle.aig_commands.specs.File.{IsFileOf}
 use Rattle.aig_binary.proofs.Files.{one_circuit}
@@ -87,6 +88,22 @@ source_shown true found source good is =
     (is.well_formed, show_back source found (mapped_shown source found is.image))
 source_shown false found source good is = rw is (good, show_itself found)
 
+-- a simplified circuit shows what the circuit shows
+written_shown : (simplify : Bool) (c written : Circuit) → IsWellFormed c → IsWritten simplify c written
+    → IsWellFormed written × ShowTheSame c written
+written_shown true c written good is = (
+  is.formed,
+  record {
+    symbols = is.names.symbols;
+    inputs = is.names.counts kinds.Input;
+    outputs = is.names.counts kinds.Output;
+    bad = is.names.counts kinds.Bad;
+    constraints = is.names.counts kinds.Constraint;
+    resets = is.same.resets;
+  },
+)
+written_shown false c written good is = rw is (good, show_itself c)
+
 -- what is written for a circuit is the file of one that shows the same
 file_shown : (ascii keep_map : Bool) (c : Circuit) (text : List ℕ) → IsWellFormed c → IsTextAs ascii keep_map c text
     → (d : Circuit) × IsFileOf text LARGEST d × ShowTheSame c d
@@ -109,12 +126,13 @@ pub shown_alike : (request : ToAig) → request.bad_states ≡ Kept → request.
 shown_alike request still keeps limit file converted p c d of_file of_converted =
     let good = well_formed_file file request.max_var p.found p.read in
     let source = source_shown request.undo_map p.found p.source good p.is_source in
-    let made =
-    file_shown request.ascii request.keep_map p.source converted source.0 (rw (keeps, still) at p.written_as) in
+    let simple = written_shown request.simplify p.source p.written source.0 (rw (keeps, still) at p.is_written) in
+    let made = file_shown request.ascii request.keep_map p.written converted simple.0 p.written_as in
     let same_found = one_circuit file LARGEST p.found c (rw limit at p.read) of_file in
     let same_made = one_circuit converted LARGEST made.0 d made.1 of_converted in
     subst (λ (e : Circuit). ShowTheSame e d) same_found
-    (subst (ShowTheSame p.found) same_made (show_through p.found p.source made.0 source.1 made.2))
+    (subst (ShowTheSame p.found) same_made
+    (show_through p.found p.source made.0 source.1 (show_through p.source p.written made.0 simple.1 made.2)))
 
 pub dumped_alike : ConversionsAreDumpedAlike
 dumped_alike request still keeps limit file converted p c d of_file of_converted =

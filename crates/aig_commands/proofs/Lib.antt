@@ -25,3 +25,6 @@ pub mod Outcomes
 pub mod Comparings
 pub mod Compared
 pub mod Live
+pub mod Unrolled
+pub mod Simplified
+pub mod GoingBack

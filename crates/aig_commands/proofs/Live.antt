@@ -109,13 +109,13 @@ refutations_mean_no_lasso request number c selected model text is_justice file o
     subst (λ (k : Circuit). HasNoLassoWithin k number request.frames)
     (one_circuit model request.max_var p.found c p.read file)
     (subst (λ (property : Property). NoRunHasWithin p.found property request.frames) is_justice
-    (is.none p.found good p.is_unrolled.has_property of_model.selected_is))
+    (is.none p.found good p.is_text.is_unrolled.has_property of_model.selected_is))
 
 pub never_means_none_is_fair : NeverMeansNoneIsFair
 never_means_none_is_fair request number c selected strengthened model invariant text is_justice file of_model shown is =
     let p = of_model.has_clauses in
     let good = well_formed_file model request.max_var p.found p.read in
-    let never = is.never p.found invariant shown.cubes good p.is_unrolled.has_property
+    let never = is.never p.found invariant shown.cubes good p.is_text.is_unrolled.has_property
     (subst (λ (k : Circuit). HasCubes k invariant shown.cubes) of_model.selected_is shown.has_cubes)
     (shown.strengthened_is ∙ ap (λ (k : Circuit). with_invariant shown.cubes k) of_model.selected_is) in
     subst (λ (k : Circuit). NoRunHas k (Justice number)) (one_circuit model request.max_var p.found c p.read file)
@@ -127,7 +127,7 @@ answers_are_lassos request number c selected model answer text is_justice file o
     let good = well_formed_file model request.max_var p.found p.read in
     let claimed : IsClaimedBy p.found (Justice number) request.frames answer is.claim =
     subst (λ (property : Property). IsClaimedBy p.found property request.frames answer is.claim) is_justice
-    (is.claimed p.found good p.is_unrolled.has_property of_model.selected_is) in
+    (is.claimed p.found good p.is_text.is_unrolled.has_property of_model.selected_is) in
     let step = claimed.1.hit.step in
     let lasso = confirmed_means_lasso p.found number claimed.0 step claimed.1.is_verdict in
     let front : List (List Val) = take step claimed.0.steps in
@@ -181,7 +181,7 @@ goals_there : (request : Reach) (number : ℕ) (c selected : Circuit) (model : L
 goals_there request number c selected model is_justice file of_model =
     let p = of_model.has_clauses in
     let has : HasLive number p.found =
-    subst (λ (property : Property). HasProperty property p.found) is_justice p.is_unrolled.has_property in
+    subst (λ (property : Property). HasProperty property p.found) is_justice p.is_text.is_unrolled.has_property in
     let here = subst (HasLive number) (one_circuit model request.max_var p.found c p.read file) has in
     (here.0, omega (arith, here.1))
 

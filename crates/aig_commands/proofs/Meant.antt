@@ -13,7 +13,8 @@ use Rattle.aig_command.specs.declared.request.BadStates.{BadStates}
 use Rattle.aig_command.specs.declared.request.BadStates.TheVariants.{Kept}
 use Rattle.aig_command.specs.declared.request.ToAig.{ToAig}
 use Rattle.aig_commands.specs.File.{IsFileOf}
-use Rattle.aig_commands.specs.Conversion.{IsConversionText, IsSource, IsTextAs, stripped, stripped_if_asked, turned}
+use Rattle.aig_commands.specs.Conversion.{IsConversionText, IsSource, IsTextAs, IsWritten, stripped, stripped_if_asked}
+use Rattle.aig_commands.specs.Conversion.{turned}
 use Rattle.aig_commands.proofs.Trips.{ascii_file, binary_file}
 use Rattle.aig_commands.proofs.TripsExist.{well_formed_file}
 
@@ -30,6 +31,12 @@ changed_by true c good =
     let good_too = stripped_is_well_formed c good in
     (good_too, same_by_rows c (stripped c) good good_too refl refl (row_of_whole c))
 changed_by false c good = (good, means_itself c)
+
+-- the circuit that is written, simplified where that is asked for
+pub written_by : (simplify : Bool) (c written : Circuit) → IsWellFormed c → IsWritten simplify c written
+    → IsWellFormed written × MeansTheSame c written
+written_by true c written good is = (is.formed, is.same)
+written_by false c written good is = rw is (good, means_itself c)
 
 -- the circuit that is undone, where that is asked for
 pub source_by : (undo_map : Bool) (found source : Circuit) → IsWellFormed found → IsSource undo_map found source
@@ -54,9 +61,12 @@ pub turned_file : (request : ToAig) (file converted : List ℕ) (p : IsConversio
     → (d : Circuit) × IsFileOf converted LARGEST d × MeansTheSame (turned request.bad_states p.source) d
 turned_file request file converted p good =
     let made = turned request.bad_states p.source in
-    let written = changed_by request.strip made good in
-    let held = file_as request.ascii request.keep_map (stripped_if_asked request made) converted written.0 p.written_as in
-    (held.0, held.1, same_through made (stripped_if_asked request made) held.0 written.1 held.2)
+    let asked = stripped_if_asked request made in
+    let left = changed_by request.strip made good in
+    let written = written_by request.simplify asked p.written left.0 p.is_written in
+    let held = file_as request.ascii request.keep_map p.written converted written.0 p.written_as in
+    let means = same_through asked p.written held.0 written.1 held.2 in
+    (held.0, held.1, same_through made asked held.0 left.1 means)
 
 -- a conversion text is the file of a circuit that means what the circuit means that was read
 pub converted_file : (request : ToAig) (file converted : List ℕ) → request.bad_states ≡ Kept

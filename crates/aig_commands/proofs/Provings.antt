@@ -1,5 +1,5 @@
 -- What comes of an invariant that is read, and of a refutation of its clauses.
-use Rattle.std.proofs.Common.{◌≡◌, ◌∙◌, ℕ, List, Result, Ok, Err, IfErr, IfOk, ap, inl, inr, refl, subst, sym}
+use Rattle.std.proofs.Common.{◌≡◌, ◌∙◌, ℕ, List, Result, Ok, Err, IfErr, IfOk, ap, false, inl, inr, refl, subst, sym}
 use Rattle.aig_rows.proofs.Steps.{ok_same}
 use Rattle.aig_circuit.specs.declared.circuit.Circuit.{Circuit}
 use Rattle.aig_circuit.specs.Wellformed.{IsWellFormed}
@@ -24,13 +24,15 @@ use Rattle.aig_command.specs.declared.request.Invariant.{Invariant}
 use Rattle.aig_command.specs.declared.request.Property.{Property}
 use Rattle.aig_command.specs.declared.request.Property.TheVariants.{AnyBad}
 use Rattle.aig_command.specs.declared.request.UnrolledForm.TheVariants.{Clauses}
+use Rattle.aig_commands.specs.declared.answer.Answer.{Answer}
 use Rattle.aig_commands.specs.File.{IsFileOf}
+use Rattle.aig_commands.specs.Jobs.{text_of}
 use Rattle.aig_commands.specs.Laws.{InvariantTextsAreUnambiguous, NeverIsNever}
 use Rattle.aig_commands.specs.Proving.{IsInvariantText, IsNeverText, IsStrengthened, NotStrengthened, never_text}
-use Rattle.aig_commands.specs.Proving.{NoRunHas, over_one_frame}
+use Rattle.aig_commands.specs.Proving.{NoRunHas, clauses_over_one_frame, over_one_frame}
 use Rattle.aig_commands.specs.Reading.{AtItsEnd, NotRead, ReadSays}
 use Rattle.aig_commands.specs.Refuting.{IsRefutationRefused, IsUnsatisfiable}
-use Rattle.aig_commands.specs.Unrolling.{IsUnrolledFor, NotUnrolledAs}
+use Rattle.aig_commands.specs.Unrolling.{IsTextOf, IsUnrolledFor, NotUnrolledAs}
 use Rattle.aig_commands.proofs.Properties.{never_of_bad, none_ever}
 use Rattle.aig_commands.proofs.Reachings.{one_selected}
 use Rattle.aig_commands.proofs.Readings.{CameWhole, made_after, stopped_after}
@@ -74,10 +76,15 @@ module _ (selected made : Circuit) (bytes : List ℕ) (is : IsMadeOf selected ma
   }
 
   -- which are written
-  pub clauses_of : (d : Circuit) → IsUnrolledFor AnyBad 1 made d → HasClauses d
-      → IsInvariantText selected bytes (cnf_text d)
-  clauses_of d unrolled clauses =
-      record { strengthened = made; is_strengthened = strengthened_as (d, unrolled, clauses); written_as = refl }
+  pub clauses_of : (request : Invariant) (text : List ℕ) → IsTextOf (clauses_over_one_frame request) made text
+      → IsInvariantText request selected bytes text
+  clauses_of request text t = record {
+    strengthened = made;
+    written = t.written;
+    is_strengthened = strengthened_as (t.unrolled, t.is_unrolled, t.is_writable);
+    is_written = t.is_written;
+    written_as = t.written_as;
+  }
 
   -- or it has none
   pub not_strengthened : (stopped : Stopped) → StopsFor (NotUnrolledAs (Clauses AnyBad) 1 made) stopped
@@ -99,6 +106,19 @@ strengthened_read selected made (Err stopped) before after same clauses why read
     stopped_after _ before after (NotStrengthened selected) stopped
     (λ bytes is. not_strengthened selected made bytes is stopped why) read
 
+-- the same where its clauses are written
+pub clauses_read : (request : Invariant) (selected made : Circuit) (r : Result Answer Stopped) (before after : History)
+    → IfOk r (λ answer. IsTextOf (clauses_over_one_frame request) made (text_of answer))
+    → IfErr r (StopsFor (NotUnrolledAs (Clauses AnyBad) 1 made)) → Read (CameWhole (IsMadeOf selected made)) before after
+    → Read (ReadSays {A = Answer} (λ answer bytes. IsInvariantText request selected bytes (text_of answer))
+    (AtItsEnd (NotStrengthened selected)) r) before after
+clauses_read request selected made (Ok answer) before after text none read =
+    made_after _ before after (λ bytes. IsInvariantText request selected bytes (text_of answer))
+    (λ bytes is. clauses_of selected made bytes is request (text_of answer) text) read
+clauses_read request selected made (Err stopped) before after text why read =
+    stopped_after _ before after (NotStrengthened selected) stopped
+    (λ bytes is. not_strengthened selected made bytes is stopped why) read
+
 -- where no assignment lets a bad state of it be 1, none is ever reached
 is_never : (request : Invariant) (strengthened : Circuit) → IsWellFormed strengthened
     → IsUnsatisfiable strengthened 1 → IsNeverText request strengthened never_text
@@ -113,10 +133,9 @@ pub never_reached : (request : Invariant) (strengthened : Circuit) (r : Result (
     (before after : History)
     → IsWellFormed strengthened
     → Read (ReadSays {A = Unit {0}} (λ _ _. IsUnsatisfiable strengthened 1)
-    (IsRefutationRefused request.lrat strengthened 1) r) before after
+    (IsRefutationRefused (over_one_frame request) strengthened) r) before after
     → Read (ReadSays {A = Unit {0}} (λ _ _. IsNeverText request strengthened never_text)
-    (IsRefutationRefused request.lrat strengthened 1) r) before
-    after
+    (IsRefutationRefused (over_one_frame request) strengthened) r) before after
 never_reached request strengthened (Ok done) before after good read =
     read_weaker _ _ before after (λ _ _ says. (says.0, is_never request strengthened good says.1)) read
 never_reached request strengthened (Err stopped) before after good read = read
@@ -131,16 +150,16 @@ never_is_never request bad judging selected strengthened model invariant text wi
     let same = one_circuit model request.max_var confirmed.found p.found read p.read in
     let never = never_of_bad bad p.found
     (subst (λ (property : Property). NoRunHas p.found property) is_bad
-    (is.never p.found invariant shown.cubes good p.is_unrolled.has_property
+    (is.never p.found invariant shown.cubes good p.is_text.is_unrolled.has_property
     (subst (λ (c : Circuit). HasCubes c invariant shown.cubes) of_model.selected_is shown.has_cubes)
     (shown.strengthened_is ∙ ap (λ (c : Circuit). with_invariant shown.cubes c) of_model.selected_is))) in
     never confirmed.claim step of_selected
     (subst (λ (c : Circuit). IsVerdict c confirmed.claim (Confirmed step)) same confirmed.is_verdict)
 
 -- the bytes of an invariant have one text
-one_text : (selected : Circuit) (invariant text other : List ℕ) → IsInvariantText selected invariant text
-    → IsInvariantText selected invariant other → text ≡ other
-one_text selected invariant text other p q =
+one_text : (request : Invariant) (selected : Circuit) (invariant text other : List ℕ) → request.simplify ≡ false
+    → IsInvariantText request selected invariant text → IsInvariantText request selected invariant other → text ≡ other
+one_text request selected invariant text other whole p q =
     let first = p.is_strengthened in
     let second = q.is_strengthened in
     let cubes =
@@ -150,11 +169,15 @@ one_text selected invariant text other p q =
     let one = one_unrolled q.strengthened 1 in
     let is : IsUnrolled q.strengthened 1 first.unrolled =
     subst (λ (c : Circuit). IsUnrolled c 1 first.unrolled) same first.is_unrolled.is_unrolled in
+    let written : p.written ≡ first.unrolled = rw whole at p.is_written in
+    let written_too : q.written ≡ second.unrolled = rw whole at q.is_written in
     p.written_as
-    ∙ ap cnf_text (one.2 first.unrolled is ∙ sym (one.2 second.unrolled second.is_unrolled.is_unrolled))
+    ∙ ap cnf_text (written ∙ one.2 first.unrolled is ∙ sym (one.2 second.unrolled second.is_unrolled.is_unrolled)
+    ∙ sym written_too)
     ∙ sym q.written_as
 
 pub invariant_texts_are_unambiguous : InvariantTextsAreUnambiguous
-invariant_texts_are_unambiguous request selected again model invariant text other of_model of_model_too is is_too =
+invariant_texts_are_unambiguous request selected again model invariant text other whole of_model of_model_too is is_too =
     let same = one_selected (over_one_frame request) selected again model of_model of_model_too in
-    one_text again invariant text other (subst (λ (c : Circuit). IsInvariantText c invariant text) same is) is_too
+    one_text request again invariant text other whole
+    (subst (λ (c : Circuit). IsInvariantText request c invariant text) same is) is_too

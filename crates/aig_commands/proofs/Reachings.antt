@@ -27,7 +27,7 @@ pub reach_texts_are_unambiguous : ReachTextsAreUnambiguous
 reach_texts_are_unambiguous request selected again model answer text other of_model of_model_too is is_too =
     let p = of_model.has_clauses in
     let good = well_formed_file model request.max_var p.found p.read in
-    let has = p.is_unrolled.has_property in
+    let has = p.is_text.is_unrolled.has_property in
     let same = one_selected request selected again model of_model of_model_too in
     let reached = is.claimed p.found good has of_model.selected_is in
     let reached_too = is_too.claimed p.found good has (sym same ∙ of_model.selected_is) in
@@ -42,7 +42,7 @@ solver_answers_are_confirmed request bad judging selected model answer text is_b
     let reached : ReachedBy p.found bad request.frames answer is.claim =
     claimed_of_bad bad p.found request.frames answer is.claim
     (subst (λ (property : Property). IsClaimedBy p.found property request.frames answer is.claim) is_bad
-    (is.claimed p.found good p.is_unrolled.has_property of_model.selected_is)) in
+    (is.claimed p.found good p.is_text.is_unrolled.has_property of_model.selected_is)) in
     let written : text ≡ witness_text is.claim =
     is.written_as ∙ ap (λ (property : Property). claimed_text property is.claim) is_bad ∙ text_of_bad bad is.claim in (
       reached.hit.step,

@@ -1,7 +1,7 @@
 -- Where the clauses of an unrolled circuit are refuted, nothing is confirmed.
 use Rattle.std.proofs.Common.{◌≡◌, ℕ, Bool, List, Result, Ok, Err, refl, subst}
 use Rattle.aig_circuit.specs.declared.circuit.Circuit.{Circuit}
-use Rattle.aig_circuit.specs.Wellformed.{IsWellFormed}
+use Rattle.aig_cnf.specs.Clauses.{Satisfies, bad_clauses}
 use Rattle.aig_fault.specs.declared.stopped.Stopped.{Stopped}
 use Rattle.aig_fault.specs.declared.stopped.Stopped.TheVariants as stops
 use Rattle.aig_io.specs.Devices.{History}
@@ -17,30 +17,42 @@ use Rattle.aig_command.specs.declared.request.Reach.{Reach}
 use Rattle.aig_commands.specs.File.{IsFileOf}
 use Rattle.aig_commands.specs.Laws.{RefutationsMeanNone}
 use Rattle.aig_commands.specs.Reading.{ReadSays}
-use Rattle.aig_commands.specs.Refuting.{IsNoneText, IsRefutationRefused, IsUnsatisfiable, NoRunHasWithin, format_of}
-use Rattle.aig_commands.specs.Refuting.{none_text}
+use Rattle.aig_commands.specs.Refuting.{IsNoneText, IsRefutationRefused, IsRefutedFor, IsUnsatisfiable, NoRunHasWithin}
+use Rattle.aig_commands.specs.Refuting.{format_of, none_text}
+use Rattle.aig_reduce.proofs.Reductions.{reductions_are_satisfied_alike}
 use Rattle.aig_commands.proofs.Properties.{none_of_bad, none_within}
 use Rattle.aig_commands.proofs.Readings.{CameWhole, made_after}
 use Rattle.aig_commands.proofs.TripsExist.{well_formed_file}
 
 -- a refutation was read: it is right, or is refused
-module _ (lrat : Bool) (selected d : Circuit) (frames : ℕ) (formed : IsWellFormed d) (is : IsUnrolled selected frames d)
-  where
-    refutation_says : (r : Result (Unit {0}) Stopped) (bytes : List ℕ) (ending : Ending)
-        → RefutationSays (format_of lrat) d r bytes ending
-        → ReadSays {A = Unit {0}} (λ _ _. IsUnsatisfiable selected frames)
-        (IsRefutationRefused lrat selected frames) r bytes ending
-    refutation_says (Ok done) bytes ending says = (says.0, (d, formed, is, says.1))
-    refutation_says (Err stops.OutOfMemory) bytes ending says = says
-    refutation_says (Err stops.ReadFailed) bytes ending says = says
-    refutation_says (Err stops.WriteFailed) bytes ending says = says
-    refutation_says (Err (stops.Refused fault)) bytes ending says = (d, formed, is, says)
+module _ (request : Reach) (selected d : Circuit) (is : IsRefutedFor request selected d) where
+  -- what satisfies the clauses of the unrolled circuit goes over to those that are refuted
+  unsatisfiable : ((a : ℕ → Bool) → ¬ Satisfies a (bad_clauses d)) → IsUnsatisfiable selected request.frames
+  unsatisfiable none = (
+    is.unrolled,
+    is.formed,
+    is.is_unrolled,
+    λ a satisfied.
+        (let over = (reductions_are_satisfied_alike request.simplify is.unrolled d is.formed is.is_reduced).0 a
+        satisfied in
+        none over.0 over.1),
+  )
 
-    pub refutation_read : (r : Result (Unit {0}) Stopped) (before after : History)
-        → Read (RefutationSays (format_of lrat) d r) before after
-        → Read (ReadSays {A = Unit {0}} (λ _ _. IsUnsatisfiable selected frames)
-        (IsRefutationRefused lrat selected frames) r) before after
-    refutation_read r before after = read_weaker _ _ before after (refutation_says r)
+  refutation_says : (r : Result (Unit {0}) Stopped) (bytes : List ℕ) (ending : Ending)
+      → RefutationSays (format_of request.lrat) d r bytes ending
+      → ReadSays {A = Unit {0}} (λ _ _. IsUnsatisfiable selected request.frames)
+      (IsRefutationRefused request selected) r bytes ending
+  refutation_says (Ok done) bytes ending says = (says.0, unsatisfiable says.1)
+  refutation_says (Err stops.OutOfMemory) bytes ending says = says
+  refutation_says (Err stops.ReadFailed) bytes ending says = says
+  refutation_says (Err stops.WriteFailed) bytes ending says = says
+  refutation_says (Err (stops.Refused fault)) bytes ending says = (d, is, says)
+
+  pub refutation_read : (r : Result (Unit {0}) Stopped) (before after : History)
+      → Read (RefutationSays (format_of request.lrat) d r) before after
+      → Read (ReadSays {A = Unit {0}} (λ _ _. IsUnsatisfiable selected request.frames)
+      (IsRefutationRefused request selected) r) before after
+  refutation_read r before after = read_weaker _ _ before after (refutation_says r)
 
 -- where no assignment lets a bad state be 1, no claim is confirmed
 is_none : (request : Reach) (selected : Circuit) → IsUnsatisfiable selected request.frames
@@ -67,6 +79,6 @@ refutations_mean_none request bad judging selected model text witness step is_ba
     let same = one_circuit model request.max_var confirmed.found p.found read p.read in
     let none = none_of_bad bad p.found request.frames
     (subst (λ (property : Property). NoRunHasWithin p.found property request.frames) is_bad
-    (is.none p.found good p.is_unrolled.has_property of_model.selected_is)) in
+    (is.none p.found good p.is_text.is_unrolled.has_property of_model.selected_is)) in
     none confirmed.claim step low of_selected
     (subst (λ (k : Circuit). IsVerdict k confirmed.claim (Confirmed step)) same confirmed.is_verdict)

@@ -1,13 +1,18 @@
 -- An answer whose values satisfy the clauses that are written of a model has a witness.
-use Rattle.std.proofs.Common.{◌≡◌, ◌≤◌, ◌∙◌, ℕ, List, Option, None, Some, Ok, ap, refl, replicate, subst, sym}
+use Rattle.std.proofs.Common.{◌≡◌, ◌≤◌, ◌-◌, ◌∙◌, ℕ, List, Option, None, Some, Ok, Bool, true, false, ap, arith, get_or}
+use Rattle.std.proofs.Common.{length, map, refl, replicate, subst, sym}
+use Rattle.std.specs.List.{range_with_len}
+use Rattle.std.proofs.lemmas.List.FromFn.{get_or-map-range_with_len, length-range_with_len}
 use Rattle.aig_circuit.specs.declared.circuit.Circuit.{Circuit}
 use Rattle.aig_circuit.specs.Wellformed.{IsWellFormed}
 use Rattle.aig_answer.specs.declared.reader.Status.TheVariants.{Satisfiable}
 use Rattle.aig_answer.specs.AnswerText.{all_values, answer_text}
 use Rattle.aig_answer.proofs.Answers.{answers_are_read}
 use Rattle.aig_meaning.specs.Trace.{IsTrace}
-use Rattle.aig_reach.proofs.Whole.{cut_trace}
+use Rattle.aig_reach.proofs.Whole.{cut_trace, inputs_are}
 use Rattle.aig_reach.specs.Cut.{cut_claim}
+use Rattle.aig_reduce.specs.Reduced.{IsReducedIf}
+use Rattle.aig_reduce.proofs.Reductions.{reductions_are_satisfied_alike}
 use Rattle.aig_replay.specs.declared.search.Hit.{Hit}
 use Rattle.aig_command.specs.declared.request.Property.{Property}
 use Rattle.aig_command.specs.declared.request.Property.TheVariants.{AnyBad, Bad, Justice}
@@ -63,31 +68,56 @@ is_claimed (Justice number) c selected frames answer hit formed has same said fo
     lasso_is_claimed number frames selected answer (claim_by None frames selected answer hit)
     (λ made good there is. reached_by made selected None frames answer hit good there is said found) c formed has same
 
+-- ---- what is left of an unrolled circuit has its inputs
+
+inputs_left : (simplify : Bool) (d written : Circuit) (n : ℕ) → d.inputs ≡ range_with_len 1 n
+    → IsReducedIf simplify d written → written.inputs ≡ range_with_len 1 n
+inputs_left true d written n are is =
+    is.ordered.inputs
+    ∙ ap (range_with_len 1) (is.same.inputs ∙ ap (λ (vs : List ℕ). length vs) are ∙ length-range_with_len 1 n)
+inputs_left false d written n are is = ap (λ (e : Circuit). e.inputs) is ∙ are
+
+-- so assignments that agree on them agree on the first variables
+agree_first : (a b : ℕ → Bool) (n : ℕ) (ones others : List ℕ) → ones ≡ range_with_len 1 n
+    → others ≡ range_with_len 1 n → map b ones ≡ map a others → (v : ℕ) → 1 ≤ v → v ≤ n → a v ≡ b v
+agree_first a b n ones others is is_too same v some within =
+    let values : map b (range_with_len 1 n) ≡ map a (range_with_len 1 n) =
+    sym (ap (map b) is) ∙ same ∙ ap (map a) is_too in
+    sym (get_or-map-range_with_len a 1 n (v - 1) v false (omega (arith, some, within)) (omega (arith, some)))
+    ∙ sym (ap (λ bs. get_or bs (v - 1) false) values)
+    ∙ get_or-map-range_with_len b 1 n (v - 1) v false (omega (arith, some, within)) (omega (arith, some))
+
 pub right_answers_have_witnesses : RightAnswersHaveWitnesses
-right_answers_have_witnesses request selected model a before lines last behind of_model satisfied are are_lines are_last
-    are_behind values =
+right_answers_have_witnesses request selected model simplify written a before lines last behind of_model is_left
+    satisfied are are_lines are_last are_behind values =
     let answer = answer_text before lines last behind in
     let frames = request.frames in
     let inputs = all_inputs selected frames in
     let p = of_model.has_clauses in
+    let of = p.is_text.is_unrolled in
+    let d = p.is_text.unrolled in
     let same = sym of_model.selected_is in
     let good : IsWellFormed selected =
     subst IsWellFormed same
-    (model_is_well_formed request.property p.found p.is_unrolled.has_property
+    (model_is_well_formed request.property p.found of.has_property
     (well_formed_file model request.max_var p.found p.read)) in
-    let unrolled : IsUnrolled selected frames p.unrolled =
-    subst (λ (k : Circuit). IsUnrolled k frames p.unrolled) same p.is_unrolled.is_unrolled in
-    let fits : ¬ IsTooLarge selected frames = subst (λ (k : Circuit). ¬ IsTooLarge k frames) same p.is_unrolled.fits in
-    let ordered = unrolled_is_ordered selected p.unrolled frames good unrolled fits in
+    let unrolled : IsUnrolled selected frames d = subst (λ (k : Circuit). IsUnrolled k frames d) same of.is_unrolled in
+    let fits : ¬ IsTooLarge selected frames = subst (λ (k : Circuit). ¬ IsTooLarge k frames) same of.fits in
+    let ordered = unrolled_is_ordered selected d frames good unrolled fits in
+    let over = (reductions_are_satisfied_alike simplify d written ordered.0 is_left).1 a satisfied in
+    let b = over.0 in
+    let first = inputs_are selected d frames good unrolled in
+    let alike : (v : ℕ) → 1 ≤ v → v ≤ inputs → a v ≡ b v =
+    agree_first a b inputs d.inputs written.inputs first (inputs_left simplify d written inputs first is_left) over.2 in
     let read = answers_are_read (replicate inputs 48) before lines last behind are are_lines are_last are_behind in
-    let agree : (v : ℕ) → 1 ≤ v → v ≤ inputs → assigned (read_over selected frames answer).bits v ≡ a v =
+    let agree : (v : ℕ) → 1 ≤ v → v ≤ inputs → assigned (read_over selected frames answer).bits v ≡ b v =
     λ v some within.
     ap (λ bits. assigned bits v) read.values_are
-    ∙ values_read a inputs (all_values lines last) values v some within in
-    let cut : run_by selected frames answer ≡ cut_claim selected frames a 0 =
-    one_cut selected frames (assigned (read_over selected frames answer).bits) a agree in
-    let trace = cut_trace selected frames a good in
-    let hit = answers_are_found selected p.unrolled frames a trace.0 good ordered.0 unrolled satisfied trace.1.0 in
+    ∙ values_read a inputs (all_values lines last) values v some within ∙ alike v some within in
+    let cut : run_by selected frames answer ≡ cut_claim selected frames b 0 =
+    one_cut selected frames (assigned (read_over selected frames answer).bits) b agree in
+    let trace = cut_trace selected frames b good in
+    let hit = answers_are_found selected d frames b trace.0 good ordered.0 unrolled over.1 trace.1.0 in
     let found : HasFound selected frames (read_over selected frames answer).bits (Some hit.0) = record {
       rows = trace.0;
       trace = subst (λ (k : Claim). IsTrace selected k.first k.steps trace.0) (sym cut) trace.1.0;

@@ -94,12 +94,16 @@ model_selected request found selected bytes has same (d, is, clauses) file = rec
   clauses = cnf_text d;
   has_clauses = record {
     found = found;
-    unrolled = d;
     read = file;
-    is_unrolled = unrolled_for request.property request.frames found selected d has same (is.supported, is.fits)
-        is.is_unrolled;
-    is_writable = clauses;
-    written_as = refl;
+    is_text = record {
+      unrolled = d;
+      written = d;
+      is_unrolled = unrolled_for request.property request.frames found selected d has same (is.supported, is.fits)
+          is.is_unrolled;
+      is_writable = clauses;
+      is_written = refl;
+      written_as = refl;
+    };
   };
   selected_is = same;
 }

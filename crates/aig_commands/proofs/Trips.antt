@@ -40,12 +40,14 @@ one_source_of true found source other a b = one_source source other found a.well
 one_source_of false found source other a b = a ∙ sym b
 
 pub one_conversion : ConversionsAreUnambiguous
-one_conversion request bytes text other p q =
+one_conversion request bytes text other whole p q =
     let found = one_circuit bytes request.max_var p.found q.found p.read q.read in
     let source =
     one_source_of request.undo_map q.found p.source q.source (rw found at p.is_source) q.is_source in
+    let first : p.written ≡ changed request q.source = rw (whole, source) at p.is_written in
+    let second : q.written ≡ changed request q.source = rw whole at q.is_written in
     one_text request.ascii request.keep_map (changed request q.source) text other
-    (rw source at p.written_as) q.written_as
+    (rw first at p.written_as) (rw second at q.written_as)
 
 -- of a file of a circuit at the default limit, that circuit is read
 found_is : (request : ToAig) (bytes text : List ℕ) (c : Circuit) → request.max_var ≡ LARGEST → IsFileOf bytes LARGEST c
@@ -53,19 +55,22 @@ found_is : (request : ToAig) (bytes text : List ℕ) (c : Circuit) → request.m
 found_is request bytes text c limit file p = one_circuit bytes LARGEST p.found c (rw limit at p.read) file
 
 -- what is written of a file of a circuit, where nothing is undone
-written : (request : ToAig) (bytes text : List ℕ) (c : Circuit) → request.max_var ≡ LARGEST → request.strip ≡ false
+written : (request : ToAig) (bytes text : List ℕ) (c : Circuit) → request.simplify ≡ false
+    → request.max_var ≡ LARGEST → request.strip ≡ false
     → request.undo_map ≡ false → request.bad_states ≡ Kept → IsFileOf bytes LARGEST c
     → IsConversionText request bytes text → IsTextAs request.ascii request.keep_map c text
-written request bytes text c limit whole kept still file p =
+written request bytes text c all limit whole kept still file p =
     let source : p.source ≡ p.found = rw kept at p.is_source in
-    rw (whole, still, source, found_is request bytes text c limit file p) at p.written_as
+    let is : p.written ≡ c =
+    rw (all, whole, still, source, found_is request bytes text c limit file p) at p.is_written in
+    rw is at p.written_as
 
 -- what a plain conversion writes of a file of a circuit
 plainly : (request : ToAig) (bytes text : List ℕ) (c : Circuit) → IsPlain request → IsFileOf bytes LARGEST c
     → IsConversionText request bytes text → IsTextAs request.ascii false c text
 plainly request bytes text c plain file p =
     rw plain.keep_map at
-    (written request bytes text c plain.limit plain.strip plain.undo_map plain.bad_states file p)
+    (written request bytes text c plain.simplify plain.limit plain.strip plain.undo_map plain.bad_states file p)
 
 pub binary_file : (c : Circuit) (text : List ℕ) → IsWellFormed c → IsInBinaryOrder c → text ≡ binary_text c
     → IsFileOf text LARGEST c
@@ -88,7 +93,7 @@ pub with_map : (request : ToAig) (bytes text : List ℕ) (c : Circuit) → Keeps
     → (image : Circuit) × IsMappedImage c image × (text ≡ binary_text image)
 with_map request bytes text c keeps file p =
     rw (keeps.ascii, keeps.keep_map) at
-    (written request bytes text c keeps.limit keeps.strip keeps.undo_map keeps.bad_states file p)
+    (written request bytes text c keeps.simplify keeps.limit keeps.strip keeps.undo_map keeps.bad_states file p)
 
 -- what is written where the map of a mapped image is undone
 without_map : (request : ToAig) (bytes text : List ℕ) (c image : Circuit) → UndoesMap request → IsWellFormed c
@@ -96,8 +101,10 @@ without_map : (request : ToAig) (bytes text : List ℕ) (c image : Circuit) → 
     → IsConversionText request bytes text → text ≡ ascii_text c
 without_map request bytes text c image undoes good is file p =
     let undone = rw (undoes.undo_map, found_is request bytes text image undoes.limit file p) at p.is_source in
-    rw (undoes.ascii, undoes.strip, undoes.bad_states, (undoing_recovers c image good is).1 p.source undone) at
-    p.written_as
+    let is_it : p.written ≡ c =
+    rw (undoes.simplify, undoes.strip, undoes.bad_states, (undoing_recovers c image good is).1 p.source undone) at
+    p.is_written in
+    rw (undoes.ascii, is_it) at p.written_as
 
 pub through_binary : UndoingGivesAsciiBack
 through_binary there back keeps undoes c file binary ascii accepted first second =

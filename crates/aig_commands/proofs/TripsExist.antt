@@ -20,18 +20,20 @@ use Rattle.aig_binary.proofs.Files.{file_is_read, one_circuit}
 use Rattle.aig_commands.proofs.Trips.{ascii_file, binary_file, with_map}
 
 -- what a conversion that leaves nothing out writes
-is_written : (request : ToAig) (bytes text : List ℕ) (found source : Circuit)
+is_written : (request : ToAig) (bytes text : List ℕ) (found source : Circuit) → request.simplify ≡ false
     → request.max_var ≡ LARGEST → request.strip ≡ false → request.bad_states ≡ Kept
     → IsFileOf bytes LARGEST found
     → IsSource request.undo_map found source → IsTextAs request.ascii request.keep_map source text
     → IsConversionText request bytes text
-is_written request bytes text found source limit whole still file is as_asked = record {
+is_written request bytes text found source all limit whole still file is as_asked = record {
   found = found;
   source = source;
+  written = source;
   read = rw limit file;
   is_source = is;
   can_turn = rw still tt;
-  written_as = rw (whole, still) as_asked;
+  is_written = rw (all, whole, still) refl;
+  written_as = as_asked;
 }
 
 pub well_formed_file : (text : List ℕ) (limit : ℕ) (c : Circuit) → IsFileOf text limit c → IsWellFormed c
@@ -45,9 +47,9 @@ there_and_back there back keeps undoes c file accepted =
     let binary = binary_text mapped.0 in (
       binary,
       ascii_text c,
-      is_written there file binary c c keeps.limit keeps.strip keeps.bad_states accepted (rw keeps.undo_map refl)
+      is_written there file binary c c keeps.simplify keeps.limit keeps.strip keeps.bad_states accepted (rw keeps.undo_map refl)
           (rw (keeps.ascii, keeps.keep_map) (mapped.0, mapped.1, refl)),
-      is_written back binary (ascii_text c) mapped.0 c undoes.limit undoes.strip undoes.bad_states
+      is_written back binary (ascii_text c) mapped.0 c undoes.simplify undoes.limit undoes.strip undoes.bad_states
           (binary_file mapped.0 binary mapped.2 mapped.3 refl)
           (rw undoes.undo_map (undoing_recovers c mapped.0 good mapped.1).0) (rw undoes.ascii refl),
     )
@@ -56,9 +58,10 @@ pub binary_there_and_back : BinaryFilesConvertThereAndBack
 binary_there_and_back there back plain to_ascii plain_back to_binary file (c, good, ordered, is) = (
   ascii_text c,
   binary_text c,
-  is_written there file (ascii_text c) c c plain.limit plain.strip plain.bad_states
+  is_written there file (ascii_text c) c c plain.simplify plain.limit plain.strip plain.bad_states
       (binary_file c file good ordered is) (rw plain.undo_map refl) (rw (plain.keep_map, to_ascii) refl),
-  is_written back (ascii_text c) (binary_text c) c c plain_back.limit plain_back.strip plain_back.bad_states
+  is_written back (ascii_text c) (binary_text c) c c plain_back.simplify plain_back.limit plain_back.strip
+      plain_back.bad_states
       (inl (ascii_file c (ascii_text c) good refl)) (rw plain_back.undo_map refl)
       (rw (plain_back.keep_map, to_binary) (c, own_image c good ordered, refl)),
 )

@@ -1,5 +1,5 @@
 -- What a miter that was written says of the two circuits that were read.
-use Rattle.std.specs.Prelude.{◌≡◌, ◌+◌, ℕ, List}
+use Rattle.std.specs.Prelude.{◌≡◌, ◌+◌, ℕ, List, false}
 use Rattle.aig_circuit.specs.declared.circuit.Circuit.{Circuit}
 use Rattle.aig_circuit.specs.declared.circuit.TheConstants.{LARGEST}
 use Rattle.aig_command.specs.declared.request.Invariant.{Invariant}
@@ -18,10 +18,10 @@ use Rattle.aig_commands.specs.Reaching.{IsSelectedModel}
 use Rattle.aig_commands.specs.Refuting.{IsNoneText}
 use Rattle.aig_commands.specs.WitnessOutcome.{IsWitnessAnswer}
 
--- two files have one miter text at most
+-- two files have one miter text at most, unless it is simplified
 abbrev pub MiterTextsAreUnambiguous : Type 0
 MiterTextsAreUnambiguous = (request : Miter) (first again : Circuit) (one two text other : List ℕ)
-    → IsFirst request one first → IsFirst request one again → IsMiterText request first two text
+    → request.simplify ≡ false → IsFirst request one first → IsFirst request one again → IsMiterText request first two text
     → IsMiterText request again two other → text ≡ other
 
 -- which is the file of one circuit, and that means what the miter does

@@ -23,7 +23,9 @@ use Rattle.aig_command.specs.declared.request.Unroll.{Unroll}
 use Rattle.aig_command.specs.declared.request.UnrolledForm.{UnrolledForm}
 use Rattle.aig_command.specs.declared.request.UnrolledForm.TheVariants.{Ascii, Binary, Clauses}
 use Rattle.aig_replay.specs.Laws.{IsOfSelected}
-use Rattle.aig_meaning.specs.Meaning.{Row}
+use Rattle.aig_meaning.specs.Meaning.{MeansTheSame, Row}
+use Rattle.aig_reduce.specs.Reduced.{IsReducedIf}
+use Rattle.aig_simplify.specs.Simplified.{IsSimplified}
 use Rattle.aig_meaning.specs.Trace.{IsTrace}
 use Rattle.aig_circuit.specs.declared.value.Val.{Val}
 use Rattle.aig_circuit.specs.declared.value.Val.TheVariants.{Zero, One}
@@ -39,7 +41,7 @@ use Rattle.aig_witness.specs.Witness.{Claim, IsFirstConfirmed, IsVerdict, SaysCl
 use Rattle.aig_unroll.specs.SideBySide.{inputs_side_by_side}
 use Rattle.aig_unroll.specs.Unrolled.{IsTooLarge, IsUnrolled, IsUnsupported, all_inputs}
 use Rattle.aig_commands.specs.File.{IsFileOf, file_reading, first_fault}
-use Rattle.aig_commands.specs.Conversion.{IsConversionText}
+use Rattle.aig_commands.specs.Conversion.{IsConversionText, changed}
 use Rattle.aig_commands.specs.OutputsAsBad.{row_with_outputs_as_bad}
 use Rattle.aig_commands.specs.Simulation.{IsSimulationText}
 use Rattle.aig_commands.specs.Proving.{IsInvariantModel, IsInvariantText, IsNeverText, IsStrengthened}
@@ -59,9 +61,9 @@ abbrev pub FilesAreUnambiguous : Type 0
 FilesAreUnambiguous = (text : List ℕ) (limit : ℕ) (c d : Circuit) → IsFileOf text limit c → IsFileOf text limit d
     → c ≡ d
 
--- bytes have one conversion text at most
+-- bytes have one conversion text at most, unless it is simplified
 abbrev pub ConversionsAreUnambiguous : Type 0
-ConversionsAreUnambiguous = (request : ToAig) (bytes text other : List ℕ)
+ConversionsAreUnambiguous = (request : ToAig) (bytes text other : List ℕ) → request.simplify ≡ false
     → IsConversionText request bytes text → IsConversionText request bytes other → text ≡ other
 
 -- a model and a stimulus have one simulation text at most
@@ -74,9 +76,9 @@ abbrev pub WitnessAnswersAreUnambiguous : Type 0
 WitnessAnswersAreUnambiguous = (request : Sim) (model witness : List ℕ) (verdict other : WitnessVerdict)
     → IsWitnessAnswer request model witness verdict → IsWitnessAnswer request model witness other → verdict ≡ other
 
--- bytes have one unrolling text at most
+-- bytes have one unrolling text at most, unless it is simplified
 abbrev pub UnrollingsAreUnambiguous : Type 0
-UnrollingsAreUnambiguous = (request : Unroll) (bytes text other : List ℕ)
+UnrollingsAreUnambiguous = (request : Unroll) (bytes text other : List ℕ) → request.simplify ≡ false
     → IsUnrollingText request bytes text → IsUnrollingText request bytes other → text ≡ other
 
 -- the circuit itself is written, and no clauses
@@ -89,13 +91,20 @@ IsOfCircuit (Clauses property) = ⊥
 -- unrolled circuit
 abbrev pub UnrolledTextsAreFiles : Type 0
 UnrolledTextsAreFiles = (request : Unroll) (c d : Circuit) (file text : List ℕ) → IsOfCircuit request.form
-    → IsFileOf file request.max_var c → IsUnrolled c request.frames d → IsUnrollingText request file text
+    → request.simplify ≡ false → IsFileOf file request.max_var c → IsUnrolled c request.frames d → IsUnrollingText request file text
     → (other : Circuit) → IsFileOf text LARGEST other ↔ (other ≡ d)
+
+-- where it is simplified, the file of a circuit that means what the unrolled circuit means
+abbrev pub SimplifiedUnrollingsMeanTheSame : Type 0
+SimplifiedUnrollingsMeanTheSame = (request : Unroll) (c d : Circuit) (file text : List ℕ) → IsOfCircuit request.form
+    → IsFileOf file request.max_var c → IsUnrolled c request.frames d → IsUnrollingText request file text
+    → (written : Circuit) × IsFileOf text LARGEST written × MeansTheSame d written
 
 -- every file of a circuit that is supported and not too large to unroll has an unrolling text; and clauses, where it
 -- has the property and they can be made
 abbrev pub UnrolledTextsExist : Type 0
-UnrolledTextsExist = (request : Unroll) (c : Circuit) (file : List ℕ) → IsFileOf file request.max_var c
+UnrolledTextsExist = (request : Unroll) (c : Circuit) (file : List ℕ) → request.simplify ≡ false
+    → IsFileOf file request.max_var c
     → HasProperty (property_of request.form) c → ¬ IsUnsupported (property_model (property_of request.form) c)
     → ¬ IsTooLarge (property_model (property_of request.form) c) request.frames
     → ((d : Circuit) → IsUnrolled (property_model (property_of request.form) c) request.frames d
@@ -108,6 +117,7 @@ IsCanonicalBinary file = (c : Circuit) × IsWellFormed c × IsInBinaryOrder c ×
 
 -- a conversion at the default limit that leaves nothing out, changes no property, and keeps and undoes no record
 pub record IsPlain (request : ToAig) : Type 0 where
+  pub simplify : request.simplify ≡ false
   pub strip : request.strip ≡ false
   pub keep_map : request.keep_map ≡ false
   pub undo_map : request.undo_map ≡ false
@@ -122,6 +132,7 @@ BinarySurvivesAscii = (there back : ToAig) → IsPlain there → there.ascii ≡
 
 -- a conversion to binary at the default limit that leaves nothing out and keeps the map
 pub record KeepsMap (request : ToAig) : Type 0 where
+  pub simplify : request.simplify ≡ false
   pub ascii : request.ascii ≡ false
   pub strip : request.strip ≡ false
   pub keep_map : request.keep_map ≡ true
@@ -131,6 +142,7 @@ pub record KeepsMap (request : ToAig) : Type 0 where
 
 -- a conversion to ASCII at the default limit that leaves nothing out and undoes the map
 pub record UndoesMap (request : ToAig) : Type 0 where
+  pub simplify : request.simplify ≡ false
   pub ascii : request.ascii ≡ true
   pub strip : request.strip ≡ false
   pub keep_map : request.keep_map ≡ false
@@ -147,8 +159,8 @@ UndoingGivesAsciiBack = (there back : ToAig) → KeepsMap there → UndoesMap ba
     → (ascii ≡ ascii_text c) × IsAsciiText ascii LARGEST c × (file ≡ ascii_text c → ascii ≡ file)
 
 -- A file and its conversion have the same simulation text of every stimulus, where either has one: whatever the
--- conversion is, at the default limit, to ASCII or to binary, with the map or without, also one that undoes a map or
--- leaves symbols and comment out. It only has to keep the outputs outputs. So the same text is written for a file, for
+-- conversion is, at the default limit, to ASCII or to binary, with the map or without, also one that undoes a map,
+-- leaves symbols and comment out or simplifies. It only has to keep the outputs outputs. So the same text is written for a file, for
 -- what it is converted to, and for what is undone from that.
 abbrev pub TracesAreKept : Type 0
 TracesAreKept = (request : ToAig) (before after : Sim) → request.bad_states ≡ Kept
@@ -178,6 +190,46 @@ OutputsAreShownAsBad = (request : ToAig) → request.bad_states ≡ Outputs → 
     → (first : List Val) (steps : List (List Val)) (rows : List Row)
     → IsTrace d first steps rows
     ↔ ((shown : List Row) × IsTrace c first steps shown × (rows ≡ map row_with_outputs_as_bad shown))
+
+-- What is written of a file with fewer gates is, at the default limit, the file of exactly one circuit, which is what the
+-- circuit of the source is simplified to.
+abbrev pub SimplifiedTextsAreFiles : Type 0
+SimplifiedTextsAreFiles = (request : ToAig) (file converted : List ℕ) → request.simplify ≡ true
+    → request.keep_map ≡ false → (p : IsConversionText request file converted)
+    → IsSimplified (changed request p.source) p.written
+    × ((d : Circuit) → IsFileOf converted LARGEST d ↔ (d ≡ p.written))
+
+-- What a solver's answer shows of a file's conversion is a witness of the file, which is confirmed.
+abbrev pub AnswersGoBack : Type 0
+AnswersGoBack = (conversion : ToAig) (request : Reach) (bad : Option ℕ) (judging : Sim) (selected : Circuit)
+    (file converted answer text : List ℕ) → conversion.bad_states ≡ Kept → conversion.max_var ≡ LARGEST
+    → request.max_var ≡ LARGEST → judging.max_var ≡ LARGEST → request.property ≡ bad_property bad
+    → IsConversionText conversion file converted → IsSelectedModel request converted selected
+    → IsReachText request selected answer text
+    → (step : ℕ) × (step < request.frames) × IsWitnessAnswer judging file text (BadState (Confirmed step))
+
+-- Where it is written of a file's conversion that there is none within so many frames, none of the file is confirmed at
+-- one of them.
+abbrev pub RefutationsGoBack : Type 0
+RefutationsGoBack = (conversion : ToAig) (request : Reach) (bad : Option ℕ) (judging : Sim) (selected : Circuit)
+    (file converted text witness : List ℕ) (step : ℕ) → conversion.bad_states ≡ Kept → conversion.max_var ≡ LARGEST
+    → request.max_var ≡ LARGEST → judging.max_var ≡ LARGEST → request.property ≡ bad_property bad
+    → IsConversionText conversion file converted → IsSelectedModel request converted selected
+    → IsNoneText request selected text → step < request.frames
+    → (confirmed : IsWitnessAnswer judging file witness (BadState (Confirmed step)))
+    → ¬ IsOfSelected bad confirmed.claim
+
+-- Where it is written of a file's conversion, by whatever invariant, that none is ever reached, none of the file is ever
+-- confirmed.
+abbrev pub InvariantsGoBack : Type 0
+InvariantsGoBack = (conversion : ToAig) (request : Invariant) (bad : Option ℕ) (judging : Sim)
+    (selected strengthened : Circuit) (file converted invariant text witness : List ℕ) (step : ℕ)
+    → conversion.bad_states ≡ Kept → conversion.max_var ≡ LARGEST → request.max_var ≡ LARGEST
+    → judging.max_var ≡ LARGEST → request.property ≡ bad_property bad → IsConversionText conversion file converted
+    → IsInvariantModel request converted selected → IsStrengthened selected invariant strengthened
+    → IsNeverText request strengthened text
+    → (confirmed : IsWitnessAnswer judging file witness (BadState (Confirmed step)))
+    → ¬ IsOfSelected bad confirmed.claim
 
 -- the headline
 pub record Headline : Type 0 where
@@ -239,12 +291,13 @@ pub record AreValuesOf (a : ℕ → Bool) (variables : ℕ) (values : List Signe
   pub listed : (v : ℕ) → 1 ≤ v → v ≤ variables → a v ≡ true
       → list_any (λ (value : Signed). value.number == v + 1) values ≡ true
 
--- Where an assignment satisfies the clauses that are written of a model, each text of an answer that has its values
--- has a witness: so a right answer is never refused.
+-- Where an assignment satisfies the clauses that are written of a model, simplified or not, each text of an answer that
+-- has its values has a witness: so a right answer is never refused.
 abbrev pub RightAnswersHaveWitnesses : Type 0
-RightAnswersHaveWitnesses = (request : Reach) (selected : Circuit) (model : List ℕ) (a : ℕ → Bool)
-    (before : List (List ℕ)) (lines : List Line) (last : List Signed) (behind : List (List ℕ))
-    → (of_model : IsSelectedModel request model selected) → Satisfies a (bad_clauses of_model.has_clauses.unrolled)
+RightAnswersHaveWitnesses = (request : Reach) (selected : Circuit) (model : List ℕ) (simplify : Bool)
+    (written : Circuit) (a : ℕ → Bool) (before : List (List ℕ)) (lines : List Line) (last : List Signed) (behind : List (List ℕ))
+    → (of_model : IsSelectedModel request model selected)
+    → IsReducedIf simplify of_model.has_clauses.is_text.unrolled written → Satisfies a (bad_clauses written)
     → AreComments before → AllByRecursion IsLine lines → AreValues last → AreComments behind
     → AreValuesOf a (all_inputs selected request.frames) (all_values lines last)
     → (text : List ℕ) × IsReachText request selected (answer_text before lines last behind) text
@@ -267,11 +320,11 @@ RefutationsMeanNone = (request : Reach) (bad : Option ℕ) (judging : Sim) (sele
     → step < request.frames → (confirmed : IsWitnessAnswer judging model witness (BadState (Confirmed step)))
     → ¬ IsOfSelected bad confirmed.claim
 
--- a model and an invariant have one text of clauses at most
+-- a model and an invariant have one text of clauses at most, unless it is simplified
 abbrev pub InvariantTextsAreUnambiguous : Type 0
 InvariantTextsAreUnambiguous = (request : Invariant) (selected again : Circuit) (model invariant text other : List ℕ)
-    → IsInvariantModel request model selected → IsInvariantModel request model again
-    → IsInvariantText selected invariant text → IsInvariantText again invariant other → text ≡ other
+    → request.simplify ≡ false → IsInvariantModel request model selected → IsInvariantModel request model again
+    → IsInvariantText request selected invariant text → IsInvariantText request again invariant other → text ≡ other
 
 -- Where it is written for a model and an invariant that none is ever reached, no witness file of the selected bad
 -- state, or of any where none is selected, is confirmed of the model, at whatever step.

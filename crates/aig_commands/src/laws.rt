@@ -12,6 +12,8 @@ ghost use Rattle.aig_commands.specs.Laws.{ReachTextsAreUnambiguous, RightAnswers
 ghost use Rattle.aig_commands.specs.Laws.{RefutationsMeanNone, SolverAnswersAreConfirmed};
 ghost use Rattle.aig_commands.specs.Laws.{InvariantTextsAreUnambiguous, NeverIsNever};
 ghost use Rattle.aig_commands.specs.Laws.{WitnessAnswersAreUnambiguous, WitnessAnswersExist};
+ghost use Rattle.aig_commands.specs.Laws.{AnswersGoBack, InvariantsGoBack, RefutationsGoBack};
+ghost use Rattle.aig_commands.specs.Laws.{SimplifiedTextsAreFiles, SimplifiedUnrollingsMeanTheSame};
 ghost use Rattle.aig_commands.specs.LiveLaws.{AnswersAreLassos, ConfirmedClaimsAreLassos};
 ghost use Rattle.aig_commands.specs.LiveLaws.{NeverExactlyWithoutFairRun, NeverMeansNoneIsFair};
 ghost use Rattle.aig_commands.specs.LiveLaws.{RefutationsMeanNoLasso};
@@ -46,6 +48,31 @@ pub fn unrollings_are_unambiguous()
 /// unrolled circuit.
 pub fn unrolled_texts_are_files()
     ensures { UnrolledTextsAreFiles }
+{}
+
+/// Where the unrolled circuit is simplified, it is the file of one that means the same.
+pub fn simplified_unrollings_mean_the_same()
+    ensures { SimplifiedUnrollingsMeanTheSame }
+{}
+
+/// What is written with fewer gates is the file of exactly the simplified circuit.
+pub fn simplified_texts_are_files()
+    ensures { SimplifiedTextsAreFiles }
+{}
+
+/// What a solver's answer shows of a file's conversion is a witness of the file.
+pub fn answers_go_back()
+    ensures { AnswersGoBack }
+{}
+
+/// What a refutation shows of a file's conversion is so of the file.
+pub fn refutations_go_back()
+    ensures { RefutationsGoBack }
+{}
+
+/// What an invariant shows of a file's conversion is so of the file.
+pub fn invariants_go_back()
+    ensures { InvariantsGoBack }
 {}
 
 /// Every file of a circuit that can be unrolled has an unrolling text, and a text of clauses where

@@ -3,6 +3,8 @@ ghost use Rattle.std.specs.Prelude.{◌≡◌, ◌<◌, ◌≤◌, IfErr, IfOk, 
 ghost use Rattle.aig_fault.specs.Stopping.{StopsFor};
 ghost use Rattle.aig_io.specs.Runs.{Read, Transferred};
 ghost use Rattle.aig_command.specs.Answer.{HasFrames};
+ghost use Rattle.aig_unroll.specs.Outcome.{NotUnrolled};
+ghost use Rattle.aig_unroll.specs.Unrolled.{IsTooLarge, IsUnrolled, IsUnsupported};
 ghost use Rattle.aig_commands.specs.Jobs.{text_of};
 ghost use Rattle.aig_commands.specs.Outcome.{Says};
 ghost use Rattle.aig_commands.specs.Reading.{AtItsEnd, ReadSays};
@@ -75,8 +77,20 @@ fn check_whole(form: UnrolledForm, circuit: &Ordered) -> Result<(), Stopped>
     }
 }
 
-/// The circuit unrolled over so many frames, as a whole, where it can be written as it is asked
-/// for.
+/// The circuit unrolled over so many frames, as a whole.
+fn unroll_selected(alloc: Global, selected: Checked, frames: u32) -> Result<Ordered, Stopped>
+    requires { (1 ≤ frames) × (frames ≤ 1000000) }
+    ensures ok { IfOk result (λ d. IsUnrolled selected frames d) }
+    ensures supported { OnOk result ((¬ IsUnsupported selected) × (¬ IsTooLarge selected frames)) }
+    ensures err { IfErr result (NotUnrolled selected frames) }
+{
+    let made = unroll(alloc, &selected, frames);
+    drop(selected); // for the proof
+    made
+}
+
+/// What stands for the property that is asked for, unrolled as a whole, where it can be written as
+/// it is asked for.
 fn unroll_whole(
     alloc: Global,
     form: UnrolledForm,
@@ -88,9 +102,7 @@ fn unroll_whole(
     ensures err { IfErr result (StopsFor (NotUnrolledAs form frames found)) }
 {
     let selected = property_model(alloc, property_of(form), found)?;
-    let made = unroll(alloc, &selected, frames);
-    drop(selected); // for the proof
-    let circuit = made?;
+    let circuit = unroll_selected(alloc, selected, frames)?;
     match check_whole(form, &circuit) {
         Ok(()) => Ok(circuit),
         Err(fault) => {

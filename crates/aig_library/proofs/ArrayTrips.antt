@@ -35,6 +35,7 @@ record IsPlain (request : ToAig) (is_ascii : Bool) : Type 0 where
   pub keep_map : request.keep_map ≡ false
   pub undo_map : request.undo_map ≡ false
   pub bad_states : request.bad_states ≡ Kept
+  pub simplify : request.simplify ≡ false
 
 module _ (request : ToAig) (is_ascii : Bool) (plain : IsPlain request is_ascii) (input text : List ℕ) (found : Circuit)
     (file : IsFileOf input request.max_var found) where
@@ -42,18 +43,20 @@ module _ (request : ToAig) (is_ascii : Bool) (plain : IsPlain request is_ascii) 
   converts is = record {
     found = found;
     source = found;
+    written = found;
     read = file;
     is_source = rw plain.undo_map refl;
     can_turn = rw plain.bad_states tt;
-    written_as = rw (plain.form, plain.strip, plain.keep_map, plain.bad_states) is;
+    is_written = rw (plain.simplify, plain.strip, plain.bad_states) refl;
+    written_as = rw (plain.form, plain.keep_map) is;
   }
 
   converted : IsConversionText request input text → IsTextAs is_ascii false found text
   converted h =
       let same = one_circuit input request.max_var h.found found h.read file in
       let source : h.source ≡ found = (rw plain.undo_map at h.is_source) ∙ same in
-      subst (λ c. IsTextAs is_ascii false c text) source
-      (rw (plain.form, plain.strip, plain.keep_map, plain.bad_states) at h.written_as)
+      let written : h.written ≡ h.source = rw (plain.simplify, plain.strip, plain.bad_states) at h.is_written in
+      subst (λ c. IsTextAs is_ascii false c text) (written ∙ source) (rw (plain.form, plain.keep_map) at h.written_as)
 
 -- what is decoded from the arrays of a circuit without numbers
 decoded_again : (c : Circuit) → IsWellFormed c
@@ -81,9 +84,9 @@ read_tells max_var input made read =
 plain_conversion : (is_ascii : Bool) (max_var : ℕ)
     → IsPlain (conversion (if is_ascii then numbers.ascii else 0) max_var) is_ascii
 plain_conversion true max_var =
-    record { form = refl; strip = refl; keep_map = refl; undo_map = refl; bad_states = refl }
+    record { form = refl; strip = refl; keep_map = refl; undo_map = refl; bad_states = refl; simplify = refl }
 plain_conversion false max_var =
-    record { form = refl; strip = refl; keep_map = refl; undo_map = refl; bad_states = refl }
+    record { form = refl; strip = refl; keep_map = refl; undo_map = refl; bad_states = refl; simplify = refl }
 
 one_decoded : (first : Result Circuit Stopped) (c d : Circuit) → first ≡ Ok c → first ≡ Ok d → c ≡ d
 one_decoded first c d is is_too = cc

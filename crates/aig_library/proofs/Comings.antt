@@ -47,7 +47,7 @@ no_steps_then (readings.Strengthen request selected) bytes next none (strengthen
 no_steps_then (readings.ToAig request) bytes next none (answer, is, then) = rw then tt
 no_steps_then (readings.Unroll request) bytes next none (answer, is, then) = rw then tt
 no_steps_then (readings.Solved request selected) bytes next none (answer, is, then) = rw then tt
-no_steps_then (readings.Clauses selected) bytes next none (answer, is, then) = rw then tt
+no_steps_then (readings.Clauses request selected) bytes next none (answer, is, then) = rw then tt
 no_steps_then (readings.Never request strengthened) bytes next none (answer, is, then) = rw then tt
 no_steps_then (readings.First request) bytes next none (first, is, then) = rw then tt
 no_steps_then (readings.Second request first) bytes next none (answer, is, then) = rw then tt
@@ -169,8 +169,8 @@ module _ (inputs : Inputs) where
         record {
           selected = selected;
           is_model = is_model;
-          none = is.none has.found (well_formed_file inputs.model.now max_var has.found has.read)
-              has.is_unrolled.has_property is_model.selected_is;
+          none = is.none has.found (well_formed_file inputs.model.now request.max_var has.found has.read)
+              has.is_text.is_unrolled.has_property is_model.selected_is;
         }
 
     pub none_refused : (fault : Fault)
@@ -197,7 +197,7 @@ module _ (inputs : Inputs) where
         record {
           selected = selected;
           is_model = is_model;
-          is_text = last_text (readings.Clauses selected) (IsInvariantText selected inputs.file.now) (λ next made. made)
+          is_text = last_text (readings.Clauses request selected) (IsInvariantText request selected inputs.file.now) (λ next made. made)
               text
               (rw then at rest);
         }
@@ -211,7 +211,7 @@ module _ (inputs : Inputs) where
           | inl why ↦ inl why.1
           | inr (next, (selected, is_model, then), rest) ↦
               let why =
-              last_fault (readings.Clauses selected) (IsInvariantText selected inputs.file.now) (λ next made. made)
+              last_fault (readings.Clauses request selected) (IsInvariantText request selected inputs.file.now) (λ next made. made)
               fault
               (rw then at rest) in
               inr (selected, is_model, why.1)
@@ -224,13 +224,14 @@ module _ (inputs : Inputs) where
         → IsNeverOfModel (proving true bad max_var) inputs.model.now inputs.file.now
     never_shown selected strengthened text is_model is shown =
         let has = is_model.has_clauses in
+        let request = proving true bad max_var in
         record {
           selected = selected;
           strengthened = strengthened;
           is_model = is_model;
           is_strengthened = is;
           never = shown.never has.found inputs.file.now is.cubes
-              (well_formed_file inputs.model.now max_var has.found has.read) has.is_unrolled.has_property
+              (well_formed_file inputs.model.now request.max_var has.found has.read) has.is_text.is_unrolled.has_property
               (subst (λ c. HasCubes c inputs.file.now is.cubes) is_model.selected_is is.has_cubes)
               (subst (λ c. strengthened ≡ with_invariant is.cubes c) is_model.selected_is is.strengthened_is);
         }

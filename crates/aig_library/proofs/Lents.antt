@@ -19,6 +19,7 @@ use Rattle.aig_cnf.specs.Clauses.{bad_clauses}
 use Rattle.aig_refute.specs.Refuted.{IsRefusedWhere, literals_of}
 use Rattle.aig_refute.proofs.Followed.{never_broken, refused_behind}
 use Rattle.aig_commands.specs.Jobs.{IsSolvedRefused, Refuses}
+use Rattle.aig_commands.specs.Proving.{over_one_frame}
 use Rattle.aig_commands.specs.Reaching.{IsReachRefused}
 use Rattle.aig_commands.specs.Reading.{AtAnyTime, AtItsEnd, ReadSays}
 use Rattle.aig_commands.specs.Refuting.{IsRefutationRefused, format_of}
@@ -70,24 +71,23 @@ module _ (input : List ℕ) (now : History) (given : HasGiven now) where
   at_any_time IsRefused fault bytes Broken is says = absurd says
 
   -- what a refutation is refused for, it is refused for at its end
-  refutation : (lrat : Bool) (c : Circuit) (frames : ℕ) (fault : Fault) (bytes : List ℕ) (ending : Ending)
-      → now ≡ came bytes ending (unused (lent input)) → IsRefutationRefused lrat c frames fault bytes ending
-      → IsRefutationRefused lrat c frames fault input AtEnd
-  refutation lrat c frames fault bytes AtEnd is says =
-      subst (λ (bs : List ℕ). IsRefutationRefused lrat c frames fault bs AtEnd)
+  refutation : (request : Reach) (c : Circuit) (fault : Fault) (bytes : List ℕ) (ending : Ending)
+      → now ≡ came bytes ending (unused (lent input)) → IsRefutationRefused request c fault bytes ending
+      → IsRefutationRefused request c fault input AtEnd
+  refutation request c fault bytes AtEnd is says =
+      subst (λ (bs : List ℕ). IsRefutationRefused request c fault bs AtEnd)
       (lents.all_read input now given bytes is) says
-  refutation lrat c frames fault bytes Open is (d, formed, unrolled, why) =
-      let front = lents.part_read input now given bytes is in (
+  refutation request c fault bytes Open is (d, refuted, why) =
+      let front = lents.part_read input now given bytes is in
+      let format = format_of request.lrat in (
         d,
-        formed,
-        unrolled,
-        subst (λ (bs : List ℕ). IsRefusedWhere (format_of lrat) (bad_clauses d) (literals_of d) fault bs AtEnd)
+        refuted,
+        subst (λ (bs : List ℕ). IsRefusedWhere format (bad_clauses d) (literals_of d) fault bs AtEnd)
             (ap (λ (bs : List ℕ). bs ++ drop (length bytes) input) front ∙ take-append-drop (length bytes) input)
-            (refused_behind (format_of lrat) (bad_clauses d) (literals_of d) fault bytes (drop (length bytes) input)
-            why),
+            (refused_behind format (bad_clauses d) (literals_of d) fault bytes (drop (length bytes) input) why),
       )
-  refutation lrat c frames fault bytes Broken is (d, formed, unrolled, inl why) = absurd why.0
-  refutation lrat c frames fault bytes Broken is (d, formed, unrolled, inr why) = absurd (never_broken why.1)
+  refutation request c fault bytes Broken is (d, refuted, inl why) = absurd why.0
+  refutation request c fault bytes Broken is (d, refuted, inr why) = absurd (never_broken why.1)
 
   solved : (by : SolverFile) (request : Reach) (selected : Circuit) (fault : Fault) (bytes : List ℕ) (ending : Ending)
       → now ≡ came bytes ending (unused (lent input)) → IsSolvedRefused by request selected fault bytes ending
@@ -95,7 +95,7 @@ module _ (input : List ℕ) (now : History) (given : HasGiven now) where
   solved wrote.Answer request selected fault bytes ending is says =
       at_any_time (IsReachRefused request selected) fault bytes ending is says
   solved wrote.Refutation request selected fault bytes ending is says =
-      refutation request.lrat selected request.frames fault bytes ending is says
+      refutation request selected fault bytes ending is says
 
   all_refused : (reading : Reading) (fault : Fault) (bytes : List ℕ) (ending : Ending)
       → now ≡ came bytes ending (unused (lent input)) → ending ≡ AtEnd → Refuses reading fault bytes ending
@@ -111,7 +111,7 @@ module _ (input : List ℕ) (now : History) (given : HasGiven now) where
   refused (readings.Solved request selected) fault bytes ending is says =
       solved request.wrote request selected fault bytes ending is says
   refused (readings.Never request strengthened) fault bytes ending is says =
-      refutation request.lrat strengthened 1 fault bytes ending is says
+      refutation (over_one_frame request) strengthened fault bytes ending is says
   refused (readings.ToAig request) fault bytes ending is says =
       all_refused (readings.ToAig request) fault bytes ending is says.0 says
   refused (readings.Unroll request) fault bytes ending is says =
@@ -120,8 +120,8 @@ module _ (input : List ℕ) (now : History) (given : HasGiven now) where
       all_refused (readings.Reach request) fault bytes ending is says.0 says
   refused (readings.Invariant request) fault bytes ending is says =
       all_refused (readings.Invariant request) fault bytes ending is says.0 says
-  refused (readings.Clauses selected) fault bytes ending is says =
-      all_refused (readings.Clauses selected) fault bytes ending is says.0 says
+  refused (readings.Clauses request selected) fault bytes ending is says =
+      all_refused (readings.Clauses request selected) fault bytes ending is says.0 says
   refused (readings.Strengthen request selected) fault bytes ending is says =
       all_refused (readings.Strengthen request selected) fault bytes ending is says.0 says
   refused (readings.First request) fault bytes ending is says =

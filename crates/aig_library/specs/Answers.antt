@@ -20,7 +20,7 @@ use Rattle.aig_commands.specs.Comparing.{IsFirst, IsMiterText, NotFirst, NotMite
 use Rattle.aig_commands.specs.Conversion.{IsConversionRefused, IsConversionText}
 use Rattle.aig_commands.specs.File.{IsFileOf}
 use Rattle.aig_commands.specs.Proving.{IsInvariantModel, IsInvariantText, IsStrengthened, NoRunHas, NotInvariantModel}
-use Rattle.aig_commands.specs.Proving.{NotStrengthened}
+use Rattle.aig_commands.specs.Proving.{NotStrengthened, over_one_frame}
 use Rattle.aig_commands.specs.Reaching.{IsModelRefused, IsReachRefused, IsReachText, IsSelectedModel}
 use Rattle.aig_commands.specs.Reading.{IsUnreadable}
 use Rattle.aig_commands.specs.Refuting.{NoRunHasWithin, NotRefuted}
@@ -28,7 +28,8 @@ use Rattle.aig_commands.specs.Simulation.{IsWrittenText}
 use Rattle.aig_commands.specs.Unrolling.{IsUnrollingRefused, IsUnrollingText}
 use Rattle.aig_commands.specs.WitnessDump.{IsWitnessDumpText}
 use Rattle.aig_commands.specs.WitnessOutcome.{IsWitnessAnswer}
-use Rattle.aig_library.specs.Asked.{CanCompare, CanConvert, CanReach, CanSimulate, CanTurnJustice, CanUnroll, clauses}
+use Rattle.aig_library.specs.Asked.{CanCompare, CanConvert, CanProve, CanReach, CanSimulate, CanTurnJustice, CanUnroll}
+use Rattle.aig_library.specs.Asked.{clauses}
 use Rattle.aig_library.specs.Asked.{comparison, conversion, justice_conversion, proving}
 use Rattle.aig_library.specs.Asked.{reaching, simulation, unrolling}
 use Rattle.aig_library.specs.Numbers as numbers
@@ -116,7 +117,7 @@ abbrev pub IsNoneRefused : Reach → (model refutation : List ℕ) → Fault →
 IsNoneRefused request model refutation fault =
     IsModelRefused request fault model
     ⊎ ((selected : Circuit) × IsSelectedModel request model selected
-    × NotRefuted request.lrat selected request.frames refutation fault)
+    × NotRefuted request selected refutation fault)
 
 abbrev pub RefuteAnswers : (property frames max_var : ℕ) (model refutation : List ℕ) → Outcome → Type 0
 RefuteAnswers property frames max_var model refutation =
@@ -128,7 +129,7 @@ RefuteAnswers property frames max_var model refutation =
 pub record IsProvingText (request : Invariant) (model invariant text : List ℕ) : Type 0 where
   pub selected : Circuit
   pub is_model : IsInvariantModel request model selected
-  pub is_text : IsInvariantText selected invariant text
+  pub is_text : IsInvariantText request selected invariant text
 
 -- There are no such clauses for this reason: the model has none, or the invariant is not one of it.
 abbrev pub IsProvingRefused : Invariant → (model invariant : List ℕ) → Fault → Type 0
@@ -139,7 +140,7 @@ IsProvingRefused request model invariant fault =
 abbrev pub InvariantAnswers : (property max_var : ℕ) (model invariant before after : List ℕ) → Outcome → Type 0
 InvariantAnswers property max_var model invariant =
     let request = proving false property max_var in
-    TextAnswers (max_var ≤ largest_index) (IsProvingText request model invariant)
+    TextAnswers (CanProve max_var) (IsProvingText request model invariant)
     (IsProvingRefused request model invariant)
 
 -- No claim of the model, of the selected bad state, is ever confirmed.
@@ -155,12 +156,13 @@ abbrev pub IsNeverRefused : Invariant → (model invariant refutation : List ℕ
 IsNeverRefused request model invariant refutation fault =
     IsProvingRefused request model invariant fault
     ⊎ ((selected strengthened : Circuit) × IsInvariantModel request model selected
-    × IsStrengthened selected invariant strengthened × NotRefuted request.lrat strengthened 1 refutation fault)
+    × IsStrengthened selected invariant strengthened
+    × NotRefuted (over_one_frame request) strengthened refutation fault)
 
 abbrev pub NeverAnswers : (property max_var : ℕ) (model invariant refutation : List ℕ) → Outcome → Type 0
 NeverAnswers property max_var model invariant refutation =
     let request = proving true property max_var in
-    ShowAnswers (max_var ≤ largest_index) (IsNeverOfModel request model invariant)
+    ShowAnswers (CanProve max_var) (IsNeverOfModel request model invariant)
     (IsNeverRefused request model invariant refutation)
 
 -- The miter that is written for two circuits.

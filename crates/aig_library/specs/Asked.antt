@@ -32,6 +32,7 @@ conversion options max_var = record {
   keep_map = has options numbers.keep_map;
   undo_map = has options numbers.undo_map;
   bad_states = if has options numbers.outputs_as_bad then Outputs else Kept;
+  simplify = has options numbers.simplify;
   max_var = max_var;
 }
 
@@ -43,6 +44,7 @@ justice_conversion options property max_var = record {
   keep_map = false;
   undo_map = false;
   bad_states = Justice property;
+  simplify = has options numbers.simplify;
   max_var = max_var;
 }
 
@@ -50,8 +52,16 @@ abbrev pub unrolling : (options frames max_var : ℕ) → Unroll
 unrolling options frames max_var = record {
   frames = frames;
   form = if has options numbers.ascii then Ascii else Binary;
+  simplify = has options numbers.simplify;
   max_var = max_var;
 }
+
+-- the limit of a call for clauses, and whether they are those of the simplified circuit
+abbrev pub limit_of : ℕ → ℕ
+limit_of max_var = if nat_le numbers.simplified max_var then max_var - numbers.simplified else max_var
+
+abbrev pub simplifies : ℕ → Bool
+simplifies max_var = nat_le numbers.simplified max_var
 
 -- the property of this number: all bad states, a justice property, or one bad state
 abbrev pub selected : ℕ → Property
@@ -64,31 +74,35 @@ abbrev pub clauses : (property frames max_var : ℕ) → Unroll
 clauses property frames max_var = record {
   frames = frames;
   form = Clauses (selected property);
-  max_var = max_var;
+  simplify = simplifies max_var;
+  max_var = limit_of max_var;
 }
 
 abbrev pub reaching : SolverFile → (property frames max_var : ℕ) → Reach
 reaching wrote property frames max_var = record {
   frames = frames;
   property = selected property;
-  max_var = max_var;
+  max_var = limit_of max_var;
   wrote = wrote;
   lrat = false;
+  simplify = simplifies max_var;
 }
 
 -- an invariant: its clauses, or that a refutation of them is right
 abbrev pub proving : (refuted : Bool) (property max_var : ℕ) → Invariant
 proving refuted property max_var = record {
   property = selected property;
-  max_var = max_var;
+  max_var = limit_of max_var;
   refuted = refuted;
   lrat = false;
+  simplify = simplifies max_var;
 }
 
 abbrev pub comparison : (options max_var : ℕ) → Miter
 comparison options max_var = record {
   ascii = has options numbers.ascii;
   by_name = has options numbers.by_name;
+  simplify = has options numbers.simplify;
   max_var = max_var;
 }
 
@@ -107,21 +121,27 @@ simulation options max_var = record {
 -- with one option, and written with one.
 abbrev pub CanConvert : (options max_var : ℕ) → Type 0
 CanConvert options max_var =
-    OnlyHas options (numbers.ascii + numbers.strip + numbers.keep_map + numbers.undo_map + numbers.outputs_as_bad)
+    OnlyHas options
+    (numbers.ascii + numbers.strip + numbers.keep_map + numbers.undo_map + numbers.outputs_as_bad + numbers.simplify)
     × (max_var ≤ largest_index) × IsKeptAlone (conversion options max_var) × IsWithoutMap (conversion options max_var)
 
 abbrev pub CanTurnJustice : (options max_var : ℕ) → Type 0
-CanTurnJustice options max_var = OnlyHas options (numbers.ascii + numbers.strip) × (max_var ≤ largest_index)
+CanTurnJustice options max_var =
+    OnlyHas options (numbers.ascii + numbers.strip + numbers.simplify) × (max_var ≤ largest_index)
 
 abbrev pub CanUnroll : (options frames max_var : ℕ) → Type 0
 CanUnroll options frames max_var =
-    OnlyHas options numbers.ascii × (max_var ≤ largest_index) × HasFrames (unrolling options frames max_var)
+    OnlyHas options (numbers.ascii + numbers.simplify) × (max_var ≤ largest_index) × HasFrames (unrolling options frames max_var)
 
 abbrev pub CanReach : (frames max_var : ℕ) → Type 0
-CanReach frames max_var = (1 ≤ frames) × (frames ≤ most_frames) × (max_var ≤ largest_index)
+CanReach frames max_var = (1 ≤ frames) × (frames ≤ most_frames) × (limit_of max_var ≤ largest_index)
+
+abbrev pub CanProve : (max_var : ℕ) → Type 0
+CanProve max_var = limit_of max_var ≤ largest_index
 
 abbrev pub CanCompare : (options max_var : ℕ) → Type 0
-CanCompare options max_var = OnlyHas options (numbers.ascii + numbers.by_name) × (max_var ≤ largest_index)
+CanCompare options max_var =
+    OnlyHas options (numbers.ascii + numbers.by_name + numbers.simplify) × (max_var ≤ largest_index)
 
 abbrev pub CanRead : (options max_var : ℕ) → Type 0
 CanRead options max_var = OnlyHas options numbers.ordered × (max_var ≤ largest_index)

@@ -15,4 +15,6 @@ ConstantsAreTheNumbers =
     × (options.ASCII ≡ numbers.ascii) × (options.STRIP ≡ numbers.strip) × (options.KEEP_MAP ≡ numbers.keep_map)
     × (options.UNDO_MAP ≡ numbers.undo_map) × (options.PROPERTIES ≡ numbers.properties) × (options.VCD ≡ numbers.vcd)
     × (options.OUTPUTS_AS_BAD ≡ numbers.outputs_as_bad) × (options.ORDERED ≡ numbers.ordered)
-    × (options.ALL_BAD ≡ numbers.all_bad)
+    × (options.ALL_BAD ≡ numbers.all_bad) × (options.JUSTICE ≡ numbers.justice)
+    × (options.BY_NAME ≡ numbers.by_name) × (options.SIMPLIFY ≡ numbers.simplify)
+    × (options.SIMPLIFIED ≡ numbers.simplified)

@@ -79,6 +79,13 @@ ordered = 128
 abbrev pub by_name : ℕ
 by_name = 256
 
+abbrev pub simplify : ℕ
+simplify = 512
+
+-- with the limit of a call for clauses added: they are those of the simplified circuit
+abbrev pub simplified : ℕ
+simplified = 2147483648
+
 -- in the place of the number of a bad state: all of them
 abbrev pub all_bad : ℕ
 all_bad = 4294967295

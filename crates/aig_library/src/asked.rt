@@ -1,7 +1,8 @@
 //! What is asked for, by numbers: each option is a bit.
 ghost use Rattle.std.specs.Prelude.{◌≡◌, ◌↔◌, IsTrue};
 ghost use Rattle.aig_library.specs.Asked.{clauses, comparison, conversion, has, justice_conversion};
-ghost use Rattle.aig_library.specs.Asked.{OnlyHas, proving, reaching, selected, unrolling};
+ghost use Rattle.aig_library.specs.Asked.{limit_of, OnlyHas, proving, reaching, selected};
+ghost use Rattle.aig_library.specs.Asked.{simplifies, unrolling};
 
 use aig_command::{
     BadStates, Invariant, Miter, Property, Reach, SolverFile, ToAig, Unroll, UnrolledForm,
@@ -33,6 +34,12 @@ pub const ORDERED: u32 = 128;
 
 /// Two circuits are paired by their symbols, and not place by place.
 pub const BY_NAME: u32 = 256;
+
+/// A circuit with fewer gates is written that means the same.
+pub const SIMPLIFY: u32 = 512;
+
+/// With the limit of a call for clauses added: they are those of the simplified circuit.
+pub const SIMPLIFIED: u32 = 0x8000_0000;
 
 /// All bad states, in the place of the number of one.
 pub const ALL_BAD: u32 = 0xFFFF_FFFF;
@@ -68,6 +75,7 @@ pub(crate) fn conversion(options: u32, max_var: u32) -> ToAig
         } else {
             BadStates::Kept
         },
+        simplify: has(options, SIMPLIFY),
         max_var,
     }
 }
@@ -82,6 +90,7 @@ pub(crate) fn justice_conversion(options: u32, property: u32, max_var: u32) -> T
         keep_map: false,
         undo_map: false,
         bad_states: BadStates::Justice(property),
+        simplify: has(options, SIMPLIFY),
         max_var,
     }
 }
@@ -98,8 +107,27 @@ pub(crate) fn unrolling(options: u32, frames: u32, max_var: u32) -> Unroll
     Unroll {
         frames,
         form,
+        simplify: has(options, SIMPLIFY),
         max_var,
     }
+}
+
+/// The limit of a call for clauses.
+pub(crate) fn limit_of(max_var: u32) -> u32
+    ensures { result ≡ limit_of max_var }
+{
+    if max_var >= SIMPLIFIED {
+        max_var - SIMPLIFIED
+    } else {
+        max_var
+    }
+}
+
+/// Whether its clauses are those of the simplified circuit.
+fn simplifies(max_var: u32) -> bool
+    ensures { result ≡ simplifies max_var }
+{
+    max_var >= SIMPLIFIED
 }
 
 /// The property of this number: all bad states, a justice property, or one bad state.
@@ -124,7 +152,8 @@ pub(crate) fn clauses(property: u32, frames: u32, max_var: u32) -> Unroll
         form: UnrolledForm::Clauses {
             property: selected(property),
         },
-        max_var,
+        simplify: simplifies(max_var),
+        max_var: limit_of(max_var),
     }
 }
 
@@ -135,9 +164,10 @@ pub(crate) fn reaching(wrote: SolverFile, property: u32, frames: u32, max_var: u
     Reach {
         frames,
         property: selected(property),
-        max_var,
+        max_var: limit_of(max_var),
         wrote,
         lrat: false,
+        simplify: simplifies(max_var),
     }
 }
 
@@ -148,9 +178,10 @@ pub(crate) fn proving(refuted: bool, property: u32, max_var: u32) -> Invariant
 {
     Invariant {
         property: selected(property),
-        max_var,
+        max_var: limit_of(max_var),
         refuted,
         lrat: false,
+        simplify: simplifies(max_var),
     }
 }
 
@@ -161,6 +192,7 @@ pub(crate) fn comparison(options: u32, max_var: u32) -> Miter
     Miter {
         ascii: has(options, ASCII),
         by_name: has(options, BY_NAME),
+        simplify: has(options, SIMPLIFY),
         max_var,
     }
 }

@@ -3,7 +3,7 @@ ghost use Rattle.std.specs.Prelude.{◌↔◌, IsTrue};
 ghost use Rattle.aig_library.specs.Answers.{MiterAnswers};
 ghost use Rattle.aig_library.specs.Asked.{CanCompare};
 
-use crate::asked::{ASCII, BY_NAME, comparison, only_has};
+use crate::asked::{ASCII, BY_NAME, SIMPLIFY, comparison, only_has};
 use crate::memory::{Inputs, read_bytes, run_in_memory};
 use crate::outcome::{BAD_OPTIONS, Outcome, answer_second, ending, outcome_of};
 use aig_commands::Reading;
@@ -14,11 +14,11 @@ use std::alloc::Global;
 fn can_compare(options: u32, max_var: u32) -> bool
     ensures { IsTrue result ↔ CanCompare options max_var }
 {
-    only_has(options, ASCII + BY_NAME) && max_var <= LARGEST
+    only_has(options, ASCII + BY_NAME + SIMPLIFY) && max_var <= LARGEST
 }
 
 /// Makes the miter of the circuits of two AIGER files, whose bad states say where the two differ.
-/// Options are `ASCII` and `BY_NAME`. The status is `SECOND_REFUSED` where it is the second that has
+/// Options are `ASCII`, `BY_NAME` and `SIMPLIFY`. The status is `SECOND_REFUSED` where it is the second that has
 /// a fault, or does not fit the first.
 pub fn miter(
     alloc: Global,

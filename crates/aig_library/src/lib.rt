@@ -27,8 +27,8 @@ mod wording;
 
 pub use crate::arrays::{read, write};
 pub use crate::asked::{
-    ALL_BAD, ASCII, BY_NAME, JUSTICE, KEEP_MAP, ORDERED, OUTPUTS_AS_BAD, PROPERTIES, STRIP,
-    UNDO_MAP, VCD,
+    ALL_BAD, ASCII, BY_NAME, JUSTICE, KEEP_MAP, ORDERED, OUTPUTS_AS_BAD, PROPERTIES, SIMPLIFIED,
+    SIMPLIFY, STRIP, UNDO_MAP, VCD,
 };
 pub use crate::comparing::miter;
 pub use crate::outcome::{

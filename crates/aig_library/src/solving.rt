@@ -2,7 +2,7 @@
 ghost use Rattle.aig_library.specs.Answers.{InvariantAnswers, NeverAnswers, ReachAnswers};
 ghost use Rattle.aig_library.specs.Answers.{RefuteAnswers};
 
-use crate::asked::{proving, reaching};
+use crate::asked::{limit_of, proving, reaching};
 use crate::memory::{Inputs, run_in_memory};
 use crate::outcome::{BAD_OPTIONS, Outcome, answer, answer_shown, ending};
 use crate::texts::can_reach;
@@ -77,7 +77,7 @@ pub fn invariant_clauses(
 ) -> Outcome
     ensures { InvariantAnswers property max_var model.now invariant.now output.old output.new result }
 {
-    if max_var > LARGEST {
+    if limit_of(max_var) > LARGEST {
         return ending(BAD_OPTIONS, 0, 0);
     }
     let inputs = Inputs {
@@ -102,7 +102,7 @@ pub fn never(
 ) -> Outcome
     ensures { NeverAnswers property max_var model.now invariant.now refutation.now result }
 {
-    if max_var > LARGEST {
+    if limit_of(max_var) > LARGEST {
         return ending(BAD_OPTIONS, 0, 0);
     }
     let inputs = Inputs {

@@ -6,8 +6,8 @@ ghost use Rattle.aig_library.specs.Asked.{CanConvert, CanReach, CanTurnJustice, 
 ghost use Rattle.aig_library.specs.Asked.{conversion};
 
 use crate::asked::{
-    ASCII, KEEP_MAP, OUTPUTS_AS_BAD, STRIP, UNDO_MAP, clauses, conversion, has, justice_conversion,
-    only_has, unrolling,
+    ASCII, KEEP_MAP, OUTPUTS_AS_BAD, SIMPLIFY, STRIP, UNDO_MAP, clauses, conversion, has,
+    justice_conversion, limit_of, only_has, unrolling,
 };
 use crate::memory::{Inputs, run_in_memory};
 use crate::outcome::{BAD_OPTIONS, Outcome, answer, ending};
@@ -23,14 +23,16 @@ fn can_convert(options: u32, max_var: u32, request: &ToAig) -> bool
 {
     only_has(
         options,
-        ASCII + STRIP + KEEP_MAP + UNDO_MAP + OUTPUTS_AS_BAD,
+        ASCII + STRIP + KEEP_MAP + UNDO_MAP + OUTPUTS_AS_BAD + SIMPLIFY,
     ) && max_var <= LARGEST
         && !(request.keep_map && (request.ascii || request.strip || request.undo_map))
+        && !(request.keep_map && request.simplify)
         && !(has(options, OUTPUTS_AS_BAD) && (request.keep_map || request.undo_map))
 }
 
 /// Converts the bytes of an AIGER file as the options ask: any of `ASCII`, `STRIP`, `KEEP_MAP`,
-/// `UNDO_MAP` and `OUTPUTS_AS_BAD`, but `KEEP_MAP` alone, and `OUTPUTS_AS_BAD` without `UNDO_MAP`.
+/// `UNDO_MAP`, `OUTPUTS_AS_BAD` and `SIMPLIFY`, but `KEEP_MAP` alone, and `OUTPUTS_AS_BAD` without
+/// `UNDO_MAP`.
 /// The largest index and the counts of the input are at most `max_var`.
 pub fn convert(
     alloc: Global,
@@ -58,12 +60,12 @@ pub fn convert(
 fn can_turn_justice(options: u32, max_var: u32) -> bool
     ensures { IsTrue result ↔ CanTurnJustice options max_var }
 {
-    only_has(options, ASCII + STRIP) && max_var <= LARGEST
+    only_has(options, ASCII + STRIP + SIMPLIFY) && max_var <= LARGEST
 }
 
 /// Converts the bytes of an AIGER file to a circuit with one bad state, which is reached exactly
 /// where the file's circuit has a run that is fair to the justice property of this number, counted
-/// from 0. The options are any of `ASCII` and `STRIP`.
+/// from 0. The options are any of `ASCII`, `STRIP` and `SIMPLIFY`.
 pub fn justice_as_bad(
     alloc: Global,
     options: u32,
@@ -91,11 +93,14 @@ pub fn justice_as_bad(
 fn can_unroll(options: u32, frames: u32, max_var: u32) -> bool
     ensures { IsTrue result ↔ CanUnroll options frames max_var }
 {
-    only_has(options, ASCII) && max_var <= LARGEST && 1 <= frames && frames <= 1_000_000
+    only_has(options, ASCII + SIMPLIFY)
+        && max_var <= LARGEST
+        && 1 <= frames
+        && frames <= 1_000_000
 }
 
-/// Unrolls the circuit of an AIGER file over so many frames, from 1 to 1000000. The only option is
-/// `ASCII`.
+/// Unrolls the circuit of an AIGER file over so many frames, from 1 to 1000000. The options are any
+/// of `ASCII` and `SIMPLIFY`.
 pub fn unroll(
     alloc: Global,
     options: u32,
@@ -122,11 +127,12 @@ pub fn unroll(
 pub(crate) fn can_reach(frames: u32, max_var: u32) -> bool
     ensures { IsTrue result ↔ CanReach frames max_var }
 {
-    1 <= frames && frames <= 1_000_000 && max_var <= LARGEST
+    1 <= frames && frames <= 1_000_000 && limit_of(max_var) <= LARGEST
 }
 
 /// Writes the clauses by which a bad state of the circuit of an AIGER file is 1, unrolled over so
-/// many frames: that of this number, or any of them for `ALL_BAD`.
+/// many frames: that of this number, or any of them for `ALL_BAD`. With `SIMPLIFIED` added to the
+/// limit they are those of the simplified circuit.
 pub fn write_clauses(
     alloc: Global,
     property: u32,

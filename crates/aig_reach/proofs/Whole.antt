@@ -49,7 +49,7 @@ cuts_have_files c frames a property formed below =
     claims_have_files c (cut_claim c frames a property) one.0 formed below one.1.0
 
 -- the inputs of the unrolled circuit, and its latches
-inputs_are : (c d : Circuit) (frames : ℕ) → IsWellFormed c → IsUnrolled c frames d
+pub inputs_are : (c d : Circuit) (frames : ℕ) → IsWellFormed c → IsUnrolled c frames d
     → d.inputs ≡ range_with_len 1 (all_inputs c frames)
 inputs_are c d frames formed unrolled =
     let same = image_means_the_same c unrolled.0 formed unrolled.1 in

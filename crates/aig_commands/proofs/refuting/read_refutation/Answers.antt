@@ -3,12 +3,11 @@ use Rattle.aig_io.proofs.Runs.{read_none}
 use Rattle.aig_commands.proofs.Refutings.{refutation_read}
 use Rattle.aig_commands.proofs.refuting.read_refutation.Goals as goal
 
-pub returns-in_err-unrolled : goal.returns-in_err-unrolled
-returns-in_err-unrolled g c = search (rules, read_none)
+pub returns-in_err-refuted : goal.returns-in_err-refuted
+returns-in_err-refuted g c = search (rules, read_none)
 
 pub returns : goal.returns
 returns g c =
     let same = c.as_checked.ensures.value in
-    refutation_read c.args.lrat _ _ _ (rw same at c.circuit.ensures.well_formed) c.in_ok-unrolled.ensures.ok
-    c.check_refutation-checked.result _ _
+    refutation_read c.args.request.now _ _ c.in_ok-refuted.ensures.ok c.check_refutation-checked.result _ _
     (rw (c.circuit.ensures.value, same, c.format_of-format.ensures) at c.check_refutation-checked.ensures)
