@@ -68,8 +68,15 @@ enum aigtools_option {
     AIGTOOLS_VCD = 32,      /* simulate: write the trace as a waveform, with them; without AIGTOOLS_PROPERTIES */
     AIGTOOLS_OUTPUTS_AS_BAD = 64, /* convert: write outputs as bad states; with no map */
     AIGTOOLS_ORDERED = 128, /* read: the circuit as a binary file has it, and how its variables are numbered there */
-    AIGTOOLS_BY_NAME = 256  /* miter: pair inputs, outputs and bad states by their symbols */
+    AIGTOOLS_BY_NAME = 256, /* miter: pair inputs, outputs and bad states by their symbols */
+    AIGTOOLS_SIMPLIFY = 512 /* convert, justice_as_bad, unroll, miter: write a circuit with fewer gates that means the
+                               same; without AIGTOOLS_KEEP_MAP */
 };
+
+/* Added to the `max_var` of aigtools_clauses, aigtools_refute, aigtools_invariant_clauses and aigtools_never: the
+   clauses are those of what is left of the unrolled circuit once it is simplified, as with `aiger aigunroll
+   --simplify`. Its inputs have the same numbers, so aigtools_answer reads answers on either. */
+#define AIGTOOLS_SIMPLIFIED 2147483648u
 
 /* What is wrong, where the status is AIGTOOLS_REFUSED or AIGTOOLS_SECOND_REFUSED. */
 enum aigtools_kind {

@@ -179,7 +179,7 @@ class _Counts(ctypes.Structure):
 _DONE, _TOO_SHORT, _REFUSED, _OUT_OF_MEMORY, _BAD_OPTIONS, _NOT_CONFIRMED, _SECOND_REFUSED = range(7)
 _WHOLE, _LINE, _GATE, _MAP_LINE, _WORD, _VALUE, _INPUT, _OUTPUT, _BAD = range(9)
 _ASCII, _STRIP, _KEEP_MAP, _UNDO_MAP, _PROPERTIES, _VCD, _OUTPUTS_AS_BAD, _ORDERED = 1, 2, 4, 8, 16, 32, 64, 128
-_BY_NAME = 256
+_BY_NAME, _SIMPLIFY, _SIMPLIFIED = 256, 512, 2147483648
 
 # what has a place of its own in a fault
 _LISTS = {_INPUT: "inputs", _OUTPUT: "outputs", _BAD: "bad"}
@@ -328,6 +328,11 @@ def _property(bad: Optional[int], justice: Optional[int]) -> int:
     return JUSTICE + _number("justice", justice, most=LARGEST - 1)
 
 
+def _limit(max_var: int, simplify: bool) -> int:
+    """The limit of a call for clauses, which also says whether they are simplified."""
+    return _number("max_var", max_var) + (_SIMPLIFIED if simplify else 0)
+
+
 def _options(*given: Tuple[Any, int]) -> int:
     """The options that are given, a bit each."""
     return sum(bit for value, bit in given if value)
@@ -349,6 +354,7 @@ def convert(
     undo_map: bool = False,
     outputs_as_bad: bool = False,
     justice_as_bad: Optional[int] = None,
+    simplify: bool = False,
     max_var: int = LARGEST,
 ) -> bytes:
     """The canonical text of the circuit of an AIGER file, as ``aiger aigtoaig`` writes it.
@@ -360,14 +366,17 @@ def convert(
     outputs_as_bad   write outputs as bad states, of which there are none; with no map
     justice_as_bad   write a circuit whose one bad state is reached exactly where the justice property of this number,
                      counted from 0, has a fair run; with no map, and without outputs_as_bad
+    simplify         write a circuit with fewer gates that has the same traces; without keep_map
     max_var          refuse a file with a larger index, or with more of a kind
 
     >>> convert(b"aag 1 1 0 1 0\\n2\\n3\\n", ascii=True, outputs_as_bad=True)
     b'aag 1 1 0 0 0 1\\n2\\n3\\n'
+    >>> convert(b"aag 2 1 0 1 1\\n2\\n4\\n4 2 2\\n", ascii=True, simplify=True)
+    b'aag 1 1 0 1 0\\n2\\n2\\n'
     """
     data = _bytes(data)
     if keep_map:
-        _excludes("keep_map", ascii=ascii, strip=strip, undo_map=undo_map)
+        _excludes("keep_map", ascii=ascii, strip=strip, undo_map=undo_map, simplify=simplify)
     if outputs_as_bad:
         _excludes("outputs_as_bad", keep_map=keep_map, undo_map=undo_map)
     if justice_as_bad is not None:
@@ -378,6 +387,7 @@ def convert(
         (keep_map, _KEEP_MAP),
         (undo_map, _UNDO_MAP),
         (outputs_as_bad, _OUTPUTS_AS_BAD),
+        (simplify, _SIMPLIFY),
     )
     limit = _number("max_var", max_var)
     if justice_as_bad is None:
@@ -390,14 +400,19 @@ def convert(
     )[0]
 
 
-def unroll(data: Data, frames: int, *, ascii: bool = False, max_var: int = LARGEST) -> bytes:
+def unroll(
+    data: Data, frames: int, *, ascii: bool = False, simplify: bool = False, max_var: int = LARGEST
+) -> bytes:
     """The circuit of an AIGER file unrolled over 1 to 1000000 frames, as ``aiger aigunroll`` writes it.
+
+    ascii      write ASCII, and not binary
+    simplify   write a circuit with fewer gates that has the same traces
 
     >>> unroll(b"aag 1 0 1 1 0\\n2 3\\n2\\n", 2, ascii=True)
     b'aag 0 0 0 2 0\\n0\\n1\\n'
     """
     data = _bytes(data)
-    options, limit = _options((ascii, _ASCII)), _number("max_var", max_var)
+    options, limit = _options((ascii, _ASCII), (simplify, _SIMPLIFY)), _number("max_var", max_var)
     count = _number("frames", frames, 1, MOST_FRAMES)
     return _made(
         min(min(count, 64) * (4 if ascii else 2) * len(data) + 64, _LARGEST_GUESS),
@@ -408,7 +423,13 @@ def unroll(data: Data, frames: int, *, ascii: bool = False, max_var: int = LARGE
 
 
 def clauses(
-    data: Data, frames: int, *, bad: Optional[int] = None, justice: Optional[int] = None, max_var: int = LARGEST
+    data: Data,
+    frames: int,
+    *,
+    bad: Optional[int] = None,
+    justice: Optional[int] = None,
+    simplify: bool = False,
+    max_var: int = LARGEST,
 ) -> bytes:
     """Clauses for a SAT solver (DIMACS), as ``aiger aigunroll --cnf`` writes them: they can be satisfied exactly if a
     run of at most so many steps, 1 to 1000000, reaches a bad state with all constraints kept.
@@ -417,6 +438,7 @@ def clauses(
     justice   the justice property of this position, in the place of a bad state: they can be satisfied exactly if a
               lasso has fewer steps, a run that comes back to one of its states, with all constraints kept, and meets
               each literal of the property and each fairness constraint on the way
+    simplify  those of what is left of the unrolled circuit for its bad states; ``answer`` reads answers on either
 
     >>> clauses(b"aag 1 0 1 0 0 1\\n2 3\\n2\\n", 1)
     b'p cnf 2 5\\n-1 0\\n-2 -1 0\\n-2 1 0\\n2 1 -1 0\\n2 0\\n'
@@ -424,7 +446,7 @@ def clauses(
     b'p cnf 49 137'
     """
     data = _bytes(data)
-    which, limit = _property(bad, justice), _number("max_var", max_var)
+    which, limit = _property(bad, justice), _limit(max_var, simplify)
     count = _number("frames", frames, 1, MOST_FRAMES)
     return _made(
         min(min(count, 64) * 16 * len(data) + 64, _LARGEST_GUESS),
@@ -470,10 +492,11 @@ def refute(
     *,
     bad: Optional[int] = None,
     justice: Optional[int] = None,
+    simplify: bool = False,
     max_var: int = LARGEST,
 ) -> None:
-    """Checks a solver's refutation (DRAT, text or binary) of the clauses of the model, with the same frames and
-    property, as ``aiger aigunroll --refutation``. If it is right, no run of at most so many steps reaches a bad state
+    """Checks a solver's refutation (DRAT, text or binary) of the clauses of the model, with the same frames, property and
+    simplify, as ``aiger aigunroll --refutation``. If it is right, no run of at most so many steps reaches a bad state
     with all constraints kept, or no lasso of the justice property has fewer: that is proved, whatever the solver said.
     If it is not, it is refused: NO_REFUTATION, BAD_REFUTATION or DOES_NOT_FOLLOW.
 
@@ -486,7 +509,7 @@ def refute(
     >>> refute(b"aag 1 0 1 0 0 0 0 1\\n2 3\\n1\\n2\\n", b"0\\n", 2, justice=0)
     """
     model, refutation = _bytes(model), _bytes(refutation)
-    which, limit = _property(bad, justice), _number("max_var", max_var)
+    which, limit = _property(bad, justice), _limit(max_var, simplify)
     count, outcome = _number("frames", frames, 1, MOST_FRAMES), _Outcome()
     _library.aigtools_refute(which, count, limit, model, len(model), refutation, len(refutation), outcome)
     if outcome.status != _DONE:
@@ -494,7 +517,13 @@ def refute(
 
 
 def invariant_clauses(
-    model: Data, invariant: Data, *, bad: Optional[int] = None, justice: Optional[int] = None, max_var: int = LARGEST
+    model: Data,
+    invariant: Data,
+    *,
+    bad: Optional[int] = None,
+    justice: Optional[int] = None,
+    simplify: bool = False,
+    max_var: int = LARGEST,
 ) -> bytes:
     """Clauses for a SAT solver (DIMACS) in which an invariant of the model is to be shown, as ``aiger aigunroll
     --invariant --cnf`` writes them: a PLA with a column for each latch, as pdr of ABC writes one. If they cannot be
@@ -504,12 +533,13 @@ def invariant_clauses(
     justice   the justice property of this position, in the place of a bad state: no run without end then keeps all
               constraints and meets each literal of the property and each fairness constraint again and again. The
               columns are the latches of what ``convert`` makes with ``justice_as_bad``.
+    simplify  those of what is left of their circuit for its bad states
 
     >>> invariant_clauses(b"aag 1 0 1 0 0 1\\n2 2\\n2\\n", b"1 1\\n").splitlines()[0]
     b'p cnf 7 17'
     """
     model, invariant = _bytes(model), _bytes(invariant)
-    which, limit = _property(bad, justice), _number("max_var", max_var)
+    which, limit = _property(bad, justice), _limit(max_var, simplify)
     return _made(
         min(64 * (len(model) + len(invariant)) + 64, _LARGEST_GUESS),
         lambda output, room, outcome: _library.aigtools_invariant_clauses(
@@ -525,10 +555,11 @@ def never(
     *,
     bad: Optional[int] = None,
     justice: Optional[int] = None,
+    simplify: bool = False,
     max_var: int = LARGEST,
 ) -> None:
     """Checks a solver's refutation (DRAT, text or binary) of the clauses in which the invariant of the model is to be
-    shown, with the same property, as ``aiger aigunroll --invariant --refutation``. If it is right, no run, however
+    shown, with the same property and simplify, as ``aiger aigunroll --invariant --refutation``. If it is right, no run, however
     long, reaches a bad state with all constraints kept, or none is fair to the justice property: that is proved,
     whatever the invariant and the solver said. If it is not, it is refused, as ``refute`` does; so is what is no
     invariant of the model: BAD_INVARIANT, NOT_EACH_LATCH, MET_AT_START or TOO_LARGE_INVARIANT.
@@ -542,7 +573,7 @@ def never(
     >>> never(b"aag 0 0 0 0 0 0 0 1\\n1\\n0\\n", b"-1 1\\n", b"-16 0\\n0\\n", justice=0)
     """
     model, invariant, refutation = _bytes(model), _bytes(invariant), _bytes(refutation)
-    which, limit, outcome = _property(bad, justice), _number("max_var", max_var), _Outcome()
+    which, limit, outcome = _property(bad, justice), _limit(max_var, simplify), _Outcome()
     _library.aigtools_never(
         which, limit, model, len(model), invariant, len(invariant), refutation, len(refutation), outcome
     )
@@ -551,7 +582,13 @@ def never(
 
 
 def miter(
-    first: Data, second: Data, *, by_name: bool = False, ascii: bool = False, max_var: int = LARGEST
+    first: Data,
+    second: Data,
+    *,
+    by_name: bool = False,
+    ascii: bool = False,
+    simplify: bool = False,
+    max_var: int = LARGEST,
 ) -> bytes:
     """The miter of the circuits of two AIGER files, as ``aiger aigmiter`` writes it: one circuit with the inputs of the
     first, whose bad states say where the two differ. If ``refute`` shows that none is reached within K steps, the two
@@ -559,13 +596,15 @@ def miter(
 
     by_name   pair inputs, outputs and bad states by their symbols, and not place by place
     ascii     write ASCII, and not binary
+    simplify  have what is built alike in both circuits once
 
     >>> twice = miter(b"aag 1 1 0 1 0\\n2\\n3\\n", b"aag 2 1 0 1 1\\n4\\n3\\n2 4 4\\n")
     >>> simulate(twice, b"0\\n1\\n", properties=True)
     b' 0   0 \\n 1   0 \\n.\\n'
     """
     first, second = _bytes(first), _bytes(second)
-    options, limit = _options((ascii, _ASCII), (by_name, _BY_NAME)), _number("max_var", max_var)
+    options = _options((ascii, _ASCII), (by_name, _BY_NAME), (simplify, _SIMPLIFY))
+    limit = _number("max_var", max_var)
     return _made(
         (4 if ascii else 2) * (len(first) + len(second)) + 64,
         lambda output, room, outcome: _library.aigtools_miter(
