@@ -73,9 +73,9 @@ enum aigtools_option {
                                same; without AIGTOOLS_KEEP_MAP */
 };
 
-/* Added to the `max_var` of aigtools_clauses, aigtools_refute, aigtools_invariant_clauses and aigtools_never: the
-   clauses are those of what is left of the unrolled circuit once it is simplified, as with `aiger aigunroll
-   --simplify`. Its inputs have the same numbers, so aigtools_answer reads answers on either. */
+/* Added to the `max_var` of aigtools_clauses, aigtools_answer, aigtools_refute, aigtools_invariant_clauses or
+   aigtools_never: the clauses are those of what is left of the unrolled circuit once it is simplified, as with
+   `aiger aigunroll --simplify`. Its inputs have the same numbers, so an answer on either is read alike. */
 #define AIGTOOLS_SIMPLIFIED 2147483648u
 
 /* What is wrong, where the status is AIGTOOLS_REFUSED or AIGTOOLS_SECOND_REFUSED. */

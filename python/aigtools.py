@@ -463,10 +463,11 @@ def answer(
     *,
     bad: Optional[int] = None,
     justice: Optional[int] = None,
+    simplify: bool = False,
     max_var: int = LARGEST,
 ) -> bytes:
     """The witness that a solver's answer to the clauses of the model gives, with the same frames and property, as
-    ``aiger aigunroll --answer`` writes it. It is confirmed, whatever the solver said. An answer that gives none is
+    ``aiger aigunroll --answer`` writes it. Whether they were simplified makes no difference. It is confirmed, whatever the solver said. An answer that gives none is
     refused: UNSATISFIABLE, UNKNOWN or NOT_REACHED.
 
     >>> answer(b"aag 1 0 1 0 0 1\\n2 3\\n2\\n", b"s SATISFIABLE\\nv -2 3 0\\n", 2)
@@ -475,7 +476,7 @@ def answer(
     b'1\\nj0\\n0\\n\\n\\n.\\n'
     """
     model, answer = _bytes(model), _bytes(answer)
-    which, limit = _property(bad, justice), _number("max_var", max_var)
+    which, limit = _property(bad, justice), _limit(max_var, simplify)
     count = _number("frames", frames, 1, MOST_FRAMES)
     return _made(
         len(model) + len(answer) + 64,

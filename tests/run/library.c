@@ -332,11 +332,11 @@ static void check_refused_options(void) {
     static const uint32_t bad[] = {AIGTOOLS_KEEP_MAP | AIGTOOLS_ASCII, AIGTOOLS_KEEP_MAP | AIGTOOLS_STRIP,
                                    AIGTOOLS_KEEP_MAP | AIGTOOLS_UNDO_MAP, AIGTOOLS_OUTPUTS_AS_BAD | AIGTOOLS_KEEP_MAP,
                                    AIGTOOLS_OUTPUTS_AS_BAD | AIGTOOLS_UNDO_MAP, AIGTOOLS_PROPERTIES, AIGTOOLS_VCD,
-                                   AIGTOOLS_BY_NAME, 1u << 31};
+                                   AIGTOOLS_BY_NAME, AIGTOOLS_KEEP_MAP | AIGTOOLS_SIMPLIFY, 1024, 1u << 31};
     static const uint32_t no_trace[] = {AIGTOOLS_ASCII, AIGTOOLS_PROPERTIES | AIGTOOLS_VCD,
                                         AIGTOOLS_VCD | AIGTOOLS_ASCII, AIGTOOLS_OUTPUTS_AS_BAD, 128,
-                                        AIGTOOLS_BY_NAME};
-    static const uint32_t no_miter[] = {AIGTOOLS_STRIP, AIGTOOLS_KEEP_MAP | AIGTOOLS_BY_NAME, 512};
+                                        AIGTOOLS_BY_NAME, AIGTOOLS_SIMPLIFY};
+    static const uint32_t no_miter[] = {AIGTOOLS_STRIP, AIGTOOLS_KEEP_MAP | AIGTOOLS_BY_NAME, 1024};
     static const uint32_t above = AIGTOOLS_LARGEST + 1;
     const uint8_t *text = (const uint8_t *)gate;
     uint8_t output[1] = {UNTOUCHED};
@@ -358,14 +358,9 @@ static void check_refused_options(void) {
     IS_BAD(aigtools_unroll(0, 1000001, 1, text, 0, output, 1, &x));
     IS_BAD(aigtools_clauses(0, 0, 1, text, 0, output, 1, &x));
     IS_BAD(aigtools_clauses(AIGTOOLS_JUSTICE, 0, 1, text, 0, output, 1, &x));
-    IS_BAD(aigtools_never(AIGTOOLS_JUSTICE, above, text, 0, text, 0, text, 0, &x));
-    IS_BAD(aigtools_clauses(0, 1, above, text, 0, output, 1, &x));
+    IS_BAD(aigtools_clauses(0, 0, AIGTOOLS_SIMPLIFIED, text, 0, output, 1, &x));
     IS_BAD(aigtools_answer(AIGTOOLS_ALL_BAD, 1000001, 1, text, 0, text, 0, output, 1, &x));
-    IS_BAD(aigtools_answer(0, 1, above, text, 0, text, 0, output, 1, &x));
     IS_BAD(aigtools_refute(0, 0, 1, text, 0, text, 0, &x));
-    IS_BAD(aigtools_refute(AIGTOOLS_ALL_BAD, 1, above, text, 0, text, 0, &x));
-    IS_BAD(aigtools_invariant_clauses(0, above, text, 0, text, 0, output, 1, &x));
-    IS_BAD(aigtools_never(AIGTOOLS_ALL_BAD, above, text, 0, text, 0, text, 0, &x));
     IS_BAD(aigtools_witness(above, text, 0, text, 0, &x));
     IS_BAD(aigtools_dump(above, text, 0, text, 0, output, 1, &x));
     check(aigtools_message(&x, output, 1) == 0 && output[0] == UNTOUCHED, "message", "no fault", 0);
@@ -375,6 +370,27 @@ static void check_refused_options(void) {
     check(aigtools_message(&x, output, 1) == 25 && output[0] == UNTOUCHED, "message", "too short", 0);
     check(growths == 0, "message", "takes no memory", growths);
     check(aigtools_version() == AIGTOOLS_VERSION, "version", "that of the header", aigtools_version());
+}
+
+/* The limit of a call for clauses says whether they are those of the simplified circuit, which here has no gate. */
+static void check_simplified(void) {
+    static const char model[] = "aag 2 1 0 1 1 1\n2\n4\n3\n4 2 2\n";
+    static const char clauses[] = "p cnf 2 2\n-1 0\n-2 0\n", simple[] = "aag 1 1 0 1 0 1\n2\n2\n3\n";
+    const uint32_t limit = AIGTOOLS_SIMPLIFIED + 2;
+    uint8_t output[ROOM];
+    aigtools_outcome x;
+    memset(output, UNTOUCHED, sizeof output);
+    aigtools_clauses(0, 1, limit, TEXT(model), output, ROOM, &x);
+    check(x.status == AIGTOOLS_DONE && x.length == sizeof clauses - 1 && memcmp(output, clauses, x.length) == 0 &&
+              is_untouched(output + x.length, ROOM - x.length),
+          "simplified", "clauses", x.status);
+    aigtools_clauses(0, 1, limit - 1, TEXT(model), output, ROOM, &x);
+    check(x.status == AIGTOOLS_REFUSED && x.kind == AIGTOOLS_TOO_LARGE, "simplified", "the limit", x.status);
+    aigtools_convert(AIGTOOLS_SIMPLIFY | AIGTOOLS_ASCII, 2, TEXT(model), output, ROOM, &x);
+    check(x.status == AIGTOOLS_DONE && x.length == sizeof simple - 1 && memcmp(output, simple, x.length) == 0,
+          "simplified", "a conversion", x.status);
+    check(aigtools_refute(0, 1, limit, TEXT(model), TEXT("2 0\n"), &x) == AIGTOOLS_REFUSED &&
+              x.kind == AIGTOOLS_DOES_NOT_FOLLOW, "simplified", "no refutation", x.kind);
 }
 
 static void check_verdicts_with_runs(void) {
@@ -616,6 +632,7 @@ int main(int count, char **words) {
         check_refusals(calls[i].name, calls[i].of);
     }
     check_verdicts_with_runs();
+    check_simplified();
     check_justice();
     check_justice_properties();
     check_answers();

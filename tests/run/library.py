@@ -130,18 +130,24 @@ def mutants(folder, program):
         text = mutated(chance, seed) if chance.randrange(12) else seed
         if kind < 6:
             flags = [(), ("ascii",), ("keep_map",), ("undo_map",), ("undo_map", "ascii"), ("strip",)]
-            options = dict.fromkeys(chance.choice([*flags, ("outputs_as_bad",)]), True)
+            flags += [("outputs_as_bad",), ("simplify",), ("simplify", "ascii")]
+            options = dict.fromkeys(chance.choice(flags), True)
             words = [f"--{it.replace('_', '-')}" for it in options]
             if has_justice(seed) and not options.keys() & {"keep_map", "undo_map", "outputs_as_bad"}:
                 options["justice_as_bad"] = chance.randrange(2)
                 words += ["--justice-as-bad", str(options["justice_as_bad"])]
             yield "aigtoaig", words, options, text, b""
         elif kind < 8:
-            frames = chance.randrange(1, 4)
-            yield "aigunroll", ["--frames", str(frames)], {"frames": frames}, text, b""
+            frames, flags = chance.randrange(1, 4), chance.choice([(), ("simplify",)])
+            words = [f"--{it}" for it in flags]
+            options = {"frames": frames, **dict.fromkeys(flags, True)}
+            yield "aigunroll", ["--frames", str(frames), *words], options, text, b""
         elif kind < 10:
             options = {"frames": chance.randrange(1, 4), **property_(chance)}
             words = [word for name, number in options.items() for word in (f"--{name}", str(number))]
+            if chance.randrange(2):
+                options["simplify"] = True
+                words.append("--simplify")
             if kind == 8 and chance.randrange(2):
                 yield "aigunroll", [*words, "--cnf"], {**options, "cnf": True}, text, b""
             elif kind == 8:
@@ -151,7 +157,7 @@ def mutants(folder, program):
                 said = b"c\ns SATISFIABLE\nv %d %d 5 -6\nv 0\n" % (chance.randrange(1, 9), chance.randrange(1, 9))
                 yield "aigunroll", [*words, "--answer", "-"], {**options, "answer": "-"}, text, mutated(chance, said)
         elif kind == 13:
-            flags = chance.choice([(), ("ascii",), ("by_name",), ("by_name", "ascii")])
+            flags = chance.choice([(), ("ascii",), ("by_name",), ("by_name", "ascii"), ("simplify", "ascii")])
             words = [f"--{it.replace('_', '-')}" for it in flags]
             yield "aigmiter", words, dict.fromkeys(flags, True), *chance.sample([seed, text], 2)
         elif kind == 12:
