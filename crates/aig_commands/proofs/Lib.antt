@@ -28,3 +28,4 @@ pub mod Live
 pub mod Unrolled
 pub mod Simplified
 pub mod GoingBack
+pub mod JusticeKept

@@ -35,7 +35,8 @@ use Rattle.aig_step.specs.Outcome.{first_bad_line}
 use Rattle.aig_verdicts.specs.Judged.{HasLargeProperty}
 use Rattle.aig_verdicts.specs.Kinds.{first_bad_file_line}
 use Rattle.aig_verdicts.specs.declared.verdict.WitnessVerdict.{WitnessVerdict}
-use Rattle.aig_verdicts.specs.declared.verdict.WitnessVerdict.TheVariants.{BadState}
+use Rattle.aig_verdicts.specs.declared.verdict.WitnessVerdict.TheVariants.{BadState, Justice}
+use Rattle.aig_lasso.specs.declared.verdict.LassoVerdict.{LassoVerdict}
 use Rattle.aig_io.specs.Runs.{AtEnd}
 use Rattle.aig_witness.specs.Witness.{Claim, IsFirstConfirmed, IsVerdict, SaysClaim}
 use Rattle.aig_unroll.specs.SideBySide.{inputs_side_by_side}
@@ -179,6 +180,14 @@ VerdictsAreKept = (request : ToAig) (before after : Sim) → request.bad_states 
     → (file converted witness : List ℕ) (verdict : Verdict)
     → IsConversionText request file converted
     → IsWitnessAnswer before file witness (BadState verdict) ↔ IsWitnessAnswer after converted witness (BadState verdict)
+
+-- The same holds of witness files of justice properties, where no map is kept or undone.
+abbrev pub JusticeVerdictsAreKept : Type 0
+JusticeVerdictsAreKept = (request : ToAig) (before after : Sim) → request.bad_states ≡ Kept
+    → request.keep_map ≡ false → request.undo_map ≡ false
+    → request.max_var ≡ LARGEST → before.max_var ≡ LARGEST → after.max_var ≡ LARGEST
+    → (file converted witness : List ℕ) (verdict : LassoVerdict) → IsConversionText request file converted
+    → IsWitnessAnswer before file witness (Justice verdict) ↔ IsWitnessAnswer after converted witness (Justice verdict)
 
 -- Where outputs became bad states, the traces are those of the circuit that was read, step by step with the outputs as
 -- bad states: of these first states, these inputs and these rows, and of no others. So the bad states show what the

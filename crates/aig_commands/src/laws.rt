@@ -13,6 +13,7 @@ ghost use Rattle.aig_commands.specs.Laws.{RefutationsMeanNone, SolverAnswersAreC
 ghost use Rattle.aig_commands.specs.Laws.{InvariantTextsAreUnambiguous, NeverIsNever};
 ghost use Rattle.aig_commands.specs.Laws.{WitnessAnswersAreUnambiguous, WitnessAnswersExist};
 ghost use Rattle.aig_commands.specs.Laws.{AnswersGoBack, InvariantsGoBack, RefutationsGoBack};
+ghost use Rattle.aig_commands.specs.Laws.{JusticeVerdictsAreKept};
 ghost use Rattle.aig_commands.specs.Laws.{SimplifiedTextsAreFiles, SimplifiedUnrollingsMeanTheSame};
 ghost use Rattle.aig_commands.specs.LiveLaws.{AnswersAreLassos, ConfirmedClaimsAreLassos};
 ghost use Rattle.aig_commands.specs.LiveLaws.{NeverExactlyWithoutFairRun, NeverMeansNoneIsFair};
@@ -58,6 +59,11 @@ pub fn simplified_unrollings_mean_the_same()
 /// What is written with fewer gates is the file of exactly the simplified circuit.
 pub fn simplified_texts_are_files()
     ensures { SimplifiedTextsAreFiles }
+{}
+
+/// A file and its conversion get the same verdict on a witness file of a justice property.
+pub fn justice_verdicts_are_kept()
+    ensures { JusticeVerdictsAreKept }
 {}
 
 /// What a solver's answer shows of a file's conversion is a witness of the file.

@@ -41,7 +41,7 @@ module _ (literals : Circuit → List ℕ) where
   abbrev Same : Circuit → Circuit → Type 0
   Same = HaveSameValues literals
 
-  values_back : (c d : Circuit) → Same c d → Same d c
+  pub values_back : (c d : Circuit) → Same c d → Same d c
   values_back c d same state given a b is_a is_b = sym (same state given b a is_b is_a)
 
   -- what assignments of d say of c by some way back is all that c knows, since it has no other assignment
@@ -64,7 +64,7 @@ module _ (literals : Circuit → List ℕ) where
       (ap length (sym is_a.inputs) ∙ length-map c.inputs a ∙ sym alike.inputs) in
       second state given m.0 b m.1 is_b ∙ first state given a m.0 is_a m.1
 
-goals_through : (c e d : Circuit) → IsWellFormed e → MeansTheSame c e → KeepsGoals c e → KeepsGoals e d
+pub goals_through : (c e d : Circuit) → IsWellFormed e → MeansTheSame c e → KeepsGoals c e → KeepsGoals e d
     → KeepsGoals c d
 goals_through c e d good alike first second = record {
   justice = values_through (λ (x : Circuit). x.justice.literals) c e d good alike first.justice second.justice;
@@ -78,7 +78,7 @@ known_lists c good =
     (front (IsDefined c) (next_literals c ++ concat (literal_lists c)) (flat_map operands c.gates) good.known))
 
 -- where each assignment of d says one of c, by which the literals have the same values
-goals_carried : (c d : Circuit) → IsWellFormed c → (way : (ℕ → Val) → ℕ → Val)
+pub goals_carried : (c d : Circuit) → IsWellFormed c → (way : (ℕ → Val) → ℕ → Val)
     → ((state given : List Val) (b : ℕ → Val) → IsStepAssignment d state given b
     → IsStepAssignment c state given (way b))
     → ((b : ℕ → Val) → map (literal_value b) d.justice.literals ≡ map (literal_value (way b)) c.justice.literals)
