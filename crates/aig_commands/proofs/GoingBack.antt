@@ -18,8 +18,8 @@ use Rattle.aig_commands.proofs.Refutings.{refutations_mean_none}
 use Rattle.aig_commands.proofs.Verdicts.{carried, verdicts_are_kept}
 
 pub answers_go_back : AnswersGoBack
-answers_go_back conversion request bad judging selected file converted answer text kept limit of_request of_judging is_bad
-    is of_model reached =
+answers_go_back conversion request bad judging selected file converted answer text kept limit of_request of_judging
+    is_bad is of_model reached =
     let shown = solver_answers_are_confirmed request bad judging selected converted answer text is_bad
     (of_judging ∙ sym of_request) of_model reached in
     let verdicts = verdicts_are_kept conversion judging judging kept limit of_judging of_judging file converted text
@@ -28,8 +28,8 @@ answers_go_back conversion request bad judging selected file converted answer te
 
 -- A verdict on the file is one on its conversion, of the same claim.
 module _ (conversion : ToAig) (judging : Sim) (file converted witness : List ℕ) (step : ℕ)
-    (kept : conversion.bad_states ≡ Kept) (limit : conversion.max_var ≡ LARGEST) (of_judging : judging.max_var ≡ LARGEST)
-    (is : IsConversionText conversion file converted)
+    (kept : conversion.bad_states ≡ Kept) (limit : conversion.max_var ≡ LARGEST)
+    (of_judging : judging.max_var ≡ LARGEST) (is : IsConversionText conversion file converted)
     (confirmed : IsWitnessAnswer judging file witness (BadState (Confirmed step))) where
   abbrev there : IsWitnessAnswer judging converted witness (BadState (Confirmed step))
   there =

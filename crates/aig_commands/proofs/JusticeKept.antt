@@ -145,7 +145,8 @@ module _ (c d : Circuit) (good : IsWellFormed c) (good_too : IsWellFormed d) (s 
     rows = is.rows;
     trace = (same_meaning_same_traces (with_goals claim.property c) (with_goals claim.property d)
         (goals_mean_the_same claim.property) claim.first claim.steps is.rows).0 is.trace;
-    lasso = subst (λ n. IsLassoAt n claim.first is.rows start) (sym (as_many claim.property c d s good good_too)) is.lasso;
+    lasso = subst (λ n. IsLassoAt n claim.first is.rows start) (sym (as_many claim.property c d s good good_too))
+        is.lasso;
   }
 
   says_there : (bytes : List ℕ) (claim : Claim) → SaysJustice c bytes claim → SaysJustice d bytes claim

@@ -109,7 +109,8 @@ strengthened_read selected made (Err stopped) before after same clauses why read
 -- the same where its clauses are written
 pub clauses_read : (request : Invariant) (selected made : Circuit) (r : Result Answer Stopped) (before after : History)
     → IfOk r (λ answer. IsTextOf (clauses_over_one_frame request) made (text_of answer))
-    → IfErr r (StopsFor (NotUnrolledAs (Clauses AnyBad) 1 made)) → Read (CameWhole (IsMadeOf selected made)) before after
+    → IfErr r (StopsFor (NotUnrolledAs (Clauses AnyBad) 1 made))
+    → Read (CameWhole (IsMadeOf selected made)) before after
     → Read (ReadSays {A = Answer} (λ answer bytes. IsInvariantText request selected bytes (text_of answer))
     (AtItsEnd (NotStrengthened selected)) r) before after
 clauses_read request selected made (Ok answer) before after text none read =
@@ -177,7 +178,8 @@ one_text request selected invariant text other whole p q =
     ∙ sym q.written_as
 
 pub invariant_texts_are_unambiguous : InvariantTextsAreUnambiguous
-invariant_texts_are_unambiguous request selected again model invariant text other whole of_model of_model_too is is_too =
+invariant_texts_are_unambiguous request selected again model invariant text other whole of_model of_model_too is
+    is_too =
     let same = one_selected (over_one_frame request) selected again model of_model of_model_too in
     one_text request again invariant text other whole
     (subst (λ (c : Circuit). IsInvariantText request c invariant text) same is) is_too

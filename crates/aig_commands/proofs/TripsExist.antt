@@ -47,7 +47,8 @@ there_and_back there back keeps undoes c file accepted =
     let binary = binary_text mapped.0 in (
       binary,
       ascii_text c,
-      is_written there file binary c c keeps.simplify keeps.limit keeps.strip keeps.bad_states accepted (rw keeps.undo_map refl)
+      is_written there file binary c c keeps.simplify keeps.limit keeps.strip keeps.bad_states accepted
+          (rw keeps.undo_map refl)
           (rw (keeps.ascii, keeps.keep_map) (mapped.0, mapped.1, refl)),
       is_written back binary (ascii_text c) mapped.0 c undoes.simplify undoes.limit undoes.strip undoes.bad_states
           (binary_file mapped.0 binary mapped.2 mapped.3 refl)

@@ -43,9 +43,11 @@ as_it_is false (Clauses property) d written whole is = is
 pub unrollings_are_unambiguous : UnrollingsAreUnambiguous
 unrollings_are_unambiguous request bytes text other whole p q =
     let same = unrolled_is request q.found q.is_text.unrolled bytes text q.read q.is_text.is_unrolled.is_unrolled p in
-    let first = as_it_is request.simplify request.form p.is_text.unrolled p.is_text.written whole p.is_text.is_written in
-    let second = as_it_is request.simplify request.form q.is_text.unrolled q.is_text.written whole q.is_text.is_written in
-    p.is_text.written_as ∙ ap (unrolled_text request.form) (first ∙ same ∙ sym second) ∙ sym q.is_text.written_as
+    let one = p.is_text in
+    let two = q.is_text in
+    let first = as_it_is request.simplify request.form one.unrolled one.written whole one.is_written in
+    let second = as_it_is request.simplify request.form two.unrolled two.written whole two.is_written in
+    one.written_as ∙ ap (unrolled_text request.form) (first ∙ same ∙ sym second) ∙ sym two.written_as
 
 -- all bad states are asked for where the circuit itself is written
 all_asked : (form : UnrolledForm) → IsOfCircuit form → property_of form ≡ AnyBad

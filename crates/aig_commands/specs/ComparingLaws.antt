@@ -21,7 +21,8 @@ use Rattle.aig_commands.specs.WitnessOutcome.{IsWitnessAnswer}
 -- two files have one miter text at most, unless it is simplified
 abbrev pub MiterTextsAreUnambiguous : Type 0
 MiterTextsAreUnambiguous = (request : Miter) (first again : Circuit) (one two text other : List ℕ)
-    → request.simplify ≡ false → IsFirst request one first → IsFirst request one again → IsMiterText request first two text
+    → request.simplify ≡ false → IsFirst request one first → IsFirst request one again
+    → IsMiterText request first two text
     → IsMiterText request again two other → text ≡ other
 
 -- which is the file of one circuit, and that means what the miter does

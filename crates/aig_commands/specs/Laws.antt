@@ -92,7 +92,8 @@ IsOfCircuit (Clauses property) = ⊥
 -- unrolled circuit
 abbrev pub UnrolledTextsAreFiles : Type 0
 UnrolledTextsAreFiles = (request : Unroll) (c d : Circuit) (file text : List ℕ) → IsOfCircuit request.form
-    → request.simplify ≡ false → IsFileOf file request.max_var c → IsUnrolled c request.frames d → IsUnrollingText request file text
+    → request.simplify ≡ false → IsFileOf file request.max_var c → IsUnrolled c request.frames d
+    → IsUnrollingText request file text
     → (other : Circuit) → IsFileOf text LARGEST other ↔ (other ≡ d)
 
 -- where it is simplified, the file of a circuit that means what the unrolled circuit means
@@ -161,8 +162,8 @@ UndoingGivesAsciiBack = (there back : ToAig) → KeepsMap there → UndoesMap ba
 
 -- A file and its conversion have the same simulation text of every stimulus, where either has one: whatever the
 -- conversion is, at the default limit, to ASCII or to binary, with the map or without, also one that undoes a map,
--- leaves symbols and comment out or simplifies. It only has to keep the outputs outputs. So the same text is written for a file, for
--- what it is converted to, and for what is undone from that.
+-- leaves symbols and comment out or simplifies. It only has to keep the outputs outputs. So the same text is written for
+-- a file, for what it is converted to, and for what is undone from that.
 abbrev pub TracesAreKept : Type 0
 TracesAreKept = (request : ToAig) (before after : Sim) → request.bad_states ≡ Kept
     → request.max_var ≡ LARGEST → before.max_var ≡ LARGEST → after.max_var ≡ LARGEST
@@ -200,8 +201,8 @@ OutputsAreShownAsBad = (request : ToAig) → request.bad_states ≡ Outputs → 
     → IsTrace d first steps rows
     ↔ ((shown : List Row) × IsTrace c first steps shown × (rows ≡ map row_with_outputs_as_bad shown))
 
--- What is written of a file with fewer gates is, at the default limit, the file of exactly one circuit, which is what the
--- circuit of the source is simplified to.
+-- What is written of a file with fewer gates is, at the default limit, the file of exactly one circuit, which is what
+-- the circuit of the source is simplified to.
 abbrev pub SimplifiedTextsAreFiles : Type 0
 SimplifiedTextsAreFiles = (request : ToAig) (file converted : List ℕ) → request.simplify ≡ true
     → request.keep_map ≡ false → (p : IsConversionText request file converted)
@@ -228,8 +229,8 @@ RefutationsGoBack = (conversion : ToAig) (request : Reach) (bad : Option ℕ) (j
     → (confirmed : IsWitnessAnswer judging file witness (BadState (Confirmed step)))
     → ¬ IsOfSelected bad confirmed.claim
 
--- Where it is written of a file's conversion, by whatever invariant, that none is ever reached, none of the file is ever
--- confirmed.
+-- Where it is written of a file's conversion, by whatever invariant, that none is ever reached, none of the file is
+-- ever confirmed.
 abbrev pub InvariantsGoBack : Type 0
 InvariantsGoBack = (conversion : ToAig) (request : Invariant) (bad : Option ℕ) (judging : Sim)
     (selected strengthened : Circuit) (file converted invariant text witness : List ℕ) (step : ℕ)
@@ -304,7 +305,8 @@ pub record AreValuesOf (a : ℕ → Bool) (variables : ℕ) (values : List Signe
 -- has its values has a witness: so a right answer is never refused.
 abbrev pub RightAnswersHaveWitnesses : Type 0
 RightAnswersHaveWitnesses = (request : Reach) (selected : Circuit) (model : List ℕ) (simplify : Bool)
-    (written : Circuit) (a : ℕ → Bool) (before : List (List ℕ)) (lines : List Line) (last : List Signed) (behind : List (List ℕ))
+    (written : Circuit) (a : ℕ → Bool) (before : List (List ℕ)) (lines : List Line) (last : List Signed)
+    (behind : List (List ℕ))
     → (of_model : IsSelectedModel request model selected)
     → IsReducedIf simplify of_model.has_clauses.is_text.unrolled written → Satisfies a (bad_clauses written)
     → AreComments before → AllByRecursion IsLine lines → AreValues last → AreComments behind

@@ -197,9 +197,8 @@ module _ (inputs : Inputs) where
         record {
           selected = selected;
           is_model = is_model;
-          is_text = last_text (readings.Clauses request selected) (IsInvariantText request selected inputs.file.now) (λ next made. made)
-              text
-              (rw then at rest);
+          is_text = last_text (readings.Clauses request selected)
+              (IsInvariantText request selected inputs.file.now) (λ next made. made) text (rw then at rest);
         }
 
     pub proving_refused : (fault : Fault)
@@ -211,9 +210,8 @@ module _ (inputs : Inputs) where
           | inl why ↦ inl why.1
           | inr (next, (selected, is_model, then), rest) ↦
               let why =
-              last_fault (readings.Clauses request selected) (IsInvariantText request selected inputs.file.now) (λ next made. made)
-              fault
-              (rw then at rest) in
+              last_fault (readings.Clauses request selected) (IsInvariantText request selected inputs.file.now)
+              (λ next made. made) fault (rw then at rest) in
               inr (selected, is_model, why.1)
         ]
 
@@ -231,8 +229,8 @@ module _ (inputs : Inputs) where
           is_model = is_model;
           is_strengthened = is;
           never = shown.never has.found inputs.file.now is.cubes
-              (well_formed_file inputs.model.now request.max_var has.found has.read) has.is_text.is_unrolled.has_property
-              (subst (λ c. HasCubes c inputs.file.now is.cubes) is_model.selected_is is.has_cubes)
+              (well_formed_file inputs.model.now request.max_var has.found has.read)
+              has.is_text.is_unrolled.has_property (subst (λ c. HasCubes c inputs.file.now is.cubes) is_model.selected_is is.has_cubes)
               (subst (λ c. strengthened ≡ with_invariant is.cubes c) is_model.selected_is is.strengthened_is);
         }
 

@@ -131,7 +131,8 @@ CanTurnJustice options max_var =
 
 abbrev pub CanUnroll : (options frames max_var : ℕ) → Type 0
 CanUnroll options frames max_var =
-    OnlyHas options (numbers.ascii + numbers.simplify) × (max_var ≤ largest_index) × HasFrames (unrolling options frames max_var)
+    OnlyHas options (numbers.ascii + numbers.simplify) × (max_var ≤ largest_index)
+    × HasFrames (unrolling options frames max_var)
 
 abbrev pub CanReach : (frames max_var : ℕ) → Type 0
 CanReach frames max_var = (1 ≤ frames) × (frames ≤ most_frames) × (limit_of max_var ≤ largest_index)
