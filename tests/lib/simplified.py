@@ -89,6 +89,19 @@ def clauses(made, frames):
     return answers.text_of_clauses(simplified(without_outputs(unrolled.unrolled(made, frames))))
 
 
+def wanted_clauses(made, frames):
+    """Standard output, standard error and the status where the clauses of what is left are asked for."""
+    why = answers.refusal(made, None)
+    return answers.fault("-", why) if why else (clauses(made, frames), b"", 0)
+
+
+def wanted(made, frames, name, proof, is_lrat=False):
+    """The same where this refutation is of them."""
+    largest, found = refutations.read_clauses(clauses(made, frames))
+    why = refutations.why_not(found, largest, proof, is_lrat)
+    return answers.fault(name, why) if why else (b"none within %d\n" % frames, b"", 0)
+
+
 # ---- what must be so of a simplified circuit
 
 
@@ -230,9 +243,9 @@ def judge_clauses(program, folder, at):
     if differently_solved(answers.asked(made, bad), frames, text, folder):
         return f"{source!r} over {frames} frames: {invariants.SOLVER} says another thing of what is left"
     proof, answer = refutations.given(chance, largest, found, lemmas, is_lrat), answers.given(chance, made, frames)
-    why, model, words = refutations.why_not(found, largest, proof, is_lrat), folder / "model", answers.words_of(frames, bad)
+    model, words = folder / "model", answers.words_of(frames, bad)
     model.write_bytes(images.image(made))
-    shown = answers.fault("-", why) if why else (b"none within %d\n" % frames, b"", 0)
+    shown = wanted(answers.asked(made, bad), frames, "-", proof, is_lrat)
     asked = [
         (source, [*words, "--simplify", "--cnf"], (text, b"", 0)),
         (proof, [*words, "--simplify", *["--lrat"] * is_lrat, "--refutation", "-", str(model)], shown),
@@ -241,7 +254,7 @@ def judge_clauses(program, folder, at):
     asked += [(answer, [*words, *some, "--answer", "-", str(model)], run) for some in ([], ["--simplify"])]
     said = first_wrong(program, asked)
     shutil.rmtree(folder)
-    if why is None and is_unsatisfiable is False:
+    if shown[2] == 0 and is_unsatisfiable is False:
         said = f"{source!r} over {frames} frames and {proof!r}: a bad state is reached"
     return said
 
