@@ -192,7 +192,7 @@ unrolls_simply() { row "$1" "$3" "$4" '' 0 aigunroll --simplify --frames "$2" --
 
 # resets and constants go through all frames; outputs stay
 rows_simplified_unrolled() {
-    local taken='aag 3 1 1 1 1\n2\n4 6\n6\n6 2 5\n' each='aag 4 1 2 1 1 2 2\n2\n4 3 1\n6 4 6\n8\n6\n7\n9\n2\n8 6 3\ni0 a\nb1 b\nc0 c\nc\nx\n'
+    local taken='aag 3 1 1 1 1\n2\n4 6\n6\n6 2 5\n' sections='aag 4 1 2 1 1 2 2\n2\n4 3 1\n6 4 6\n8\n6\n7\n9\n2\n8 6 3\ni0 a\nb1 b\nc0 c\nc\nx\n'
     unrolls_simply 'a reset goes through a frame' 1 "$taken" 'aag 1 1 0 1 0\n2\n2\n'
     unrolls_simply 'a reset goes through two frames' 2 "$taken" 'aag 3 2 0 2 1\n2\n4\n2\n6\n6 4 3\n'
     unrolls_simply 'a reset goes through three frames' 3 "$taken" 'aag 5 3 0 3 2\n2\n4\n6\n2\n8\n10\n8 4 3\n10 9 6\n'
@@ -205,7 +205,7 @@ rows_simplified_unrolled() {
     unrolls_simply 'a gate over latches alone is there once' 3 'aag 3 0 2 1 1\n2 2 2\n4 4 4\n6\n6 4 2\n' \
         'aag 3 2 0 3 1\n2\n4\n6\n6\n6\n6 4 2\n'
     unrolls_simply 'a latch and its negation, without initial value' 2 'aag 2 0 1 1 1\n2 2 2\n4\n4 2 3\n' 'aag 2 1 0 2 1\n2\n4\n4\n4 3 2\n'
-    unrolls_simply 'each section simplified' 2 "$each" \
+    unrolls_simply 'each section simplified' 2 "$sections" \
         'aag 9 3 0 2 6 4\n2\n4\n6\n8\n7\n12\n14\n18\n0\n8 5 2\n10 9 4\n12 10 2\n14 10 3\n16 10 6\n18 16 6\n'
     unrolls_simply 'a bad state without constraints needs no gate' 2 'aag 1 1 0 0 0 1\n2\n3\n' 'aag 2 2 0 0 0 2\n2\n4\n3\n5\n'
     unrolls_simply 'a constraint without bad states needs none' 2 'aag 1 1 0 1 0 0 1\n2\n2\n3\n' 'aag 2 2 0 2 0\n2\n4\n2\n4\n'
@@ -224,7 +224,7 @@ simple_clauses() { clauses "$1" "$2" "$3" "$4" --simplify "${@:5}"; }
 
 # what is left for bad states alone: they are written though they are constants, equal, or inputs
 rows_simplified_clauses() {
-    local each='aag 4 1 2 1 1 2 2\n2\n4 3 1\n6 4 6\n8\n6\n7\n9\n2\n8 6 3\n' shown='aag 4 2 0 1 2 1\n2\n4\n6\n8\n6 4 2\n8 5 2\n'
+    local sections='aag 4 1 2 1 1 2 2\n2\n4 3 1\n6 4 6\n8\n6\n7\n9\n2\n8 6 3\n' shown='aag 4 2 0 1 2 1\n2\n4\n6\n8\n6 4 2\n8 5 2\n'
     simple_clauses 'simplified clauses of a toggle' 1 "$toggle" 'p cnf 1 2\n-1 0\n1 0\n'
     simple_clauses 'simplified clauses of a toggle, two frames' 2 "$toggle" 'p cnf 1 2\n-1 0\n1 -1 0\n'
     simple_clauses 'simplified clauses of a latch that stays 0' 2 "$never" 'p cnf 3 2\n-1 0\n1 1 0\n'
@@ -241,7 +241,7 @@ rows_simplified_clauses() {
     simple_clauses 'gates of next states are not, behind the last frame' 1 'aag 4 2 1 0 1 1\n2\n4\n6 8\n2\n8 4 2\n' 'p cnf 3 2\n-1 0\n2 0\n'
     simple_clauses 'an input and its negation in simplified clauses' 1 'aag 2 1 0 0 1 1\n2\n4\n4 2 3\n' \
         'p cnf 3 5\n-1 0\n-3 -2 0\n-3 2 0\n3 2 -2 0\n3 0\n'
-    simple_clauses 'simplified clauses of each section' 2 "$each" \
+    simple_clauses 'simplified clauses of each section' 2 "$sections" \
         "p cnf 10 20\n-1 0\n-5 -3 0\n-5 2 0\n5 3 -2 0\n-6 -5 0\n-6 3 0\n6 5 -3 0\n-7 6 0\n-7 2 0\n7 -6 -2 0\n$(
         )-8 6 0\n-8 -2 0\n8 -6 2 0\n-9 6 0\n-9 4 0\n9 -6 -4 0\n-10 9 0\n-10 4 0\n10 -9 -4 0\n7 8 10 1 0\n"
     simple_clauses 'simplified clauses of a thousand frames' 1000 "$toggle" "p cnf 1 2\n-1 0\n$(times 500 '1 -1 ')0\n"
