@@ -30,15 +30,19 @@ def number(literal):
     return -(literal // 2 + 1) if literal % 2 else literal // 2 + 1
 
 
-def clauses(made, frames):
-    """The text of the clauses by which a bad state of the circuit is 1, over so many frames."""
-    it = unrolled.unrolled(made, frames)
+def text_of_clauses(it):
+    """The text of the clauses by which a bad state of a circuit without latches is 1."""
     found = [[1]]
     for own, left, right in it.gates:
         found += [[own ^ 1, left], [own ^ 1, right], [own, left ^ 1, right ^ 1]]
     found.append(it.bad)
     lines = [" ".join(map(str, [*map(number, clause), 0])) for clause in found]
     return "\n".join([f"p cnf {it.largest + 1} {len(lines)}", *lines, ""]).encode()
+
+
+def clauses(made, frames):
+    """Those of the circuit over so many frames."""
+    return text_of_clauses(unrolled.unrolled(made, frames))
 
 
 def asked(made, bad):

@@ -61,6 +61,7 @@ OF_MEMORY = "out of memory"
 OF_ARGUMENTS = """--keep-map needs binary output
 --keep-map excludes --strip
 --keep-map excludes --undo-map
+--keep-map excludes --simplify
 --outputs-as-bad excludes --keep-map
 --outputs-as-bad excludes --undo-map
 --justice-as-bad excludes --outputs-as-bad, --keep-map and --undo-map

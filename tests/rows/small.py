@@ -61,6 +61,18 @@ TOKENS_CLAUSES = (
     b"-10 9 0\n-10 4 0\n10 -9 -4 0\n-11 9 0\n-11 8 0\n11 -9 -8 0\n10 11 0\n"
 )
 TOKENS_REFUTED = b"-10 0\n0\n"
+# each section, with gates that go: 14 is 12 again, nothing needs 16, and 20 is a latch; 22 is x where the input is
+FOLDED = (
+    b"aag 11 1 2 1 5 2 1 2 1\n18\n4 19 1\n10 14 10\n13\n15\n20\n19\n2\n1\n22\n5\n14\n21\n"
+    b"12 19 10\n14 10 19\n16 14 4\n20 10 1\n22 18 19\n"
+)
+FOLDED_NAMES = b"b1 a\nf0 d\ni0 g\nc\n"
+SIMPLE = b"aag 5 1 2 1 2 2 1 2 1\n2\n4 3 1\n6 8 6\n9\n9\n6\n3\n2\n1\n10\n5\n8\n7\n8 6 3\n10 3 2\n"
+SIMPLE_IMAGE = b"aig 5 1 2 1 2 2 1 2 1\n3 1\n8 6\n9\n9\n6\n3\n2\n1\n10\n5\n8\n7\n\x02\x03\x07\x01"
+HELD_TWICE_SIMPLY = b"aag 3 2 0 2 1\n2\n4\n2\n6\n6 4 3\n"
+KEPT_CLAUSES_LEFT = b"p cnf 7 8\n-1 0\n-6 5 0\n-6 3 0\n6 -5 -3 0\n-7 6 0\n-7 2 0\n7 -6 -2 0\n3 7 0\n"
+TOKENS_CLAUSES_LEFT = b"p cnf 5 8\n-1 0\n-4 3 0\n-4 2 0\n4 -3 -2 0\n-5 -4 0\n-5 4 0\n5 4 -4 0\n5 5 0\n"
+NAMED_ALIKE_SIMPLY = b"aag 4 2 0 0 2 3 1\n2\n4\n6\n8\n2\n3\n6 3 2\n8 5 4\n"
 # an uninitialised latch that keeps itself, and one that is negated
 STARTED = b"aag 1 0 1 1 0\n2 2 2\n2\n"
 STARTED_OTHERWISE = b"aig 1 0 1 0 0 1\n3 2\n3\n"
@@ -146,17 +158,18 @@ def compared(name, words, first, second, miter):
     yield Row(f"{name}, the first by standard input", f"aigmiter {words} - second", first, miter, {"second": second})
 
 
-def strengthened(name, model, invariant, clauses):
+def strengthened(name, words, model, invariant, clauses):
     """The clauses of an invariant, once it and once the model by standard input."""
-    yield Row(name, "aigunroll model --invariant - --cnf", invariant, clauses, {"model": model})
-    yield Row(f"{name}, the model by standard input", "aigunroll - --invariant rows --cnf", model, clauses, {"rows": invariant})
+    yield Row(name, f"aigunroll {words} model --invariant - --cnf", invariant, clauses, {"model": model})
+    words = f"aigunroll {words} - --invariant rows --cnf"
+    yield Row(f"{name}, the model by standard input", words, model, clauses, {"rows": invariant})
 
 
-def proved(name, model, invariant, refutation):
+def proved(name, options, model, invariant, refutation):
     """An invariant and its refutation, with each of the three by standard input."""
     files, said = {"model": model, "rows": invariant, "proof": refutation}, b"never\n"
     for streamed in files:
-        words = "aigunroll model --invariant rows --refutation proof".replace(f" {streamed}", " -")
+        words = f"aigunroll {options} model --invariant rows --refutation proof".replace(f" {streamed}", " -")
         others = {it: text for it, text in files.items() if it != streamed}
         yield Row(f"{name}, the {streamed} by standard input", words, files[streamed], said, others)
 
@@ -199,8 +212,16 @@ ROWS = [
     *refuted("a refutation", "--frames 1", FOUR, FOUR_REFUTED, b"none within 1\n"),
     *refuted("a binary refutation", "--frames 1", FOUR, FOUR_REFUTED_BINARY, b"none within 1\n"),
     *refuted("a refutation in LRAT", "--frames 1 --lrat", FOUR, FOUR_REFUTED_LRAT, b"none within 1\n"),
-    *strengthened("the clauses of an invariant", TOKENS, TOKENS_INVARIANT, TOKENS_CLAUSES),
-    *proved("an invariant", TOKENS, TOKENS_INVARIANT, TOKENS_REFUTED),
+    *strengthened("the clauses of an invariant", "", TOKENS, TOKENS_INVARIANT, TOKENS_CLAUSES),
+    *proved("an invariant", "", TOKENS, TOKENS_INVARIANT, TOKENS_REFUTED),
+    Row("gates that go", "aigtoaig --simplify --ascii", FOLDED + FOLDED_NAMES, SIMPLE + FOLDED_NAMES),
+    Row("gates that go, to binary", "aigtoaig --simplify", FOLDED + FOLDED_NAMES + b"x", SIMPLE_IMAGE + FOLDED_NAMES + b"x"),
+    Row("a latch and a gate, unrolled and simplified", "aigunroll --simplify --frames 2 --ascii", HELD, HELD_TWICE_SIMPLY),
+    Row("simplified clauses", "aigunroll --simplify --frames 2 --cnf", KEPT, KEPT_CLAUSES_LEFT),
+    *refuted("a refutation of simplified clauses", "--simplify --frames 1", FOUR, FOUR_REFUTED, b"none within 1\n"),
+    *strengthened("the simplified clauses of an invariant", "--simplify", TOKENS, TOKENS_INVARIANT, TOKENS_CLAUSES_LEFT),
+    *proved("an invariant by simplified clauses", "--simplify", TOKENS, TOKENS_INVARIANT, b"-5 0\n"),
+    *compared("a miter by names, simplified", "--ascii --by-name --simplify", NAMED, NAMED_OTHERWISE, NAMED_ALIKE_SIMPLY),
     *compared("a miter", "--ascii", STARTED, STARTED_OTHERWISE, STARTED_ALIKE),
     *compared("a miter in binary", "", STARTED, STARTED_OTHERWISE, STARTED_ALIKE_IMAGE),
     *compared("a miter by names", "--ascii --by-name", NAMED, NAMED_OTHERWISE, NAMED_ALIKE),

@@ -6,8 +6,9 @@
 
 The files are those of rows/small.py: circuits in ASCII and binary, with and without a map, stimuli, witnesses, solvers'
 answers, refutations and invariants. What is refused as a circuit must be refused by all tools in the same words. What is
-accepted must have the image, the traces, the unrolled circuit, its clauses, the miter with itself, and the answer to a
-witness that are worked out here from its ASCII text; and of two circuits one that is cut or changed must have their miter.
+accepted must have the image, the simplified circuit, the traces, the unrolled circuit, its clauses, the miter with itself, and
+the answer to a witness that are worked out here from its ASCII text; and of two circuits one that is cut or changed must have
+their miter.
 A cut or changed stimulus must have the trace that is worked out here up to its first bad line, and nothing with --batch
 if there is one; a witness must have its answer, and its dump; a solver's answer its witness; an invariant its clauses; and
 of a refutation, of which each bit is turned too, it must be said what the plain checker of lib/refutations.py says.
@@ -26,7 +27,8 @@ from pathlib import Path
 
 sys.dont_write_bytecode = True
 sys.path[0] = str(Path(__file__).resolve().parent.parent)
-from lib import answers, counts, images, invariants, miters, refusals, refutations, runs, unrolled, waves, witnesses
+from lib import answers, counts, images, invariants, miters, refusals, refutations, runs, simplified, unrolled, waves
+from lib import witnesses
 from lib.soak import calls, generators, oracles
 from rows import small
 
@@ -41,6 +43,7 @@ CIRCUITS = {
     "equal operands in binary": small.EQUAL_IMAGE,
     "equal operands with their map": small.EQUAL_MAPPED,
     "a toggle": small.TOGGLE,
+    "gates that go": small.FOLDED + small.FOLDED_NAMES,
     "a latch and a gate": small.HELD,
     "a latch and a gate in binary": small.HELD_IMAGE,
     "a latch and a gate in padded deltas": small.HELD_PADDED,
@@ -132,11 +135,13 @@ class Judge:
             others = [unrolling, f"{unrolling} --cnf", f"{unrolling} - --refutation steps", "aigunroll --invariant steps --cnf"]
             simulations = ["aigsim - steps", "aigsim --batch --properties - steps", "aigsim --witness - witness"]
             miter = ["aigmiter - nothing", "aigmiter --by-name nothing -"]
-            for words in ("aigtoaig --keep-map", undoing, *others, *simulations, *miter):
+            simple = ["aigtoaig --simplify --ascii", f"{unrolling} --simplify --cnf", "aigmiter --simplify - nothing"]
+            for words in ("aigtoaig --keep-map", undoing, *others, *simulations, *miter, *simple):
                 self.expect(words, text, b"", errors, 1)
             return
         made, end = generators.parsed(canonical)
         self.expect("aigtoaig", text, images.image(made) + end)
+        self.expect("aigtoaig --simplify", text, images.binary_text(simplified.simplified(made)) + end)
         mapped, _, _ = self.ask("aigtoaig --keep-map", text)
         self.expect(undoing, mapped, canonical)
         source, _, status = self.ask(undoing, text)
@@ -152,6 +157,7 @@ class Judge:
         for words in ("--ascii", "--by-name"):
             self.expect(f"aigmiter {words} - same", text, *miters.wanted(alike, alike, words, ("-", "same")))
         self.expect(f"{unrolling} --cnf", text, *answers.wanted_clauses(made, FRAMES, None))
+        self.expect(f"{unrolling} --cnf --simplify", text, *simplified.wanted_clauses(made, FRAMES))
         self.expect("aigunroll --invariant rows --cnf", text, *invariants.wanted_clauses(made, None, ("-", "rows"), ROWS))
         if made.justice or made.fairness:
             self.expect(unrolling, text, b"", b"aiger: -: justice or fairness cannot be unrolled\n", 1)
@@ -187,6 +193,8 @@ class Judge:
         for frames in range(1, FRAMES + 1):
             wanted = refutations.wanted(made, frames, None, "-", text)
             self.expect(f"aigunroll --frames {frames} model --refutation -", text, *wanted)
+        wanted = simplified.wanted(made, 1, "-", text)
+        self.expect("aigunroll --simplify --frames 1 model --refutation -", text, *wanted)
 
     def numbered(self, text, model):
         """The same of one in LRAT."""

@@ -27,6 +27,10 @@ aigtoaig --outputs-as-bad => outputs-as-bad 2147483647 - -;\
 aigtoaig --strip a --outputs-as-bad b.aag => ascii strip outputs-as-bad 2147483647 a b.aag;\
 aigtoaig --justice-as-bad 0 a b.aag => ascii justice-as-bad 0 2147483647 a b.aag;\
 aigtoaig a --strip --justice-as-bad=2147483647 => strip justice-as-bad 2147483647 2147483647 a -;\
+aigtoaig --simplify => simplify 2147483647 - -;\
+aigtoaig --undo-map a --simplify --strip b.aag => ascii strip undo-map simplify 2147483647 a b.aag;\
+aigtoaig --simplify --outputs-as-bad a => outputs-as-bad simplify 2147483647 a -;\
+aigtoaig --justice-as-bad 1 --simplify => justice-as-bad 1 simplify 2147483647 - -;\
 aigtoaig --sync a b.aag => sync ascii 2147483647 a b.aag;\
 aigtoaig - --strip b --sync => sync strip 2147483647 - b;\
 aigtoaig -- --sync b => 2147483647 --sync b;\
@@ -99,6 +103,8 @@ aigunroll --frames 2 a.gz => 2 2147483647 a.gz -;\
 aigunroll --frames 2 aigsim help => 2 2147483647 aigsim help;\
 aigunroll --frames 2 - <> => 2 2147483647 - <>;\
 aigunroll --frames 2 -- --frames --help => 2 2147483647 --frames --help;\
+aigunroll --simplify --frames 2 a b.aag => 2 ascii simplify 2147483647 a b.aag;\
+aigunroll --frames 2 --cnf --bad 0 --simplify => 2 clauses of 0 simplify 2147483647 - -;\
 aigunroll --frames 1 --cnf => 1 clauses of any 2147483647 - -;\
 aigunroll --cnf --frames 2 a.aig b.aag => 2 clauses of any 2147483647 a.aig b.aag;\
 aigunroll --frames 2 --bad 0 --cnf - b => 2 clauses of 0 2147483647 - b;\
@@ -115,6 +121,7 @@ aigunroll --frames 1 --answer a m => 1 any 2147483647 m answer a -;\
 aigunroll --frames 1000000 --answer=a m w => 1000000 any 2147483647 m answer a w;\
 aigunroll --frames 1 --justice 2 --answer a m => 1 justice 2 2147483647 m answer a -;\
 aigunroll --answer - --frames 2 m => 2 any 2147483647 m answer - -;\
+aigunroll --answer a --simplify --frames 2 m => 2 any simplify 2147483647 m answer a -;\
 aigunroll --frames 2 --answer a => 2 any 2147483647 - answer a -;\
 aigunroll --frames 2 - w --answer a => 2 any 2147483647 - answer a w;\
 aigunroll --frames 2 --answer a m w.aag => 2 any 2147483647 m answer a w.aag;\
@@ -131,6 +138,8 @@ aigunroll --frames 1 --refutation p --justice 2 m \
 aigunroll --refutation - --frames 2 m => 2 any 2147483647 m refutation - -;\
 aigunroll --frames 2 --refutation p => 2 any 2147483647 - refutation p -;\
 aigunroll --frames 2 --lrat --refutation p => 2 any 2147483647 - lrat p -;\
+aigunroll --simplify --frames 2 --lrat --refutation p => 2 any simplify 2147483647 - lrat p -;\
+aigunroll --frames 2 --refutation p m --simplify => 2 any simplify 2147483647 m refutation p -;\
 aigunroll --refutation - --frames 2 m --lrat => 2 any 2147483647 m lrat - -;\
 aigunroll --frames 2 --refutation p m -- --lrat => 2 any 2147483647 m refutation p --lrat;\
 aigunroll --frames 2 - r --refutation p => 2 any 2147483647 - refutation p r;\
@@ -148,6 +157,9 @@ const PROVINGS: &str = "\
 aigunroll --invariant i --cnf m => any 2147483647 m i clauses -;\
 aigunroll --invariant i --cnf --justice 3 m => justice 3 2147483647 m i clauses -;\
 aigunroll --cnf --invariant=i m d => any 2147483647 m i clauses d;\
+aigunroll --simplify --cnf --invariant i m => any simplify 2147483647 m i clauses -;\
+aigunroll --invariant i --refutation p --simplify m \
+=> any simplify 2147483647 m i refutation p -;\
 aigunroll --invariant - --cnf m => any 2147483647 m - clauses -;\
 aigunroll --invariant i --cnf => any 2147483647 - i clauses -;\
 aigunroll --cnf - d --invariant i => any 2147483647 - i clauses d;\
@@ -183,6 +195,8 @@ aigmiter a - m => 2147483647 a - m;\
 aigmiter a.gz a.gz a.aig => 2147483647 a.gz a.gz a.aig;\
 aigmiter --by-name a.aag b.aag => by-name 2147483647 a.aag b.aag -;\
 aigmiter a --max-var=7 b --by-name --sync m.aag => sync ascii by-name 7 a b m.aag;\
+aigmiter --simplify a b m.aag => ascii simplify 2147483647 a b m.aag;\
+aigmiter a --by-name b --simplify => by-name simplify 2147483647 a b -;\
 aigmiter a <> => 2147483647 a <> -;\
 aigmiter -- --by-name --sync => 2147483647 --by-name --sync -;\
 aigmiter aigtoaig help => 2147483647 aigtoaig help -";
@@ -197,6 +211,16 @@ aigtoaig --keep-map --strip => --keep-map excludes --strip;\
 aigtoaig --keep-map --strip --undo-map => --keep-map excludes --strip;\
 aigtoaig --undo-map --keep-map => --keep-map excludes --undo-map;\
 aigtoaig --keep-map --undo-map - x.gz => --keep-map excludes --undo-map;\
+aigtoaig --keep-map --simplify => --keep-map excludes --simplify;\
+aigtoaig --simplify a b.aag --keep-map => --keep-map needs binary output;\
+aigtoaig --simplify --keep-map --strip => --keep-map excludes --strip;\
+aigtoaig --simplify --keep-map --undo-map => --keep-map excludes --undo-map;\
+aigtoaig --outputs-as-bad --simplify --keep-map => --keep-map excludes --simplify;\
+aigtoaig --justice-as-bad 1 --keep-map --simplify => --keep-map excludes --simplify;\
+aigtoaig --keep-map --simplify - x.gz => --keep-map excludes --simplify;\
+aigtoaig --simplify - x.gz => compressed output is not supported;\
+aigunroll --simplify => --frames or --invariant is needed;\
+aigunroll --simplify --invariant i => --invariant needs --cnf or --refutation;\
 aigtoaig --outputs-as-bad --strip --keep-map => --keep-map excludes --strip;\
 aigtoaig --outputs-as-bad --undo-map --keep-map => --keep-map excludes --undo-map;\
 aigtoaig --outputs-as-bad --keep-map => --outputs-as-bad excludes --keep-map;\
@@ -360,6 +384,10 @@ aigtoaig --max-var x => words;\
 aigtoaig --max-var 1 --max-var 2 => words;\
 aigtoaig --asci => words;\
 aigtoaig --ascii=yes => words;\
+aigtoaig --simplify --simplify => words;\
+aigtoaig --simplif => words;\
+aigsim --simplify m => words;\
+aigunroll --simplify=yes --frames 2 => words;\
 aigtoaig --batch => words;\
 aigtoaig --Help => words;\
 aigtoaig -x => words;\
@@ -538,6 +566,10 @@ fn show_file(file: &Option<String>) -> &str {
     }
 }
 
+fn simplify_word(simplify: bool) -> &'static str {
+    if simplify { "simplify " } else { "" }
+}
+
 fn shown_bad_states(alloc: Global, bad_states: BadStates) -> Result<String, AllocError> {
     match bad_states {
         BadStates::Kept => Ok(String::new(alloc)),
@@ -552,10 +584,12 @@ fn shown_conversion(alloc: Global, names: &Names, request: ToAig) -> Result<Stri
     let keep_map = if request.keep_map { "keep-map " } else { "" };
     let undo_map = if request.undo_map { "undo-map " } else { "" };
     let as_bad = shown_bad_states(alloc, request.bad_states)?;
+    let simplify = simplify_word(request.simplify);
     let source = show_file(&names.model);
     let destination = show_file(&names.destination);
     let limit = request.max_var;
-    format!(in alloc; "{ascii}{strip}{keep_map}{undo_map}{as_bad}{limit} {source} {destination}")
+    let how = format!(in alloc; "{ascii}{strip}{keep_map}{undo_map}{as_bad}{simplify}")?;
+    format!(in alloc; "{how}{limit} {source} {destination}")
 }
 
 fn shown_simulation(alloc: Global, names: &Names, request: Sim) -> Result<String, AllocError> {
@@ -596,10 +630,11 @@ fn shown_form(alloc: Global, form: UnrolledForm) -> Result<String, AllocError> {
 fn shown_unrolling(alloc: Global, names: &Names, request: Unroll) -> Result<String, AllocError> {
     let frames = request.frames;
     let form = shown_form(alloc, request.form)?;
+    let simplify = simplify_word(request.simplify);
     let source = show_file(&names.model);
     let destination = show_file(&names.destination);
     let limit = request.max_var;
-    format!(in alloc; "{frames} {form}{limit} {source} {destination}")
+    format!(in alloc; "{frames} {form}{simplify}{limit} {source} {destination}")
 }
 
 fn refutation_word(lrat: bool) -> &'static str {
@@ -615,9 +650,10 @@ fn shown_reaching(alloc: Global, names: &Names, request: Reach) -> Result<String
         SolverFile::Refutation => refutation_word(request.lrat),
     };
     let file = show_file(&names.file);
+    let simplify = simplify_word(request.simplify);
     let destination = show_file(&names.destination);
     let limit = request.max_var;
-    format!(in alloc; "{frames} {property} {limit} {model} {wrote} {file} {destination}")
+    format!(in alloc; "{frames} {property} {simplify}{limit} {model} {wrote} {file} {destination}")
 }
 
 /// The refutation that is checked, or that clauses are written, as a row shows it.
@@ -636,19 +672,21 @@ fn shown_proving(alloc: Global, names: &Names, request: Invariant) -> Result<Str
     let model = show_file(&names.model);
     let file = show_file(&names.file);
     let work = shown_work(alloc, names, request)?;
+    let simplify = simplify_word(request.simplify);
     let destination = show_file(&names.destination);
     let limit = request.max_var;
-    format!(in alloc; "{property} {limit} {model} {file} {work} {destination}")
+    format!(in alloc; "{property} {simplify}{limit} {model} {file} {work} {destination}")
 }
 
 fn shown_miter(alloc: Global, names: &Names, request: Miter) -> Result<String, AllocError> {
     let ascii = if request.ascii { "ascii " } else { "" };
     let by_name = if request.by_name { "by-name " } else { "" };
+    let simplify = simplify_word(request.simplify);
     let first = show_file(&names.model);
     let second = show_file(&names.file);
     let destination = show_file(&names.destination);
     let limit = request.max_var;
-    format!(in alloc; "{ascii}{by_name}{limit} {first} {second} {destination}")
+    format!(in alloc; "{ascii}{by_name}{simplify}{limit} {first} {second} {destination}")
 }
 
 fn shown_command(alloc: Global, names: &Names, command: &Command) -> Result<String, AllocError> {

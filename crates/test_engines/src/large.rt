@@ -24,6 +24,7 @@ const TO_AIG: ToAig = ToAig {
     keep_map: false,
     undo_map: false,
     bad_states: BadStates::Kept,
+    simplify: false,
     max_var: LARGEST,
 };
 
@@ -46,6 +47,7 @@ fn frames(frames: u32) -> Unroll
     Unroll {
         frames,
         form: UnrolledForm::Ascii,
+        simplify: false,
         max_var: LARGEST,
     }
 }

@@ -3,7 +3,7 @@ import dataclasses
 import itertools
 import re
 
-from lib import answers, images, invariants, miters, refusals, refutations, traces, unrolled, waves, witnesses
+from lib import answers, images, invariants, miters, refusals, refutations, simplified, traces, unrolled, waves, witnesses
 from lib.soak.calls import Call, Failed
 from lib.soak.editors import edited
 from lib.soak.generators import parsed, simulation, some_rows, stimulus
@@ -30,6 +30,7 @@ def relations(here, text):
         return
     models = [text, image, mapped, canonical]
     traces_alike(here, models, made, waves.names_of(end))
+    simplified_alike(here, models, made, end)
     unrolled_alike(here, models, made)
     clauses_alike(here, models, made)
     witnesses_alike(here, models, made)
@@ -50,6 +51,17 @@ def there_and_back(here, text):
     as_text = here.converted(mapped, "--ascii")
     here.converts("what has a map is undone from ASCII too", canonical, as_text, "--undo-map", "--ascii")
     return canonical, image, mapped
+
+
+def simplified_alike(here, models, made, end):
+    """What is left of all models is one circuit, which is simple, and so are its clauses."""
+    it, frames = simplified.simplified(made), here.chance.randrange(1, 3)
+    binary, model = images.binary_text(it) + end, here.chance.choice(models[:2])
+    here.converts("what is left of a circuit", binary, model, "--simplify")
+    here.converts("what is left, in ASCII", images.ascii_text(it) + end, model, "--ascii", "--simplify")
+    here.converts("what is left is simple", binary, binary, "--simplify")
+    words = [*answers.words_of(frames, None), "--cnf", "--simplify"]
+    here.expect("the clauses of what is left", Call(words, model), *simplified.wanted_clauses(made, frames))
 
 
 def by_name(here, text, canonical, image):

@@ -10,7 +10,7 @@ from lib.soak.oracles import relations, same_answer, same_miter, same_trace, und
 
 LARGEST = 2**31 - 1
 WORDS = """aigtoaig aigtoaig aigsim aigsim aigunroll aigunroll aigmiter aigmiter --ascii --strip --keep-map --undo-map
-    --outputs-as-bad --justice-as-bad --justice-as-bad=0
+    --outputs-as-bad --justice-as-bad --justice-as-bad=0 --simplify --simplify
     --max-var --max-var=9 --max-var=2147483648 --frames --frames=2 --frames=0 --batch --properties
     --vcd --witness --cnf --cnf --bad=0 --bad=1 --justice=0 --answer=source --answer
     --refutation=source --refutation --lrat --invariant=source --invariant --by-name --sync --help -h -- - source source source out.aag
@@ -19,6 +19,7 @@ WORDS = """aigtoaig aigtoaig aigsim aigsim aigunroll aigunroll aigmiter aigmiter
 REFUSED_WORDS = """aigtoaig --keep-map --ascii
 aigtoaig --strip --keep-map
 aigtoaig --undo-map --keep-map
+aigtoaig --keep-map --simplify
 aigtoaig --keep-map --outputs-as-bad
 aigtoaig --undo-map --outputs-as-bad
 aigtoaig --justice-as-bad 0 --outputs-as-bad
