@@ -33,7 +33,7 @@ from dataclasses import dataclass, replace
 from pathlib import Path
 from typing import Any, Dict, Iterable, Iterator, List, NamedTuple, Optional, Sequence, Set, Tuple
 
-VERSION = "1.4.0"
+VERSION = "1.5.0"
 PROGRAM = "aiger-check"
 
 HELP = """\
@@ -278,6 +278,8 @@ class Verdict:
     kept: Optional[Path] = None
     #: whether the refutation is one for all bad states at once
     of_all: bool = False
+    #: whether it is one of simplified clauses
+    simplified: bool = False
 
     def claim(self) -> str:
         """What aiger says where it shows this."""
@@ -467,6 +469,15 @@ class Solver:
             drat_of_frat(clauses.with_name("proof.frat"), proof)
         said = next((said for said in Said if said.value == told.status), Said.NOTHING)
         return (Said.NOTHING if told.late else said), told
+
+
+def clause_count(path: Path) -> int:
+    """How many clauses a file has, by its first line."""
+    try:
+        with open(path, "rb") as file:
+            return int(file.readline().split()[3])
+    except (OSError, IndexError, ValueError):
+        return 0
 
 
 def discard(path: Path) -> None:
@@ -840,6 +851,10 @@ class Search:
         #: what aiger says of witnesses
         self.steps: Dict[Path, Optional[int]] = {}
         self.refuted = 0
+        #: the simplified clauses, by name; and the files of which more than half would be left
+        self.simplified: Set[str] = set()
+        self.not_simple: Set[Path] = set()
+        self.frame_clauses: Dict[Target, int] = {}
         self.rows: List[str] = []
         #: of a miter the gates of its first half, and which latches are equal
         self.halves: Optional[Tuple[int, Sequence["Equality"]]] = None
@@ -880,13 +895,34 @@ class Search:
     def unroll(self, target: Target, *options: Any) -> Finished:
         return self.tools.aiger.run("aigunroll", *target.option, *options, folder=self.folder)
 
+    def write_clauses(self, target: Target, path: Path, *options: Any) -> Finished:
+        """Has clauses written: over frames simplified ones, as long as less than half is left. More frames mostly leave
+        more; and an older aiger knows plain ones alone."""
+        self.simplified.discard(path.stem)
+        if options[0] == "--frames" and target.path not in self.not_simple:
+            told = self.unroll(target, *options, "--simplify", "--cnf", target.path, path)
+            if told.status == 0 and 0 < 2 * clause_count(path) < options[1] * self.clauses_of_a_frame(target):
+                self.simplified.add(path.stem)
+                return told
+            self.not_simple.add(target.path)
+        return self.unroll(target, *options, "--cnf", target.path, path)
+
+    def clauses_of_a_frame(self, target: Target) -> int:
+        """How many clauses there are for the gates of a frame."""
+        if target not in self.frame_clauses:
+            path = self.folder / "frame.cnf"
+            told = self.unroll(target, "--frames", 1, "--cnf", target.path, path)
+            self.frame_clauses[target] = clause_count(path) if told.status == 0 else 0
+            discard(path)
+        return self.frame_clauses[target]
+
     def ask(self, target: Target, name: str, what: str, *options: Any) -> Said:
         """What the solver says of the clauses that aiger writes by these options; if nothing, the reason is noted."""
         solver, limit, clauses = self.tools.solver, self.tools.limits.limit, self.folder / f"{name}.cnf"
         if self.left <= 0:
             self.fails(f"no answer for {what} in {limit:g} s")
             return Said.NOTHING
-        told = self.unroll(target, *options, "--cnf", target.path, clauses)
+        told = self.write_clauses(target, clauses, *options)
         if told.status != 0:
             self.fails(aiger_failure(told).replace(f"{self.folder}/", ""))
             return Said.NOTHING
@@ -903,6 +939,7 @@ class Search:
         if not solver.refutes:
             self.fails(f"{solver.kind} writes no refutation, as cadical does")
             return False
+        options += ("--simplify",) * (name in self.simplified)
         told = self.unroll(self.whole, *options, "--refutation", self.folder / f"{name}.drat", self.whole.path)
         if told.status == 0 and told.output == f"{claim}\n":
             return True
@@ -990,9 +1027,10 @@ class Search:
         return self.is_shown(f"none within {count}", name, *options)
 
     def none_within(self) -> Optional[Verdict]:
-        count = self.tools.limits.frames
+        count, name = self.tools.limits.frames, f"within{self.tools.limits.frames}"
         if self.refuted == count and self.is_none_within(count):
-            return Verdict(Answer.NONE_WITHIN, steps=count, refutation=self.folder / f"within{count}.drat")
+            simplified, refutation = name in self.simplified, self.folder / f"{name}.drat"
+            return Verdict(Answer.NONE_WITHIN, steps=count, refutation=refutation, simplified=simplified)
         return None
 
     # Runs of any length
@@ -2701,7 +2739,7 @@ class Keeper:
         """The words by which aigunroll is asked again."""
         how = f"--invariant {proof}.pla" if verdict.invariant else f"--frames {verdict.steps}"
         of = "" if verdict.of_all else "{} {} ".format(*assertion.option)
-        return f"{how} {of}--refutation {proof}.drat"
+        return f"{how} {of}{'--simplify ' * verdict.simplified}--refutation {proof}.drat"
 
     def asks(self, options: str) -> List[str]:
         """The lines that get an answer of the model."""

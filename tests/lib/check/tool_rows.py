@@ -150,7 +150,24 @@ def failing_aiger(word, with_words, status, which, room):
         checked.refused(said)
 
 
+def bounded(which, is_simplified, older, room):
+    """Without ABC a bound is shown by simplified clauses, where most gates go; but not by an older aiger, which has none.
+    The script that is kept asks as was asked."""
+    truths, kept = put(room, which), room.here / "kept"
+    room.may_write.add("kept")
+    changes = {**model_rows.honest(room), "ABC": "none"}
+    if older:
+        changes["AIGER"] = stand_ins.failing(room.folder / "older", "aiger", room.program, "--simplify", "", 2)
+    said = room.run("--frames", "8", "--keep", "kept", "model.aag", changes=changes)
+    found = checked.judge(said, truths, checked.BOUNDED, 8)
+    checked.judge_kept(room, kept, found, said)
+    scripts = [it.read_text(encoding="utf-8") for it in kept.glob("*.check.sh")]
+    is_said = ["--simplify" in it for it in scripts]
+    checked.need(is_said == [is_simplified], f"a script asks in another way: {scripts}", said)
+
+
 AIGER = {
+    "aiger fails at --simplify": ("--simplify", "", 1),
     "aiger fails at --cnf": ("--cnf", "", 1),
     "aiger fails at --answer": ("--answer", "", 1),
     "aiger fails at --refutation": ("--refutation", "", 1),
@@ -260,6 +277,9 @@ def rows():
         yield f"no solver, of {which}", each(with_few, ["aiger", "berkeley_abc"], which, checked.SAFE)
         yield f"neither ABC nor a solver, of {which}", each(with_few, ["aiger"], which, checked.SAFE)
         yield f"no Yosys, of {which}", each(with_few, ["aiger", "berkeley_abc", "cadical"], which, checked.EXACT)
+    yield f"simplified clauses of {TOKENS}", each(bounded, TOKENS, True, False)
+    yield f"an aiger that does not simplify, of {TOKENS}", each(bounded, TOKENS, False, True)
+    yield "plain clauses where most gates stay", each(bounded, "a latch that a constraint keeps at 1", False, False)
     yield "ABC by its other name", by_other_name
     yield "no aiger", each(without_aiger, {})
     yield "an aiger that is not there", each(without_aiger, {"AIGER": "/no/such/aiger"})
