@@ -221,8 +221,8 @@ destination may be one of them; it is lost if writing fails. Justice properties
 and fairness constraints cannot be compared.
 
 With --simplify the miter is simplified, as aigtoaig --simplify does: what is
-built alike in both circuits is there once, and where all of it is, no gate is
-left and no solver needed.
+built alike in both circuits is there once. A solver is still needed, but may
+take far less time.
 
 Exit status:
   0  done, also for --help
