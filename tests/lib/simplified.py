@@ -11,20 +11,22 @@ fairness constraint must be as the source's is in each step.
 Unrolled circuits must be those of unrolled.py simplified, and do in one step what the source does in several. Clauses are those of
 what is left without outputs: a search over all inputs must say of them what it says of those of the whole, and so must cadical.
 What shows that they cannot be satisfied, made as in refutations.py and mostly spoiled, must be judged by --simplify as a plain
-checker judges it. Answers must give the same witness as without. The same is done with miters and invariants.
+checker judges it. Answers must give the same witness as without. The same is done with miters and invariants, and with what
+is made of a justice property, as a circuit and as clauses.
 """
 import dataclasses
 import random
 import shutil
 from pathlib import Path
 
-from lib import answers, images, invariants, miters, refutations, traces, unrolled
+from lib import answers, images, invariants, liveness, miters, refutations, traces, unrolled
 
 CIRCUITS = 1000
 UNROLLED = 300
 REFUTED = 300
 PAIRS = 200
 INVARIANTS = 150
+LIVE = 150
 
 
 def negated(literal, sign):
@@ -297,6 +299,18 @@ def judge_invariant(program, folder, at):
     return wrong_one and f"{images.ascii_text(made)!r}, {text!r} and {proof!r}: {wrong_one}"
 
 
+def judge_live(program, made, number):
+    """What is wrong with what is left of the circuit for a justice property, or with its clauses over some frames."""
+    source, live, justice = images.ascii_text(made), liveness.with_loop(made, number), str(number)
+    if live.largest > liveness.LARGEST:
+        return None
+    frames, left = 1 + number % 3, simplified(live)
+    words = ["aigtoaig", "--justice-as-bad", justice, "--simplify"]
+    asked = [(source, words, (images.binary_text(left), b"", 0)), (source, [*words, "--ascii"], (images.ascii_text(left), b"", 0))]
+    words = [*answers.words_of(frames, None), "--justice", justice, "--simplify", "--cnf"]
+    return first_wrong(program, [*asked, (source, words, (clauses(live, frames), b"", 0))])
+
+
 def cases(program, folder):
     chance = random.Random(41)
     for number in range(CIRCUITS):
@@ -312,3 +326,7 @@ def cases(program, folder):
         yield judge_clauses, program, folder, at
     for at in range(INVARIANTS):
         yield judge_invariant, program, folder, at
+    for _ in range(LIVE):
+        made = liveness.circuit(chance)
+        for number in range(len(made.justice)):
+            yield judge_live, program, made, number
