@@ -912,7 +912,7 @@ class Search:
         if target not in self.frame_clauses:
             path = self.folder / "frame.cnf"
             told = self.unroll(target, "--frames", 1, "--cnf", target.path, path)
-            self.frame_clauses[target] = clause_count(path) if told.status == 0 else 0
+            self.frame_clauses[target] = clause_count(path) - 2 if told.status == 0 else 0
             discard(path)
         return self.frame_clauses[target]
 

@@ -41,6 +41,22 @@ def wide(count, numbers, letters, called="{}"):
     yield "c\nwide\n"
 
 
+def left_of_wide(count, letters):
+    """The wide circuit simplified: its first gate is the first input, and the others move up."""
+    latch, gate, live = 2 * count + 2, 4 * count, count * ("j" in letters)
+    yield f"aag {3 * count - 1}{f' {count}' * 3} {count - 1}{f' {count}' * 2}{f' {live} {live}' if live else ''}\n"
+    yield from (f"{2 * n + 2}\n" for n in range(count))
+    yield from (f"{latch + 2 * n} {2 * n + 2}{['', ' 1', f' {latch + 2 * n}'][n % 3]}\n" for n in range(count))
+    yield from (f"{latch + 2 * n}\n" for n in range(count))
+    yield from (f"{gate + 2 * n if n else 2}\n" for n in range(count))
+    yield from itertools.repeat("1\n", count + live)
+    yield from (f"{latch + 2 * n}\n" for n in range(live))
+    yield from (f"{2 * n + 3}\n" for n in range(live))
+    yield from (f"{gate + 2 * n} {gate + 2 * n - 2 if n > 1 else 4} {2 * n + 2 if n > 1 else 2}\n" for n in range(1, count))
+    yield from (f"{letter}{n} {n}\n" for letter in letters for n in range(count))
+    yield "c\nwide\n"
+
+
 def reset(count):
     """The first state of the wide circuit."""
     return ("01x" * count)[:count]

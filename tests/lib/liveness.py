@@ -303,8 +303,8 @@ def wrong_clauses(program, made, number):
     model, live = images.ascii_text(made), with_loop(made, number)
     if live.largest > LARGEST:
         return None
-    for frames in (1, 2, 5):
-        words = ["aigunroll", "--frames", str(frames), "--cnf"]
+    for frames, option in (1, []), (2, []), (5, []), (3, ["--simplify"]):
+        words = ["aigunroll", "--frames", str(frames), "--cnf", *option]
         came = traces.ran(program, model, *words, "--justice", str(number))
         wanted = traces.ran(program, images.ascii_text(live), *words)
         if came != wanted:

@@ -1,30 +1,32 @@
 """Compares what the program writes with --simplify with what a plain model makes, and with what was there before, on circuits
 made by chance.
 
-The circuits are those of images.py, and others with many gates over few variables, a part of which are there twice. The program
-must write the text of the circuit that is made here: gate by gate in the order of the image, with what stands for the operands
-looked up each time anew. That circuit must have no more gates than the image, all of them needed, none with a constant or with
-equal operands, and no two alike; inputs, latches, counts and names must be those of the source; and simplified once more it must
-come back. Its traces, with x, must be those that the source's own equations give, and each literal of a justice property and each
-fairness constraint must be as the source's is in each step.
+The circuits are those of images.py, and others with many gates over few variables, a part of which are there twice. The
+program must write the text of the circuit that is made here: gate by gate in the order of the image, with what stands for the
+operands looked up each time anew. That circuit must have no more gates than the image, all of them needed, none with a constant
+or with equal operands, and no two alike; inputs, latches, counts and names must be those of the source; and simplified once more
+it must come back. Its traces, with x, must be those that the source's own equations give, and each literal of a justice property
+and each fairness constraint must be as the source's is in each step.
 
-Unrolled circuits must be those of unrolled.py simplified, and do in one step what the source does in several. Clauses are those of
-what is left without outputs: a search over all inputs must say of them what it says of those of the whole, and so must cadical.
-What shows that they cannot be satisfied, made as in refutations.py and mostly spoiled, must be judged by --simplify as a plain
-checker judges it. Answers must give the same witness as without. The same is done with miters and invariants.
+Unrolled circuits must be those of unrolled.py simplified, and do in one step what the source does in several. Clauses are those
+of what is left without outputs: a search over all inputs must say of them what it says of those of the whole, and so must
+cadical. What shows that they cannot be satisfied, made as in refutations.py and mostly spoiled, must be judged by --simplify as
+a plain checker judges it. Answers must give the same witness as without. The same is done with miters and invariants, and with
+what is made of a justice property, as a circuit and as clauses.
 """
 import dataclasses
 import random
 import shutil
 from pathlib import Path
 
-from lib import answers, images, invariants, miters, refutations, traces, unrolled
+from lib import answers, images, invariants, liveness, miters, refutations, traces, unrolled
 
 CIRCUITS = 1000
 UNROLLED = 300
 REFUTED = 300
 PAIRS = 200
 INVARIANTS = 150
+LIVE = 150
 
 
 def negated(literal, sign):
@@ -57,7 +59,8 @@ def folded(it):
 
 def with_literals(it, of):
     """The circuit by what stands for the literals that it shows."""
-    lists = {name: [of(literal) for literal in getattr(it, name)] for name in ("nexts", "outputs", "bad", "constraints", "fairness")}
+    names = "nexts", "outputs", "bad", "constraints", "fairness"
+    lists = {name: [of(literal) for literal in getattr(it, name)] for name in names}
     return dataclasses.replace(it, **lists, justice=[[of(literal) for literal in property] for property in it.justice])
 
 
@@ -157,7 +160,8 @@ def crowded(chance):
     gates = [(of(own), of(right), of(left)) for own, left, right in made.gates if own // 2 in again] + made.gates
     chance.shuffle(gates)
     largest = max([made.largest, *(gate[0] // 2 for gate in gates)])
-    return with_literals(dataclasses.replace(made, largest=largest, gates=gates), lambda it: of(it) if chance.randrange(2) else it)
+    made = dataclasses.replace(made, largest=largest, gates=gates)
+    return with_literals(made, lambda it: of(it) if chance.randrange(2) else it)
 
 
 def circuit(chance):
@@ -297,6 +301,19 @@ def judge_invariant(program, folder, at):
     return wrong_one and f"{images.ascii_text(made)!r}, {text!r} and {proof!r}: {wrong_one}"
 
 
+def judge_live(program, made, number):
+    """What is wrong with what is left of the circuit for a justice property, or with its clauses over some frames."""
+    source, live, justice = images.ascii_text(made), liveness.with_loop(made, number), str(number)
+    if live.largest > liveness.LARGEST:
+        return None
+    frames, left = 1 + number % 3, simplified(live)
+    words = ["aigtoaig", "--justice-as-bad", justice, "--simplify"]
+    asked = [(source, words, (images.binary_text(left), b"", 0))]
+    asked.append((source, [*words, "--ascii"], (images.ascii_text(left), b"", 0)))
+    words = [*answers.words_of(frames, None), "--justice", justice, "--simplify", "--cnf"]
+    return first_wrong(program, [*asked, (source, words, (clauses(live, frames), b"", 0))])
+
+
 def cases(program, folder):
     chance = random.Random(41)
     for number in range(CIRCUITS):
@@ -312,3 +329,7 @@ def cases(program, folder):
         yield judge_clauses, program, folder, at
     for at in range(INVARIANTS):
         yield judge_invariant, program, folder, at
+    for _ in range(LIVE):
+        made = liveness.circuit(chance)
+        for number in range(len(made.justice)):
+            yield judge_live, program, made, number

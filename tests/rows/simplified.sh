@@ -275,6 +275,8 @@ rows_simplified_answers() {
         unreached "a simplified answer of fewer frames, by '$option'" 1 "$yes -1 0\n" $option
         model "$two"
         answers "a simplified answer for one of two bad states, by '$option'" 1 "$yes -1 2 -3 -4 0\n" '1\nb1\n\n10\n.\n' --bad 1 $option
+        model "$takes"
+        answers "a simplified answer for a justice property, by '$option'" 3 "$yes 2 4 5 0\n" '1\nj0\n0\n1\n1\n.\n' --justice 0 $option
     done
 }
 

@@ -686,6 +686,7 @@ refused 'a map in ASCII' 'aiger: --keep-map needs binary output' aigtoaig --keep
 refused 'a map to a name that ends in .aag' 'aiger: --keep-map needs binary output' aigtoaig --keep-map - "$files/b.aag"
 refused 'a map of a stripped circuit' 'aiger: --keep-map excludes --strip' aigtoaig --keep-map --strip --undo-map
 refused 'a map kept and undone' 'aiger: --keep-map excludes --undo-map' aigtoaig --keep-map --undo-map
+refused 'a map of a simplified circuit' 'aiger: --keep-map excludes --simplify' aigtoaig --keep-map --simplify a.aig
 refused 'a map of outputs as bad states' 'aiger: --outputs-as-bad excludes --keep-map' aigtoaig --outputs-as-bad --keep-map
 refused 'a map undone to outputs as bad states' 'aiger: --outputs-as-bad excludes --undo-map' aigtoaig --undo-map --outputs-as-bad
 refused 'outputs and justice as bad states' 'aiger: --justice-as-bad excludes --outputs-as-bad, --keep-map and --undo-map' aigtoaig --outputs-as-bad --justice-as-bad 0
@@ -720,9 +721,10 @@ grep '^  aiger aigtoaig ' "$work/out" | sed 's/^  aiger/"$program"/; s/   .*//' 
 sed '1s/$/ 0 0 1/; 5a 1\n2' "$source" > "$files/model.aag"
 aig < "$files/model.aag" > "$work/live_binary"
 ran=$(cd "$files" && set -e && . "$work/examples" 2>&1 && echo all)
-if [ "$ran" = all ] && [ "$(wc -l < "$work/examples")" = 6 ] && grep -aq '^aigmap 1 ' "$files/image.aig" &&
+if [ "$ran" = all ] && [ "$(wc -l < "$work/examples")" = 7 ] && grep -aq '^aigmap 1 ' "$files/image.aig" &&
     grep -q '^aag 5 2 0 0 3 2 0 1$' "$files/bad.aag" && cmp -s "$files/model.aig" "$work/live_binary" &&
-    grep -aq '^aig 15 3 2 2 10 1$' "$files/live.aig" && cmp -s "$files/again.aag" "$files/model.aag"; then pass; else
+    grep -aq '^aig 15 3 2 2 10 1$' "$files/live.aig" && cmp -s "$files/again.aag" "$files/model.aag" &&
+    cmp -s "$files/small.aig" "$work/live_binary"; then pass; else
     fail 'the examples of help run' "came   $ran, of" "$(cat "$work/examples")"
 fi
 helps 'help of aigsim' aigsim --help
@@ -741,9 +743,10 @@ fi
 helps 'help of aigunroll' aigunroll --help
 # its examples too; the half adder has no latches, so each frame is a copy of it. In the place of the solver is one that
 # knows how its carry is 1 in the first frame, and that it is never 1 beside 0, which is the model of the examples after
-# that; and ABC's invariant is empty. The model of the last one is a toggle that is to be 1 again and again.
+# that; and ABC's invariant is empty. The model of the last but one is a toggle that is to be 1 again and again.
 grep '^  aiger aigunroll \|^  cadical \|^  berkeley-abc ' "$work/out" |
-    sed 's/^  aiger/"$program"/; s/   .*//; /--justice/s/^/cp toggle.aag model.aig; /' > "$work/examples"
+    sed 's/^  aiger/"$program"/; s/   .*//; /--justice/s/^/cp toggle.aag model.aig; /; /--simplify/s/^/cp beside.aag model.aig; /' \
+        > "$work/examples"
 printf 'aag 1 0 1 0 0 0 0 1\n2 3\n1\n2\n' > "$files/toggle.aag"
 "$program" aigtoaig --justice-as-bad 0 "$files/toggle.aag" | "$program" aigunroll --frames 20 --cnf > "$work/live_clauses"
 aig "$files/model.aag" "$files/model.aig"
@@ -758,7 +761,8 @@ cadical() {
 }
 berkeley-abc() { [ "$*" = '-c read model.aig; pdr -d -e -I model.pla' ] && echo '.e' > model.pla; }
 ran=$(cd "$files" && set -e && . "$work/examples" 2>&1 && echo all)
-if [ "$ran" = $'none within 20\nnever\nall' ] && [ "$(wc -l < "$work/examples")" = 13 ] &&
+if [ "$ran" = $'none within 20\nnever\nall' ] && [ "$(wc -l < "$work/examples")" = 14 ] &&
+    [ "$(< "$files/small.cnf")" = $'p cnf 41 2\n-1 0\n'"$(yes 1 | head -n 20 | tr '\n' ' ')0" ] &&
     cmp -s "$files/long.aig" "$work/want_file" && cmp -s "$files/live.cnf" "$work/live_clauses" &&
     cmp -s "$files/out" "$work/want_file" && cmp -s "$files/two.aag" "$work/frames" &&
     [ "$(sim --witness "$files/model.aag" "$files/witness.txt")" = 'confirmed 0' ]; then pass; else

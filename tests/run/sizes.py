@@ -27,7 +27,7 @@ from pathlib import Path
 sys.dont_write_bytecode = True
 sys.path[0] = str(Path(__file__).resolve().parent.parent)
 from lib import answers, counts, long_refutations, waves
-from lib.large import claim, conjunctions, contradiction, dump, inputs, trace, wide, write
+from lib.large import claim, conjunctions, contradiction, dump, inputs, left_of_wide, trace, wide, write
 
 # bytes: a large file, and what a run may take; seconds that a run may take
 MANY, MEMORY, PATIENCE = 70_000_000, 1_500_000_000, 300
@@ -35,6 +35,8 @@ MANY, MEMORY, PATIENCE = 70_000_000, 1_500_000_000, 300
 LINES, GATES, RUNS = 500_000, 4_000_000, 20_000
 # bytes for a simulation of the chain: with a place in a table for each gate it would take more
 FEW = 250_000_000
+# bytes to simplify one of which no gate goes: 40 for each gate, and the program's
+SIMPLIFYING = 170_000_000
 # latches and inputs to simulate; inputs of a long stimulus; frames, and gates in each
 WIDTH, INPUTS, FRAMES, CARRIED = 5_000, 1_000, 1_000, 1_000
 # signals of each kind in a dump, and steps of one
@@ -133,6 +135,25 @@ def large_chains(room):
     with memory(FEW):
         room.gives("aigsim ordered", "steps", "trace")
         room.gives("aigsim --batch ordered", "steps", "trace")
+
+
+def large_simplified(room):
+    """A chain whose gates are the input alone, and one of which none goes; and sections of which one gate goes."""
+    write("chain", chain(range(GATES, 0, -1)))
+    write("left", b"aag 1 1 0 1 0\n2\n2\n")
+    room.gives("aigtoaig --simplify --ascii", "chain", "left")
+    write("ordered", chain_over_two(range(GATES)))
+    with memory(SIMPLIFYING):
+        room.gives("aigtoaig --simplify --ascii", room.made("aigtoaig", "ordered", "binary"), "ordered")
+    write("wide", wide(LINES, range(LINES - 1, -1, -1), "ilobcjf"))
+    write("left", left_of_wide(LINES, "ilobcjf"))
+    room.gives("aigtoaig --simplify --ascii", "wide", "left")
+
+
+def chain_over_two(places):
+    """The gates of these places, each over the one before it and the input that it is not."""
+    yield f"aag {GATES + 2} 2 0 1 {GATES}\n2\n4\n{2 * GATES + 4}\n"
+    yield from (f"{2 * place + 6} {2 * place + 4} {2 + place % 2}\n" for place in places)
 
 
 def large_tails(room):
@@ -505,7 +526,8 @@ def window_edges(room):
 
 JUDGES = [large_chains, large_tails, large_sections, many_runs, many_signals, many_latches, long_stimuli, long_dumps]
 JUDGES += [many_frames, many_clauses, large_answers, large_refutations, large_invariants, large_miters, many_names]
-JUDGES += [frames_of_nothing, window_edges, moved_refutations, growing_refutations, steady_refutations, numbered_refutations]
+JUDGES += [large_simplified, frames_of_nothing, window_edges, moved_refutations, growing_refutations, steady_refutations]
+JUDGES += [numbered_refutations]
 
 
 def main(program, name=""):

@@ -128,6 +128,18 @@ def deep(room):
     checked.judge(said, [Truth("deep.late", "deep.sv:4", 60)])
 
 
+def deep_kept(room):
+    """The same, and what is kept of it: the counter has no input, so that its clauses fold, and the script has to say so."""
+    need_tools("yosys", "cadical")
+    placed(room)
+    room.may_write.add("kept")
+    said = room.run("--keep", "kept", "--top", "deep", "deep.sv", changes={"ABC": "false"})
+    found = checked.judge(said, [Truth("deep.late", "deep.sv:4", 60)])
+    checked.judge_kept(room, room.here / "kept", found, said)
+    script = (room.here / "kept" / "deep.late.check.sh").read_text(encoding="utf-8")
+    checked.need(" --simplify " in script, f"it checks other clauses: {script}", said)
+
+
 def deep_with_abc(room):
     """ABC finds it, so that it may be said to be reached."""
     need_tools(*TOOLS)
@@ -306,6 +318,7 @@ def rows():
         yield f"the runs of {top} replayed", each(replayed, designs.named(top))
     yield "assumptions that contradict one another", contradiction
     yield "deeper than the bound", deep
+    yield "deeper than the bound, and kept", deep_kept
     yield "deeper than the bound, by ABC", deep_with_abc
     yield "what is left out", left_out
     yield "fairness that is left out", fairness_left_out
