@@ -321,9 +321,8 @@ Write a circuit with fewer gates that has the same
 traces; not with --keep-map";
 
 const SIMPLIFY_UNROLLED_HELP: &str = "\
-Simplify the unrolled circuit first; with --cnf, and
-then also with --answer and --refutation, keep only what
-bad states need";
+Simplify the unrolled circuit first; with --cnf or
+--refutation keep only what bad states need";
 
 const SIMPLIFY_MITER_HELP: &str = "\
 Simplify the miter, so that what is built alike in both

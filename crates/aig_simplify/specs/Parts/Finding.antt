@@ -1,5 +1,5 @@
 -- Gates that are looked up by their operands: the places of those with the same mark are a chain.
-use Rattle.std.specs.Prelude.{◌≡◌, ◌-◌, ◌*◌, ◌/◌, ◌%◌, ◌^◌, ◌<◌, ◌≤◌, ℕ, suc, List, length, slice_index_or}
+use Rattle.std.specs.Prelude.{◌≡◌, ◌+◌, ◌-◌, ◌*◌, ◌/◌, ◌%◌, ◌^◌, ◌<◌, ◌≤◌, ℕ, suc, List, length, slice_index_or}
 use Rattle.std.specs.Int.Bits.{bit_and, bit_xor}
 use Rattle.aig_circuit.specs.declared.circuit.Gate.{Gate}
 use Rattle.aig_simplify.specs.declared.finder.Finder.{Finder}
@@ -7,11 +7,14 @@ use Rattle.aig_simplify.specs.Folded.{HasSameOperands, NeedsGate}
 use Rattle.aig_simplify.specs.Parts.Folding.{IsFirst, gate_at}
 
 abbrev pub mixed : Gate → ℕ
-mixed g = bit_xor (g.left * 2654435769 % 2 ^ 32) (g.right * 2246822519 % 2 ^ 32)
+mixed g = (g.left * 2654435769 % 2 ^ 32 + g.right) % 2 ^ 32
 
--- the mark of a gate: that of its operands
+abbrev pub spread : Gate → ℕ
+spread g = bit_xor (mixed g) (mixed g / 2 ^ 15) * 2246822519 % 2 ^ 32
+
+-- the mark of a gate: that of its operands, of which no two that are near one another should have the same
 abbrev pub mark_of : Gate → ℕ
-mark_of g = bit_xor (mixed g) (mixed g / 2 ^ 15)
+mark_of g = bit_xor (spread g) (spread g / 2 ^ 13)
 
 -- a link: one more than a place, or 0
 abbrev pub link_at : List ℕ → ℕ → ℕ

@@ -26,8 +26,10 @@ returns-clause-read g c =
     (λ bytes file. record {
       second = second;
       made = c.in_ok-made.made;
+      written = c.in_ok-written.written;
       read = file;
       is_made = c.in_ok-made.ensures.ok;
+      is_written = c.in_ok-written.ensures;
       written_as = c.in_ok-convert_as.ensures.text;
     })
     c.in_ok-second.ensures
