@@ -754,8 +754,9 @@ def check_numbers(program):
     judge("AIGTOOLS_NO_FAULT is 0", here.pop("NO_FAULT") == "0")
     defined = dict(re.findall(r"^#define AIGTOOLS_(\w+) (\d+)u$", (TOP / "include/aigtools.h").read_text(), re.M))
     large = {name: str(int(it, 16)) for name, it in re.findall(r"pub const (\w+): u32 = (0x\w+);", "".join(sources))}
-    module = {"LARGEST": aigtools.LARGEST, "ALL_BAD": aigtools._ALL_BAD, "JUSTICE": aigtools.JUSTICE}
-    judge("the numbers of properties", large.items() <= defined.items() and len(large) == 2, large, defined)
+    module = {"LARGEST": aigtools.LARGEST, "JUSTICE": aigtools.JUSTICE}
+    module |= {name: getattr(aigtools, f"_{name}") for name in ("ALL_BAD", "SIMPLIFIED")}
+    judge("the numbers of properties", large.items() <= defined.items() and len(large) == 3, large, defined)
     judge("and in the Python module", {name: str(it) for name, it in module.items()} == defined, module, defined)
     judge("the numbers of the header", here == there, here, there)
     judge("the kinds of the Python module", {it.name: str(it.value) for it in aigtools.Kind} == kinds, kinds)
