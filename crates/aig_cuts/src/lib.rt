@@ -1,0 +1,7 @@
+//! Clauses of a circuit without latches, of which a multiplexer has four in place of the nine of its
+//! three gates.
+#![tactic(auto)]
+
+mod cut;
+
+pub use crate::cut::{Cut, Multiplexer};
