@@ -3,5 +3,6 @@
 #![tactic(auto)]
 
 mod cut;
+pub mod laws;
 
 pub use crate::cut::{Cut, Multiplexer};
