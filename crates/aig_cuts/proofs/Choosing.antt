@@ -105,7 +105,8 @@ module _ (a : ℕ → Bool) where
       let t = is_true a m.if_one in
       let e = is_true a m.if_zero in
       choice_from (a v) s t e
-      (any_of_three _ _ _ _ _ _ (sym (negation_true a m.selector)) (sym (negation_true a m.if_one)) (sym (negated v)) c.0)
+      (any_of_three _ _ _ _ _ _ (sym (negation_true a m.selector)) (sym (negation_true a m.if_one)) (sym (negated v))
+      c.0)
       (any_of_three _ _ _ _ _ _ (sym (negation_true a m.selector)) refl (sym (variable_true a v)) c.1.0)
       (any_of_three _ _ _ _ _ _ refl (sym (negation_true a m.if_zero)) (sym (negated v)) c.1.1.0)
       (any_of_three _ _ _ _ _ _ refl refl (sym (variable_true a v)) c.1.1.1.0)

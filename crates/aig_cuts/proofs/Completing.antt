@@ -1,16 +1,17 @@
 -- What satisfies the clauses by a plan is completed: each gate that is left out gets its value.
 use Rattle.std.proofs.Common.{◌≡◌, ◌≢◌, ◌∙◌, ◌∷◌, ◌++◌, ◌%◌, ◌&&◌, ◌||◌, ℕ, zero, suc, List, [], Bool, true, false, not}
-use Rattle.std.proofs.Common.{refl, sym, ap, ap₂, subst, inl, inr, ⊎_elim, arith, cond, eqb, map}
+use Rattle.std.proofs.Common.{refl, sym, ap, ap₂, subst, inl, inr, ⊎_elim, arith, cond, eqb, get_or, map}
 use Rattle.std.specs.List.{AllByRecursion, Contains, flat_map, list_any, zip}
 use Rattle.std.proofs.lemmas.Bool.{cond_both}
 use Rattle.std.proofs.lemmas.Bool.Decides.{Decides-eqb}
+use Rattle.std.proofs.lemmas.List.Elements.{recursion_from_All}
 use Rattle.std.proofs.lemmas.Simd.{map-map}
 use Rattle.std.proofs.lemmas.Slice.Zip.{firsts-zip}
 use Rattle.aig_circuit.specs.declared.circuit.Gate.{Gate}
 use Rattle.aig_circuit.specs.declared.circuit.Circuit.{Circuit}
 use Rattle.aig_circuit.specs.Literal.{literal_of, negation_of, variable_of}
 use Rattle.aig_circuit.specs.Wellformed.{AreDistinct, IsAmong, IsVariableUpTo, IsWellFormed, defined_variables}
-use Rattle.aig_circuit.proofs.Checking.{all_weaker, back, each, front, joined}
+use Rattle.aig_circuit.proofs.Checking.{back, each, front, joined}
 use Rattle.aig_topo.proofs.Ordering.Counted.{among_first}
 use Rattle.aig_topo.proofs.Ordering.Cyclic.{among_last}
 use Rattle.aig_meaning.specs.Meaning.{Holds, latch_variables}
@@ -282,7 +283,10 @@ module _ (plan : List Cut) (c : Circuit) (right : IsCutOf plan c) where
         (subst (λ x. IsAmong x (variables_of c.gates)) e (named (h, Inner) h_in)))
 
     kept_bad : list_any (is_true b) c.bad ≡ list_any (is_true a) c.bad
-    kept_bad = same_any a b c.bad (all_weaker _ (λ l. is_true b l ≡ is_true a l) kept_literal c.bad right.bad)
+    kept_bad =
+        same_any a b c.bad
+        (recursion_from_All (λ l. is_true b l ≡ is_true a l) c.bad
+        (λ k l below. kept_literal (get_or c.bad k l) (right.bad k l below)))
 
 pub cuts_follow : CutsFollow
 cuts_follow plan c right a s =

@@ -1,7 +1,7 @@
 -- Clauses where some gates are left out: a gate that is the negation of a multiplexer has four, and the two gates of
 -- which it is made have none (Tseitin's clauses of a multiplexer; this project's profile).
 use Rattle.std.specs.Prelude.{◌≡◌, ◌≢◌, ◌⊎◌, ◌++◌, ℕ, List, [], ◌∷◌, length}
-use Rattle.std.specs.List.{AllByRecursion, Contains, flat_map, zip}
+use Rattle.std.specs.List.{All, Contains, flat_map, zip}
 use Rattle.aig_circuit.specs.declared.circuit.Gate.{Gate}
 use Rattle.aig_circuit.specs.declared.circuit.Circuit.{Circuit}
 use Rattle.aig_circuit.specs.Literal.{literal_of, negation_of, variable_of}
@@ -64,4 +64,4 @@ IsRightAs planned g (Choice m) = IsChoice planned g m
 pub record IsCutOf (plan : List Cut) (c : Circuit) : Type 0 where
   pub many : length plan ≡ length c.gates
   pub gates : (g : Gate) (cut : Cut) → Contains (zip c.gates plan) (g, cut) → IsRightAs (zip c.gates plan) g cut
-  pub bad : AllByRecursion (λ l. IsKept (zip c.gates plan) (variable_of l)) c.bad
+  pub bad : All (λ (l : ℕ). IsKept (zip c.gates plan) (variable_of l)) c.bad

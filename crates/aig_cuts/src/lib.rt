@@ -1,8 +1,10 @@
-//! Clauses of a circuit without latches, of which a multiplexer has four in place of the nine of its
+//! Clauses of a circuit without latches, where a multiplexer has four in place of the nine of its
 //! three gates.
 #![tactic(auto)]
 
+mod check;
 mod cut;
 pub mod laws;
 
+pub use crate::check::is_cut;
 pub use crate::cut::{Cut, Multiplexer};
