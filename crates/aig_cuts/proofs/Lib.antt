@@ -1,3 +1,4 @@
 pub mod Choosing
 pub mod Completing
 pub mod Looking
+pub mod Plain

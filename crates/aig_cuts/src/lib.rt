@@ -4,7 +4,10 @@
 
 mod check;
 mod cut;
+mod finder;
 pub mod laws;
+mod plan;
 
 pub use crate::check::is_cut;
 pub use crate::cut::{Cut, Multiplexer};
+pub use crate::plan::cuts_of;
