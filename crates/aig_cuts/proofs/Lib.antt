@@ -2,3 +2,4 @@ pub mod Choosing
 pub mod Completing
 pub mod Looking
 pub mod Plain
+pub mod Written

@@ -3,11 +3,13 @@
 #![tactic(auto)]
 
 mod check;
+mod clauses;
 mod cut;
 mod finder;
 pub mod laws;
 mod plan;
 
 pub use crate::check::is_cut;
+pub use crate::clauses::write_cut_clauses;
 pub use crate::cut::{Cut, Multiplexer};
 pub use crate::plan::cuts_of;
