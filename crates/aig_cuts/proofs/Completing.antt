@@ -66,13 +66,13 @@ no_choice m is = cc
 
 module _ (a : ℕ → Bool) where
   -- values of gates that are left out, and else those of before
-  pub completed : List Planned → ℕ → Bool
+  completed : List Planned → ℕ → Bool
   completed [] v = a v
   completed ((g, Plain) ∷ ps) v = completed ps v
   completed ((g, Inner) ∷ ps) v = cond (eqb g.var v) (value a g) (completed ps v)
   completed ((g, Choice m) ∷ ps) v = completed ps v
 
-  pub completed_kept : (ps : List Planned) (v : ℕ) → IsKept ps v → completed ps v ≡ a v
+  completed_kept : (ps : List Planned) (v : ℕ) → IsKept ps v → completed ps v ≡ a v
   unfolding completed
   completed_kept [] v out = refl
   completed_kept ((g, Plain) ∷ ps) v out = completed_kept ps v (λ h i. out h (later (g, Plain) ps (h, Inner) i))
@@ -83,7 +83,7 @@ module _ (a : ℕ → Bool) where
       (λ e. absurd (out g (here (g, Inner) ps) ((Decides-eqb g.var v).0 e)))
       (λ _. completed_kept ps v (λ h i. out h (later (g, Inner) ps (h, Inner) i)))
 
-  pub completed_inner : (ps : List Planned) (g : Gate) → Contains ps (g, Inner)
+  completed_inner : (ps : List Planned) (g : Gate) → Contains ps (g, Inner)
       → ((h : Gate) → Contains ps (h, Inner) → h.var ≡ g.var → h ≡ g) → completed ps g.var ≡ value a g
   unfolding completed
   completed_inner [] g (k, below, is) only = absurd (omega (arith, below))

@@ -22,6 +22,7 @@ choice_clauses v m =
 abbrev pub Planned : Type 0
 Planned = Gate × Cut
 
+-- the clauses of a gate that is written so
 abbrev pub clauses_as : Gate → Cut → List (List ℕ)
 clauses_as g Plain = gate_clauses g
 clauses_as g Inner = []
