@@ -1,13 +1,20 @@
 //! The clauses by a plan, one gate after the other.
-ghost use Rattle.std.specs.Prelude.{◌≡◌, OnOk};
+ghost use Rattle.std.specs.Prelude.{◌≡◌, [], ◌∷◌, OnOk};
 ghost use Rattle.std.specs.List.{zip};
 ghost use Rattle.aig_cuts.specs.Cuts.{choice_clauses, clauses_as, planned_clauses};
-ghost use Rattle.aig_refute.specs.Refuted.{GainsAll};
+ghost use Rattle.aig_refute.specs.Refuted.{Gains, GainsAll};
 
 use aig_circuit::{Gate, LARGEST, Lit, Var};
 use aig_cuts::{Cut, Multiplexer};
 use aig_refute::Checker;
 use std::alloc::AllocError;
+
+/// Adds a clause of three literals.
+fn add_three(checker: &mut Checker, first: Lit, second: Lit, third: Lit) -> Result<(), AllocError>
+    ensures { OnOk result (Gains (first ∷ second ∷ third ∷ []) checker.old checker.new) }
+{
+    checker.add_given(&[first.0, second.0, third.0])
+}
 
 /// Adds that a variable is the negation of what a multiplexer chooses. There is no room for that
 /// where the variable has no literals of 32 bits.
@@ -28,10 +35,10 @@ fn add_choice(
         if_one,
         if_zero,
     } = multiplexer;
-    checker.add_given(&[selector.negated().0, if_one.negated().0, own.negated().0])?;
-    checker.add_given(&[selector.negated().0, if_one.0, own.0])?;
-    checker.add_given(&[selector.0, if_zero.negated().0, own.negated().0])?;
-    checker.add_given(&[selector.0, if_zero.0, own.0])?;
+    add_three(checker, selector.negated(), if_one.negated(), own.negated())?;
+    add_three(checker, selector.negated(), if_one, own)?;
+    add_three(checker, selector, if_zero.negated(), own.negated())?;
+    add_three(checker, selector, if_zero, own)?;
     Ok(())
 }
 
