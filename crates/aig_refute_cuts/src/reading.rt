@@ -32,9 +32,11 @@ fn checker_of(
     Ok(checker)
 }
 
-/// Reads a refutation of the clauses by a plan, by which a bad state of a circuit without latches is
-/// 1, to its end, or up to a piece with a wrong line. The plan need not be right for the circuit:
-/// what is checked is that these clauses are refuted. Gates behind the last of the plan have none.
+/// Reads a refutation of the clauses by a plan by which a bad state of a circuit without latches is
+/// 1, to its end, or up to a piece with a wrong line. Where unit propagation alone refutes them, it
+/// may say anything. The plan need not be right for the circuit, and gates behind its end have no
+/// clauses. The error is that a line is wrong, that nothing was refuted, that the source failed, or
+/// that memory is refused, as for a literal of the plan that the circuit does not have.
 pub fn check_cut_refutation<R: Source>(
     alloc: Global,
     format: RefutationFormat,
