@@ -62,8 +62,8 @@ impl Checker {
         Checker::with_room(alloc, format, literals, &[])
     }
 
-    /// The same, with room for the clauses of gates, of which none is added. The error is that memory
-    /// is refused.
+    /// The same, with room for the clauses of gates, none of which is added. The error is that
+    /// memory is refused.
     pub fn with_room(
         alloc: Global,
         format: RefutationFormat,
@@ -109,8 +109,8 @@ impl Checker {
         Ok(())
     }
 
-    /// Adds a clause that holds. The error is that memory is refused, or that the clause has a literal
-    /// that is not below `literals`.
+    /// Adds a clause that holds. The error is that memory is refused, or that the clause has a
+    /// literal that is not below `literals`.
     pub fn add_given(&mut self, clause: &[u32]) -> Result<(), AllocError>
         ensures { OnOk result (Gains clause.now self.old self.new) }
     {
