@@ -62,8 +62,9 @@ impl Checker {
         Checker::with_room(alloc, format, literals, &[])
     }
 
-    /// The same, with room for the clauses of gates.
-    pub(crate) fn with_room(
+    /// The same, with room for the clauses of gates, none of which is added. The error is that
+    /// memory is refused.
+    pub fn with_room(
         alloc: Global,
         format: RefutationFormat,
         literals: usize,
@@ -108,8 +109,9 @@ impl Checker {
         Ok(())
     }
 
-    /// Adds a clause that holds.
-    pub(crate) fn add_given(&mut self, clause: &[u32]) -> Result<(), AllocError>
+    /// Adds a clause that holds. The error is that memory is refused, or that the clause has a
+    /// literal that is not below `literals`.
+    pub fn add_given(&mut self, clause: &[u32]) -> Result<(), AllocError>
         ensures { OnOk result (Gains clause.now self.old self.new) }
     {
         list_clause(

@@ -7,7 +7,7 @@
 //! believed, and neither are the hints of LRAT: they tell which clauses are looked at first.
 //!
 //! Others call `check_refutation` with a circuit and a source; or parts of that, a `Checker`, which
-//! is given clauses, and `read_refutation`.
+//! is given clauses over the literals below `literals_of` a circuit, and `read_refutation`.
 //!
 //! The definitions that matter most are `Admits` and `RefutationSays`.
 #![tactic(auto)]
@@ -29,4 +29,4 @@ mod words;
 
 pub use crate::checker::Checker;
 pub use crate::reader::{RefutationFormat, RefutationReader};
-pub use crate::reading::{check_refutation, read_refutation};
+pub use crate::reading::{check_refutation, literals_of, read_refutation};

@@ -1,0 +1,5 @@
+pub mod Choosing
+pub mod Completing
+pub mod Looking
+pub mod Plain
+pub mod Written

@@ -1,0 +1,54 @@
+-- The text of a circuit's clauses as a plan has them, put part by part.
+use Rattle.std.proofs.Common.{◌≡◌, ◌+◌, ◌++◌, ◌∙◌, ◌∷◌, ℕ, List, [], ap, ap₂, append-nil, append_assoc, arith, codes}
+use Rattle.std.proofs.Common.{length, length-append, refl, sum_by, sym}
+use Rattle.std.specs.List.{flat_map, zip}
+use Rattle.std.proofs.lemmas.List.Concat.{flat_map-append}
+use Rattle.std.proofs.lemmas.List.Sums.{sum_by-cons}
+use Rattle.aig_circuit.specs.declared.circuit.Circuit.{Circuit}
+use Rattle.aig_circuit.specs.declared.circuit.Gate.{Gate}
+use Rattle.aig_cnf.specs.ClauseText.{clause_text, clauses_header, literals_text}
+use Rattle.aig_cuts.specs.declared.cut.Cut.{Cut}
+use Rattle.aig_cuts.specs.declared.cut.Cut.TheVariants.{Plain, Inner, Choice}
+use Rattle.aig_cuts.specs.CutText.{cut_text}
+use Rattle.aig_cuts.specs.Cuts.{Planned, clauses_as, cut_clauses, planned_clauses}
+use Rattle.aig_cuts.specs.Parts.Counted.{clause_count, planned_text}
+
+gate_count : (g : Gate) (cut : Cut) → length (clauses_as g cut) ≡ clause_count cut
+gate_count g Plain = refl
+gate_count g Inner = refl
+gate_count g (Choice m) = refl
+
+planned_count : (gates : List Gate) (plan : List Cut) → length plan ≡ length gates
+    → length (planned_clauses (zip gates plan)) ≡ sum_by clause_count plan
+planned_count [] [] many = refl
+planned_count [] (cut ∷ cuts) many = absurd (omega (arith, many))
+planned_count (g ∷ gs) [] many = absurd (omega (arith, many))
+planned_count (g ∷ gs) (cut ∷ cuts) many =
+    length-append (clauses_as g cut) (planned_clauses (zip gs cuts))
+    ∙ ap₂ (λ (x y : ℕ). x + y) (gate_count g cut) (planned_count gs cuts (omega (arith, many)))
+    ∙ sym (sum_by-cons clause_count cut cuts)
+
+pub cut_count : (plan : List Cut) (c : Circuit) → length plan ≡ length c.gates
+    → sum_by clause_count plan + 2 ≡ length (cut_clauses plan c)
+cut_count plan c many =
+    omega (arith, length-append (planned_clauses (zip c.gates plan)) (c.bad ∷ []), planned_count c.gates plan many)
+
+planned_text_is : (ps : List Planned) → flat_map clause_text (planned_clauses ps) ≡ flat_map planned_text ps
+planned_text_is [] = refl
+planned_text_is (p ∷ ps) =
+    flat_map-append clause_text (clauses_as p.0 p.1) (planned_clauses ps)
+    ∙ ap (λ (text : List ℕ). planned_text p ++ text) (planned_text_is ps)
+
+pub cut_parts : (plan : List Cut) (c : Circuit) → clauses_header (c.max_var + 1) (length (cut_clauses plan c))
+    ++ (clause_text (1 ∷ []) ++ (flat_map planned_text (zip c.gates plan) ++ (literals_text c.bad ++ codes "0\n")))
+    ≡ cut_text plan c
+unfolding cut_text
+cut_parts plan c =
+    let planned = zip c.gates plan in
+    let first = clause_text (1 ∷ []) in
+    let gates = flat_map planned_text planned in
+    let bad = clause_text c.bad in
+    ap (λ (text : List ℕ). clauses_header (c.max_var + 1) (length (cut_clauses plan c)) ++ text)
+    (sym (flat_map-append clause_text ((1 ∷ []) ∷ planned_clauses planned) (c.bad ∷ [])
+    ∙ ap₂ (λ (xs ys : List ℕ). (first ++ xs) ++ ys) (planned_text_is planned) (append-nil bad)
+    ∙ append_assoc first gates bad))

@@ -1,0 +1,4 @@
+pub mod Cuts
+pub mod CutText
+pub mod Laws
+pub mod Parts
