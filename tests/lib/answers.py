@@ -30,12 +30,13 @@ def number(literal):
     return -(literal // 2 + 1) if literal % 2 else literal // 2 + 1
 
 
-def text_of_clauses(it):
+def gate_clauses(own, left, right):
+    return [own ^ 1, left], [own ^ 1, right], [own, left ^ 1, right ^ 1]
+
+
+def text_of_clauses(it, of_gate=gate_clauses):
     """The text of the clauses by which a bad state of a circuit without latches is 1."""
-    found = [[1]]
-    for own, left, right in it.gates:
-        found += [[own ^ 1, left], [own ^ 1, right], [own, left ^ 1, right ^ 1]]
-    found.append(it.bad)
+    found = [[1], *(clause for gate in it.gates for clause in of_gate(*gate)), it.bad]
     lines = [" ".join(map(str, [*map(number, clause), 0])) for clause in found]
     return "\n".join([f"p cnf {it.largest + 1} {len(lines)}", *lines, ""]).encode()
 

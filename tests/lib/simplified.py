@@ -9,11 +9,12 @@ it must come back. Its traces, with x, must be those that the source's own equat
 and each fairness constraint must be as the source's is in each step.
 
 Unrolled circuits must be those of unrolled.py simplified, and do in one step what the source does in several. Clauses are those
-of what is left without outputs: a search over all inputs must say of them what it says of those of the whole, and so must
+of what is left without outputs, with multiplexers as one: a search over all inputs must say of them what it says of those of the whole, and so must
 cadical. What shows that they cannot be satisfied, made as in refutations.py and mostly spoiled, must be judged by --simplify as
 a plain checker judges it. Answers must give the same witness as without. The same is done with miters and invariants, and with
 what is made of a justice property, as a circuit and as clauses.
 """
+import collections
 import dataclasses
 import random
 import shutil
@@ -87,9 +88,45 @@ def without_outputs(made):
     return dataclasses.replace(made, outputs=[], symbols="")
 
 
+def multiplexer(one, other):
+    """What decides, and what is chosen where that is 1 and where it is 0, if gates with these operands make a multiplexer."""
+    selector, if_one = one if one[0] ^ 1 in other else reversed(one)
+    if selector ^ 1 not in other:
+        return None
+    return selector, if_one, other[1] if other[0] == selector ^ 1 else other[0]
+
+
+def multiplexers(it):
+    """The gates that are the negation of a multiplexer, and those of which they are made, which nothing else uses."""
+    operands = {own // 2: of for own, *of in it.gates}
+    uses = collections.Counter(literal // 2 for literals in (*operands.values(), it.bad) for literal in literals)
+    choices, inner = {}, set()
+    for own, *of in it.gates:
+        parts = {literal // 2 for literal in of if literal % 2 and uses[literal // 2] == 1} & operands.keys()
+        if len(parts) == 2 and not parts & (choices.keys() | inner):
+            found = multiplexer(*(operands[literal // 2] for literal in of))
+            if found:
+                choices[own // 2] = found
+                inner |= parts
+    return choices, inner
+
+
+def text_of_clauses(it):
+    """The clauses of a circuit without latches, where a multiplexer has four, as a text."""
+    choices, inner = multiplexers(it)
+
+    def of_gate(own, left, right):
+        if own // 2 not in choices:
+            return () if own // 2 in inner else answers.gate_clauses(own, left, right)
+        by, one, zero = choices[own // 2]
+        return [by ^ 1, one ^ 1, own ^ 1], [by ^ 1, one, own], [by, zero ^ 1, own ^ 1], [by, zero, own]
+
+    return answers.text_of_clauses(it, of_gate)
+
+
 def clauses(made, frames):
     """The clauses of what is left of the unrolled circuit, as a text."""
-    return answers.text_of_clauses(simplified(without_outputs(unrolled.unrolled(made, frames))))
+    return text_of_clauses(simplified(without_outputs(unrolled.unrolled(made, frames))))
 
 
 def wanted_clauses(made, frames):

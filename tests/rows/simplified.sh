@@ -224,6 +224,7 @@ simple_clauses() { clauses "$1" "$2" "$3" "$4" --simplify "${@:5}"; }
 
 # what is left for bad states alone: they are written though they are constants, equal, or inputs
 rows_simplified_clauses() {
+    local chosen='aag 6 3 0 0 3 1\n2\n4\n6\n12\n8 4 2\n10 6 3\n12 11 9\n'
     local sections='aag 4 1 2 1 1 2 2\n2\n4 3 1\n6 4 6\n8\n6\n7\n9\n2\n8 6 3\n' shown='aag 4 2 0 1 2 1\n2\n4\n6\n8\n6 4 2\n8 5 2\n'
     simple_clauses 'simplified clauses of a toggle' 1 "$toggle" 'p cnf 1 2\n-1 0\n1 0\n'
     simple_clauses 'simplified clauses of a toggle, two frames' 2 "$toggle" 'p cnf 1 2\n-1 0\n1 -1 0\n'
@@ -241,6 +242,9 @@ rows_simplified_clauses() {
     simple_clauses 'gates of next states are not, behind the last frame' 1 'aag 4 2 1 0 1 1\n2\n4\n6 8\n2\n8 4 2\n' 'p cnf 3 2\n-1 0\n2 0\n'
     simple_clauses 'an input and its negation in simplified clauses' 1 'aag 2 1 0 0 1 1\n2\n4\n4 2 3\n' \
         'p cnf 3 5\n-1 0\n-3 -2 0\n-3 2 0\n3 2 -2 0\n3 0\n'
+    simple_clauses 'a multiplexer in simplified clauses' 1 "$chosen" 'p cnf 7 6\n-1 0\n2 -4 -7 0\n2 4 7 0\n-2 -3 -7 0\n-2 3 7 0\n7 0\n'
+    simple_clauses 'a multiplexer with a gate that is a bad state' 1 'aag 6 3 0 0 3 2\n2\n4\n6\n12\n8\n8 4 2\n10 6 3\n12 11 9\n' \
+        'p cnf 7 11\n-1 0\n-5 3 0\n-5 2 0\n5 -3 -2 0\n-6 4 0\n-6 -2 0\n6 -4 2 0\n-7 -6 0\n-7 -5 0\n7 6 5 0\n7 5 0\n'
     simple_clauses 'simplified clauses of each section' 2 "$sections" \
         "p cnf 10 20\n-1 0\n-5 -3 0\n-5 2 0\n5 3 -2 0\n-6 -5 0\n-6 3 0\n6 5 -3 0\n-7 6 0\n-7 2 0\n7 -6 -2 0\n$(
         )-8 6 0\n-8 -2 0\n8 -6 2 0\n-9 6 0\n-9 4 0\n9 -6 -4 0\n-10 9 0\n-10 4 0\n10 -9 -4 0\n7 8 10 1 0\n"
@@ -292,9 +296,12 @@ rows_simplified_refutations() {
     simply 'a refutation of simplified clauses of one bad state' 1 '3 0\n' --bad 0
     simply 'a new variable beside simplified clauses' 1 '11 -2 -3 0\n-11 2 0\n-11 3 0\n3 0\n'
     simply 'a refutation of simplified clauses, two frames' 2 '-12 3 0\n-12 0\n5 0\n'
-    unrefuted 'a refutation of all clauses for simplified ones' 2 '-13 3 0\n-13 0\n5 0\n' 'line 3: does not follow' --simplify
+    unrefuted 'a refutation of all clauses for simplified ones' 2 '-13 3 0\n-13 0\n5 0\n' 'line 1: does not follow' --simplify
     unrefuted 'no refutation of simplified clauses' 1 '' 'no refutation' --simplify
     unrefuted 'a line that does not follow of simplified clauses' 1 '0\n' 'line 1: does not follow' --simplify
+    model 'aag 6 2 0 0 4 1\n2\n4\n12\n6 4 2\n8 4 3\n10 9 7\n12 10 4\n'
+    simply 'a refutation of a multiplexer' 1 '0\n'
+    simply 'a refutation of a multiplexer in LRAT' 1 '10 0 9 6 7 2 4 0\n' --lrat
     model "$unequal"
     simply 'a refutation of simplified clauses, by its gates' 1 '8 0\n3 0\n0\n'
     refutes 'a refutation of all clauses, by its gates' 1 '12 0\n3 0\n0\n'

@@ -1,5 +1,5 @@
 -- What is known of a miter's file is known of both circuits.
-use Rattle.std.proofs.Common.{◌≡◌, ◌<◌, ◌+◌, ◌∙◌, ℕ, List, Ok, None, Some, Bool, arith, true, false, length, refl}
+use Rattle.std.proofs.Common.{◌≡◌, ◌+◌, ◌∙◌, ℕ, List, None, Bool, arith, true, false, length, refl}
 use Rattle.std.proofs.Common.{subst, sym}
 use Rattle.aig_circuit.specs.declared.circuit.Circuit.{Circuit}
 use Rattle.aig_circuit.specs.declared.circuit.TheConstants.{LARGEST}

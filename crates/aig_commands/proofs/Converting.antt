@@ -1,11 +1,8 @@
 -- Why a conversion stopped.
-use Rattle.std.proofs.Common.{◌≡◌, ◌≢◌, List, [], ℕ, true, refl}
+use Rattle.std.proofs.Common.{◌≡◌, List, ℕ, true}
 use Rattle.aig_circuit.specs.declared.circuit.Circuit.{Circuit}
-use Rattle.aig_command.specs.declared.request.BadStates.TheVariants.{Outputs}
 use Rattle.aig_command.specs.declared.request.ToAig.{ToAig}
-use Rattle.aig_fault.specs.Stopping.{StopsFor, fault_at}
-use Rattle.aig_fault.specs.declared.fault.Place.TheVariants.{Whole}
-use Rattle.aig_fault.specs.declared.kind.Kind.TheVariants.{HasBad}
+use Rattle.aig_fault.specs.Stopping.{StopsFor}
 use Rattle.aig_fault.specs.declared.stopped.Stopped.{Stopped}
 use Rattle.aig_fault.proofs.Stoppings.{stops_weaker}
 use Rattle.aig_map.specs.Undone.{IsMapFault}

@@ -5,7 +5,6 @@ use Rattle.std.specs.List.{sum}
 use Rattle.std.proofs.lemmas.List.{drop-map, length-map, map-append, take-map}
 use Rattle.aig_circuit.specs.declared.circuit.Circuit.{Circuit}
 use Rattle.aig_circuit.specs.declared.circuit.Kind.TheVariants as kinds
-use Rattle.aig_circuit.specs.declared.circuit.Latch.{Latch}
 use Rattle.aig_circuit.specs.declared.circuit.TheConstants.{LARGEST}
 use Rattle.aig_circuit.specs.declared.value.Val.{Val}
 use Rattle.aig_circuit.specs.declared.value.Val.TheVariants.{Zero}
@@ -26,8 +25,7 @@ use Rattle.aig_verdicts.specs.declared.verdict.WitnessVerdict.TheVariants.{Justi
 use Rattle.aig_witness.specs.Witness.{Claim, Says, Shape}
 use Rattle.aig_binary.proofs.Files.{one_circuit}
 use Rattle.aig_command.specs.declared.request.Sim.{Sim}
-use Rattle.aig_command.specs.declared.request.ToAig.{ToAig}
-use Rattle.aig_commands.specs.Conversion.{IsConversionText, IsTextAs, IsWritten, stripped}
+use Rattle.aig_commands.specs.Conversion.{IsTextAs, IsWritten, stripped}
 use Rattle.aig_commands.specs.File.{IsFileOf}
 use Rattle.aig_commands.specs.Laws.{JusticeVerdictsAreKept}
 use Rattle.aig_commands.specs.WitnessOutcome.{IsWitnessAnswer}

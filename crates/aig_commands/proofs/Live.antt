@@ -1,5 +1,5 @@
 -- A justice property that became a bad state, and what is written of one.
-use Rattle.std.proofs.Common.{◌≡◌, ◌≤◌, ◌<◌, ◌∙◌, ℕ, List, ap, arith, inl, inr, length, map, subst, sym, take}
+use Rattle.std.proofs.Common.{◌≡◌, ◌≤◌, ◌∙◌, ℕ, List, ap, arith, inl, inr, length, map, subst, sym, take}
 use Rattle.std.proofs.lemmas.Bool.{cases_lt}
 use Rattle.std.proofs.lemmas.List.{length-map, length-take}
 use Rattle.aig_circuit.specs.declared.circuit.Circuit.{Circuit}
@@ -34,7 +34,7 @@ use Rattle.aig_commands.specs.Property.{HasProperty}
 use Rattle.aig_commands.specs.WitnessOutcome.{IsWitnessAnswer}
 use Rattle.aig_commands.specs.LiveLaws.{LassoAnswersAreConfirmed, NeverMeansNoneIsConfirmed, RightLassosAreConfirmed}
 use Rattle.aig_commands.specs.LiveLaws.{RefutationsMeanNoneIsConfirmed}
-use Rattle.aig_live.specs.Laws.{lasso_of, live}
+use Rattle.aig_live.specs.Laws.{live}
 use Rattle.aig_live.specs.Outcome.{HasLive}
 use Rattle.aig_meaning.specs.Meaning.{MeansTheSame}
 use Rattle.aig_meaning.proofs.Traces.{same_back}

@@ -1,5 +1,5 @@
 -- What stands for a property of a circuit, and what is known of the circuit by it.
-use Rattle.std.proofs.Common.{◌≡◌, ◌+◌, ◌<◌, ◌≤◌, ◌∙◌, ℕ, Bool, List, Option, None, Some, Result, Ok, Err, IfErr, ap, ap₂, arith, length, refl, subst}
+use Rattle.std.proofs.Common.{◌≡◌, ◌≤◌, ◌∙◌, ℕ, Bool, List, Option, None, Some, Result, Ok, Err, IfErr, ap, ap₂, arith, length, refl, subst}
 use Rattle.std.proofs.Common.{sym}
 use Rattle.aig_circuit.specs.declared.circuit.Circuit.{Circuit}
 use Rattle.aig_circuit.specs.declared.circuit.TheConstants.{LARGEST}
@@ -15,7 +15,7 @@ use Rattle.aig_invariant.specs.Outcome.{HasCubes}
 use Rattle.aig_invariant.proofs.Never.{invariants_mean_never}
 use Rattle.aig_live.specs.FoundLasso.{lasso_in}
 use Rattle.aig_live.specs.Laws.{lasso_of, live}
-use Rattle.aig_live.specs.Outcome.{HasLive, MakesNone}
+use Rattle.aig_live.specs.Outcome.{MakesNone}
 use Rattle.aig_live.proofs.Formed.{made_is_well_formed}
 use Rattle.aig_live.proofs.Lassos.{lassos_are_in_witnesses}
 use Rattle.aig_live.proofs.Never.{lassos_are_confirmed, never_means_no_fair_run}

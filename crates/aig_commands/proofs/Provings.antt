@@ -172,10 +172,10 @@ one_text request selected invariant text other whole p q =
     subst (λ (c : Circuit). IsUnrolled c 1 first.unrolled) same first.is_unrolled.is_unrolled in
     let written : p.written ≡ first.unrolled = rw whole at p.is_written in
     let written_too : q.written ≡ second.unrolled = rw whole at q.is_written in
-    p.written_as
+    (rw whole at p.written_as)
     ∙ ap cnf_text (written ∙ one.2 first.unrolled is ∙ sym (one.2 second.unrolled second.is_unrolled.is_unrolled)
     ∙ sym written_too)
-    ∙ sym q.written_as
+    ∙ sym (rw whole at q.written_as)
 
 pub invariant_texts_are_unambiguous : InvariantTextsAreUnambiguous
 invariant_texts_are_unambiguous request selected again model invariant text other whole of_model of_model_too is

@@ -1,5 +1,5 @@
 -- Where the clauses of an unrolled circuit are refuted, nothing is confirmed.
-use Rattle.std.proofs.Common.{◌≡◌, ℕ, Bool, List, Result, Ok, Err, refl, subst}
+use Rattle.std.proofs.Common.{◌≡◌, ℕ, Bool, List, Result, Ok, Err, false, refl, subst, true}
 use Rattle.aig_circuit.specs.declared.circuit.Circuit.{Circuit}
 use Rattle.aig_cnf.specs.Clauses.{Satisfies, bad_clauses}
 use Rattle.aig_fault.specs.declared.stopped.Stopped.{Stopped}
@@ -7,7 +7,13 @@ use Rattle.aig_fault.specs.declared.stopped.Stopped.TheVariants as stops
 use Rattle.aig_io.specs.Devices.{History}
 use Rattle.aig_io.specs.Runs.{Ending, Read}
 use Rattle.aig_io.proofs.Runs.{read_weaker}
-use Rattle.aig_refute.specs.Refuted.{RefutationSays}
+use Rattle.aig_cuts.specs.Cuts.{IsCutOf, cut_clauses}
+use Rattle.aig_cuts.specs.declared.cut.Cut.{Cut}
+use Rattle.aig_cuts.proofs.Completing.{cuts_follow}
+use Rattle.aig_refute.specs.Refuted.{IsRefusedWhere, RefutationSays, literals_of}
+use Rattle.aig_refute_cuts.specs.Says.{CutRefutationSays}
+use Rattle.aig_fault.specs.declared.fault.Fault.{Fault}
+use Rattle.aig_commands.specs.Unrolling.{AreClausesOf}
 use Rattle.aig_command.specs.declared.request.Property.{Property}
 use Rattle.aig_unroll.specs.Unrolled.{IsUnrolled}
 use Rattle.aig_witness.specs.declared.verdict.Verdict.TheVariants.{Confirmed}
@@ -24,35 +30,65 @@ use Rattle.aig_commands.proofs.Properties.{none_of_bad, none_within}
 use Rattle.aig_commands.proofs.Readings.{CameWhole, made_after}
 use Rattle.aig_commands.proofs.TripsExist.{well_formed_file}
 
+-- what satisfies the clauses of a circuit satisfies those that are written of it
+clauses_follow : (simplify : Bool) (d : Circuit) (clauses : List (List ℕ)) → AreClausesOf simplify d clauses
+    → (a : ℕ → Bool) → Satisfies a (bad_clauses d) → Satisfies a clauses
+clauses_follow true d clauses (plan, right, are) a satisfied = rw are (cuts_follow plan d right a satisfied)
+clauses_follow false d clauses are a satisfied = rw are satisfied
+
 -- a refutation was read: it is right, or is refused
 module _ (request : Reach) (selected d : Circuit) (is : IsRefutedFor request selected d) where
-  -- what satisfies the clauses of the unrolled circuit goes over to those that are refuted
-  unsatisfiable : ((a : ℕ → Bool) → ¬ Satisfies a (bad_clauses d)) → IsUnsatisfiable selected request.frames
-  unsatisfiable none = (
-    is.unrolled,
-    is.formed,
-    is.is_unrolled,
-    λ a satisfied.
-        (let over = (reductions_are_satisfied_alike request.simplify is.unrolled d is.formed is.is_reduced).0 a
-        satisfied in
-        none over.0 over.1),
-  )
+  abbrev pub Says : (r : Result (Unit {0}) Stopped) → List ℕ → Ending → Type 0
+  Says r = ReadSays {A = Unit {0}} (λ _ _. IsUnsatisfiable selected request.frames) (IsRefutationRefused request selected) r
 
-  refutation_says : (r : Result (Unit {0}) Stopped) (bytes : List ℕ) (ending : Ending)
-      → RefutationSays (format_of request.lrat) d r bytes ending
-      → ReadSays {A = Unit {0}} (λ _ _. IsUnsatisfiable selected request.frames)
-      (IsRefutationRefused request selected) r bytes ending
-  refutation_says (Ok done) bytes ending says = (says.0, unsatisfiable says.1)
-  refutation_says (Err stops.OutOfMemory) bytes ending says = says
-  refutation_says (Err stops.ReadFailed) bytes ending says = says
-  refutation_says (Err stops.WriteFailed) bytes ending says = says
-  refutation_says (Err (stops.Refused fault)) bytes ending says = (d, is, says)
+  module _ (clauses : List (List ℕ)) (are : AreClausesOf request.simplify d clauses) where
+    -- what satisfies the clauses of the unrolled circuit goes over to those that are refuted
+    unsatisfiable : ((a : ℕ → Bool) → ¬ Satisfies a clauses) → IsUnsatisfiable selected request.frames
+    unsatisfiable none = (
+      is.unrolled,
+      is.formed,
+      is.is_unrolled,
+      λ a satisfied.
+          (let over = (reductions_are_satisfied_alike request.simplify is.unrolled d is.formed is.is_reduced).0 a
+          satisfied in
+          none over.0 (clauses_follow request.simplify d clauses are over.0 over.1)),
+    )
 
-  pub refutation_read : (r : Result (Unit {0}) Stopped) (before after : History)
-      → Read (RefutationSays (format_of request.lrat) d r) before after
-      → Read (ReadSays {A = Unit {0}} (λ _ _. IsUnsatisfiable selected request.frames)
-      (IsRefutationRefused request selected) r) before after
-  refutation_read r before after = read_weaker _ _ before after (refutation_says r)
+    refused_so : (fault : Fault) (bytes : List ℕ) (ending : Ending)
+        → IsRefusedWhere (format_of request.lrat) clauses (literals_of d) fault bytes ending
+        → IsRefutationRefused request selected fault bytes ending
+    refused_so fault bytes ending why = (d, is, clauses, are, why)
+
+  plain_says : (whole : request.simplify ≡ false) (r : Result (Unit {0}) Stopped) (bytes : List ℕ) (ending : Ending)
+      → RefutationSays (format_of request.lrat) d r bytes ending → Says r bytes ending
+  plain_says whole (Ok done) bytes ending says =
+      (says.0, unsatisfiable (bad_clauses d) (rw whole refl) says.1)
+  plain_says whole (Err stops.OutOfMemory) bytes ending says = says
+  plain_says whole (Err stops.ReadFailed) bytes ending says = says
+  plain_says whole (Err stops.WriteFailed) bytes ending says = says
+  plain_says whole (Err (stops.Refused fault)) bytes ending says =
+      refused_so (bad_clauses d) (rw whole refl) fault bytes ending says
+
+  pub refutation_read : request.simplify ≡ false → (r : Result (Unit {0}) Stopped) (before after : History)
+      → Read (RefutationSays (format_of request.lrat) d r) before after → Read (Says r) before after
+  refutation_read whole r before after = read_weaker _ _ before after (plain_says whole r)
+
+  module _ (plan : List Cut) (right : IsCutOf plan d) (cut : request.simplify ≡ true) where
+    are_cut : AreClausesOf request.simplify d (cut_clauses plan d)
+    are_cut = rw cut (plan, right, refl)
+
+    cut_says : (r : Result (Unit {0}) Stopped) (bytes : List ℕ) (ending : Ending)
+        → CutRefutationSays (format_of request.lrat) plan d r bytes ending → Says r bytes ending
+    cut_says (Ok done) bytes ending says = (says.0, unsatisfiable (cut_clauses plan d) are_cut says.1)
+    cut_says (Err stops.OutOfMemory) bytes ending says = says
+    cut_says (Err stops.ReadFailed) bytes ending says = says
+    cut_says (Err stops.WriteFailed) bytes ending says = says
+    cut_says (Err (stops.Refused fault)) bytes ending says =
+        refused_so (cut_clauses plan d) are_cut fault bytes ending says
+
+    pub cut_refutation_read : (r : Result (Unit {0}) Stopped) (before after : History)
+        → Read (CutRefutationSays (format_of request.lrat) plan d r) before after → Read (Says r) before after
+    cut_refutation_read r before after = read_weaker _ _ before after (cut_says r)
 
 -- where no assignment lets a bad state be 1, no claim is confirmed
 is_none : (request : Reach) (selected : Circuit) → IsUnsatisfiable selected request.frames

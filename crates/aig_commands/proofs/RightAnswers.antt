@@ -11,6 +11,9 @@ use Rattle.aig_answer.proofs.Answers.{answers_are_read}
 use Rattle.aig_meaning.specs.Trace.{IsTrace}
 use Rattle.aig_reach.proofs.Whole.{cut_trace, inputs_are}
 use Rattle.aig_reach.specs.Cut.{cut_claim}
+use Rattle.aig_cnf.specs.Clauses.{Satisfies, bad_clauses}
+use Rattle.aig_cuts.proofs.Completing.{cuts_are_completed}
+use Rattle.aig_commands.specs.Unrolling.{AreClausesOf}
 use Rattle.aig_reduce.specs.Reduced.{IsReducedIf}
 use Rattle.aig_reduce.proofs.Reductions.{reductions_are_satisfied_alike}
 use Rattle.aig_replay.specs.declared.search.Hit.{Hit}
@@ -87,9 +90,22 @@ agree_first a b n ones others is is_too same v some within =
     ∙ sym (ap (λ bs. get_or bs (v - 1) false) values)
     ∙ get_or-map-range_with_len b 1 n (v - 1) v false (omega (arith, some, within)) (omega (arith, some))
 
+-- what satisfies the clauses that are written of a circuit gives what satisfies all, by the same inputs
+completed : (simplify : Bool) (d : Circuit) (clauses : List (List ℕ)) → IsWellFormed d → AreClausesOf simplify d clauses
+    → (a : ℕ → Bool) → Satisfies a clauses
+    → (b : ℕ → Bool) × Satisfies b (bad_clauses d) × (map b d.inputs ≡ map a d.inputs)
+completed true d clauses good (plan, right, are) a satisfied =
+    let there = cuts_are_completed plan d good right a (rw are at satisfied) in (there.0, there.1, there.3)
+completed false d clauses good are a satisfied = (a, rw are at satisfied, refl)
+
+left_is_well_formed : (simplify : Bool) (d written : Circuit) → IsWellFormed d → IsReducedIf simplify d written
+    → IsWellFormed written
+left_is_well_formed true d written good is = is.formed
+left_is_well_formed false d written good is = rw is good
+
 pub right_answers_have_witnesses : RightAnswersHaveWitnesses
-right_answers_have_witnesses request selected model simplify written a before lines last behind of_model is_left
-    satisfied are are_lines are_last are_behind values =
+right_answers_have_witnesses request selected model simplify written clauses a before lines last behind of_model is_left
+    are_written satisfied are are_lines are_last are_behind values =
     let answer = answer_text before lines last behind in
     let frames = request.frames in
     let inputs = all_inputs selected frames in
@@ -104,11 +120,14 @@ right_answers_have_witnesses request selected model simplify written a before li
     let unrolled : IsUnrolled selected frames d = subst (λ (k : Circuit). IsUnrolled k frames d) same of.is_unrolled in
     let fits : ¬ IsTooLarge selected frames = subst (λ (k : Circuit). ¬ IsTooLarge k frames) same of.fits in
     let ordered = unrolled_is_ordered selected d frames good unrolled fits in
-    let over = (reductions_are_satisfied_alike simplify d written ordered.0 is_left).1 a satisfied in
+    let whole = completed simplify written clauses (left_is_well_formed simplify d written ordered.0 is_left) are_written
+    a satisfied in
+    let over = (reductions_are_satisfied_alike simplify d written ordered.0 is_left).1 whole.0 whole.1 in
     let b = over.0 in
     let first = inputs_are selected d frames good unrolled in
     let alike : (v : ℕ) → 1 ≤ v → v ≤ inputs → a v ≡ b v =
-    agree_first a b inputs d.inputs written.inputs first (inputs_left simplify d written inputs first is_left) over.2 in
+    agree_first a b inputs d.inputs written.inputs first (inputs_left simplify d written inputs first is_left)
+    (over.2 ∙ whole.2) in
     let read = answers_are_read (replicate inputs 48) before lines last behind are are_lines are_last are_behind in
     let agree : (v : ℕ) → 1 ≤ v → v ≤ inputs → assigned (read_over selected frames answer).bits v ≡ b v =
     λ v some within.

@@ -4,7 +4,7 @@ use Rattle.aig_circuit.specs.declared.circuit.Circuit.{Circuit}
 use Rattle.aig_circuit.specs.declared.circuit.TheConstants.{LARGEST}
 use Rattle.aig_checked.specs.BinaryOrder.{IsInBinaryOrder}
 use Rattle.aig_circuit.specs.Wellformed.{IsWellFormed}
-use Rattle.aig_unroll.specs.Unrolled.{IsTooLarge, IsUnrolled, IsUnsupported}
+use Rattle.aig_unroll.specs.Unrolled.{IsTooLarge, IsUnrolled}
 use Rattle.aig_unroll.proofs.Ordering.Ordered.{one_unrolled, unrolled_is_ordered}
 use Rattle.aig_command.specs.declared.request.Property.{Property}
 use Rattle.aig_command.specs.declared.request.Property.TheVariants.{AnyBad}
@@ -13,7 +13,7 @@ use Rattle.aig_command.specs.declared.request.UnrolledForm.{UnrolledForm}
 use Rattle.aig_command.specs.declared.request.UnrolledForm.TheVariants.{Ascii, Binary, Clauses}
 use Rattle.aig_commands.specs.File.{IsFileOf}
 use Rattle.aig_commands.specs.Property.{property_model}
-use Rattle.aig_commands.specs.Unrolling.{IsUnrollingText, IsWrittenFor, property_of, unrolled_text}
+use Rattle.aig_commands.specs.Unrolling.{IsUnrollingText, IsWrittenAs, IsWrittenFor, property_of, unrolled_text}
 use Rattle.aig_commands.specs.Laws.{IsOfCircuit, SimplifiedUnrollingsMeanTheSame, UnrolledTextsAreFiles}
 use Rattle.aig_commands.specs.Laws.{UnrolledTextsExist, UnrollingsAreUnambiguous}
 use Rattle.aig_meaning.specs.Meaning.{MeansTheSame}
@@ -21,6 +21,7 @@ use Rattle.aig_meaning.proofs.Traces.{means_itself}
 use Rattle.std.proofs.lemmas.Bool.{false≢true}
 use Rattle.aig_binary.proofs.Files.{one_circuit}
 use Rattle.aig_commands.proofs.Trips.{ascii_file, binary_file}
+use Rattle.aig_commands.proofs.Unrolled.{itself_for}
 use Rattle.aig_commands.proofs.TripsExist.{well_formed_file}
 
 -- what is unrolled of the file of a circuit is the one unrolled circuit of what is asked of it
@@ -47,7 +48,8 @@ unrollings_are_unambiguous request bytes text other whole p q =
     let two = q.is_text in
     let first = as_it_is request.simplify request.form one.unrolled one.written whole one.is_written in
     let second = as_it_is request.simplify request.form two.unrolled two.written whole two.is_written in
-    one.written_as ∙ ap (unrolled_text request.form) (first ∙ same ∙ sym second) ∙ sym two.written_as
+    (rw whole at one.written_as) ∙ ap (unrolled_text request.form) (first ∙ same ∙ sym second)
+    ∙ sym (rw whole at two.written_as)
 
 -- all bad states are asked for where the circuit itself is written
 all_asked : (form : UnrolledForm) → IsOfCircuit form → property_of form ≡ AnyBad
@@ -61,6 +63,14 @@ file_of : (form : UnrolledForm) (d : Circuit) (text : List ℕ) → IsOfCircuit 
 file_of Binary d text of_circuit good ordered is = binary_file d text good ordered is
 file_of Ascii d text of_circuit good ordered is = inl (ascii_file d text good is)
 file_of (Clauses property) d text of_circuit good ordered is = absurd of_circuit
+
+-- of the circuit itself its own text is written
+own_text : (simplify : Bool) (form : UnrolledForm) (d : Circuit) (text : List ℕ) → IsOfCircuit form
+    → IsWrittenAs simplify form d text → text ≡ unrolled_text form d
+own_text true Binary d text of_circuit is = is
+own_text true Ascii d text of_circuit is = is
+own_text true (Clauses property) d text of_circuit is = absurd of_circuit
+own_text false form d text of_circuit is = is
 
 -- what is written of the circuit itself is in binary order, and means what the unrolled circuit does
 written_of : (simplify : Bool) (form : UnrolledForm) (d written : Circuit) → IsOfCircuit form → IsWellFormed d
@@ -101,7 +111,8 @@ module _ (request : Unroll) (c d : Circuit) (file text : List ℕ) (of_circuit :
       (well_formed_file file request.max_var p.found p.read) unrolled fits in
       let made = written_of request.simplify request.form p.is_text.unrolled p.is_text.written of_circuit ordered.0
       ordered.1 p.is_text.is_written in (
-        file_of request.form p.is_text.written text of_circuit made.0 made.1 p.is_text.written_as,
+        file_of request.form p.is_text.written text of_circuit made.0 made.1
+            (own_text request.simplify request.form p.is_text.written text of_circuit p.is_text.written_as),
         subst (λ (e : Circuit). MeansTheSame e p.is_text.written) is_d made.2,
       )
 
@@ -116,11 +127,6 @@ unrolled_texts_are_files request c d file text of_circuit whole read is p other 
     ∙ is_d request c d file text of_circuit read is p in
     let is_file = rw same at ((written_file request c d file text of_circuit read is p).0) in
     (λ read_too. one_circuit text LARGEST other d read_too is_file, λ is_other. rw is_other is_file)
-
-itself_for : (form : UnrolledForm) (d : Circuit) → IsWrittenFor false form d d
-itself_for Binary d = refl
-itself_for Ascii d = refl
-itself_for (Clauses property) d = refl
 
 pub unrolled_texts_exist : UnrolledTextsExist
 unrolled_texts_exist request c file whole read has supported fits writable =
@@ -140,7 +146,7 @@ unrolled_texts_exist request c file whole read has supported fits writable =
           };
           is_writable = writable one.0 one.1;
           is_written = rw whole (itself_for request.form one.0);
-          written_as = refl;
+          written_as = rw whole refl;
         };
       },
     )

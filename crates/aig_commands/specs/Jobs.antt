@@ -9,6 +9,7 @@ use Rattle.aig_command.specs.declared.request.Invariant.{Invariant}
 use Rattle.aig_command.specs.declared.request.Reach.{Reach}
 use Rattle.aig_command.specs.declared.request.SolverFile.{SolverFile}
 use Rattle.aig_command.specs.declared.request.SolverFile.TheVariants as wrote
+use Rattle.aig_cuts.specs.CutText.{cut_text}
 use Rattle.aig_fault.specs.declared.fault.Fault.{Fault}
 use Rattle.aig_io.specs.Runs.{Ending}
 use Rattle.aig_replay.specs.WitnessLines.{lasso_text, witness_text}
@@ -39,7 +40,7 @@ text_of (answers.Ascii circuit) = ascii_text circuit
 text_of (answers.Binary image) = binary_text image
 text_of (answers.Mapped image) = binary_text image
 text_of (answers.Unrolled form circuit) = unrolled_text form circuit
-text_of (answers.Simplified form circuit) = unrolled_text form circuit
+text_of (answers.Clauses plan circuit) = cut_text plan circuit
 text_of (answers.Witness claim) = witness_text claim
 text_of (answers.Lasso claim) = lasso_text claim
 text_of (answers.NoneWithin frames) = none_text frames

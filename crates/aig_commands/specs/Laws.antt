@@ -4,7 +4,7 @@ use Rattle.std.specs.Prelude.{◌≤◌, ◌-◌, ◌==◌, Bool, map, Option, n
 use Rattle.std.specs.List.{AllByRecursion, list_any}
 use Rattle.aig_answer.specs.declared.reader.Signed.{Signed}
 use Rattle.aig_answer.specs.AnswerText.{AreComments, AreValues, IsLine, Line, all_values, answer_text}
-use Rattle.aig_cnf.specs.Clauses.{Satisfies, bad_clauses}
+use Rattle.aig_cnf.specs.Clauses.{Satisfies}
 use Rattle.aig_circuit.specs.declared.circuit.TheConstants.{LARGEST}
 use Rattle.aig_circuit.specs.Wellformed.{IsWellFormed}
 use Rattle.aig_text.specs.AsciiText.{ascii_text}
@@ -49,7 +49,7 @@ use Rattle.aig_commands.specs.Proving.{IsInvariantModel, IsInvariantText, IsNeve
 use Rattle.aig_commands.specs.Property.{HasProperty, bad_property, property_model}
 use Rattle.aig_commands.specs.Reaching.{IsReachText, IsSelectedModel}
 use Rattle.aig_commands.specs.Refuting.{IsNoneText}
-use Rattle.aig_commands.specs.Unrolling.{IsUnrollingText, IsWritable, property_of}
+use Rattle.aig_commands.specs.Unrolling.{AreClausesOf, IsUnrollingText, IsWritable, property_of}
 use Rattle.aig_commands.specs.WitnessOutcome.{IsWitnessAnswer}
 
 -- what is read of a text is exactly the circuit whose file it is, of either kind
@@ -305,10 +305,11 @@ pub record AreValuesOf (a : ℕ → Bool) (variables : ℕ) (values : List Signe
 -- has its values has a witness: so a right answer is never refused.
 abbrev pub RightAnswersHaveWitnesses : Type 0
 RightAnswersHaveWitnesses = (request : Reach) (selected : Circuit) (model : List ℕ) (simplify : Bool)
-    (written : Circuit) (a : ℕ → Bool) (before : List (List ℕ)) (lines : List Line) (last : List Signed)
-    (behind : List (List ℕ))
+    (written : Circuit) (clauses : List (List ℕ)) (a : ℕ → Bool) (before : List (List ℕ)) (lines : List Line)
+    (last : List Signed) (behind : List (List ℕ))
     → (of_model : IsSelectedModel request model selected)
-    → IsReducedIf simplify of_model.has_clauses.is_text.unrolled written → Satisfies a (bad_clauses written)
+    → IsReducedIf simplify of_model.has_clauses.is_text.unrolled written → AreClausesOf simplify written clauses
+    → Satisfies a clauses
     → AreComments before → AllByRecursion IsLine lines → AreValues last → AreComments behind
     → AreValuesOf a (all_inputs selected request.frames) (all_values lines last)
     → (text : List ℕ) × IsReachText request selected (answer_text before lines last behind) text

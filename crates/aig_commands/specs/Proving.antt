@@ -3,7 +3,6 @@
 use Rattle.std.specs.Prelude.{◌≡◌, ◌⊎◌, ℕ, List, None, Some, codes}
 use Rattle.aig_circuit.specs.declared.circuit.Circuit.{Circuit}
 use Rattle.aig_circuit.specs.Wellformed.{IsWellFormed}
-use Rattle.aig_cnf.specs.ClauseText.{cnf_text}
 use Rattle.aig_command.specs.declared.request.Invariant.{Invariant}
 use Rattle.aig_command.specs.declared.request.Reach.{Reach}
 use Rattle.aig_command.specs.declared.request.SolverFile.TheVariants.{Refutation}
@@ -22,7 +21,7 @@ use Rattle.aig_unroll.specs.Outcome.{HasClauses}
 use Rattle.aig_fault.specs.declared.fault.Fault.{Fault}
 use Rattle.aig_commands.specs.Property.{HasProperty, property_model}
 use Rattle.aig_commands.specs.Reaching.{IsModelRefused, IsSelectedModel}
-use Rattle.aig_commands.specs.Unrolling.{IsUnrolledFor, NotUnrolledAs}
+use Rattle.aig_commands.specs.Unrolling.{IsUnrolledFor, IsWrittenAs, NotUnrolledAs}
 
 -- the request for a refutation of the clauses of the model alone, over one frame
 abbrev pub over_one_frame : Invariant → Reach
@@ -77,7 +76,7 @@ pub record IsInvariantText (request : Invariant) (selected : Circuit) (invariant
   pub written : Circuit
   pub is_strengthened : IsStrengthened selected invariant strengthened
   pub is_written : IsReducedIf request.simplify is_strengthened.unrolled written
-  pub written_as : text ≡ cnf_text written
+  pub written_as : IsWrittenAs request.simplify (Clauses AnyBad) written text
 
 -- no run ever has the property: none reaches a bad state at any step, or none without end is fair
 abbrev pub NoRunHas : Circuit → Property → Type 0

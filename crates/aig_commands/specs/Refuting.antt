@@ -21,6 +21,7 @@ use Rattle.aig_refute.specs.Refuted.{IsRefusedWhere, literals_of}
 use Rattle.aig_refute.specs.declared.reader.RefutationFormat.{RefutationFormat}
 use Rattle.aig_refute.specs.declared.reader.RefutationFormat.TheVariants.{Drat, Lrat}
 use Rattle.aig_commands.specs.Property.{HasProperty, property_model}
+use Rattle.aig_commands.specs.Unrolling.{AreClausesOf}
 
 -- the circuit can be unrolled over so many frames
 pub record CanUnroll (c : Circuit) (frames : ℕ) : Type 0 where
@@ -77,7 +78,8 @@ pub record IsRefutedFor (request : Reach) (c d : Circuit) : Type 0 where
 -- A refutation of the circuit's clauses is refused for this reason, where its bytes ended so.
 abbrev pub IsRefutationRefused : Reach → Circuit → Fault → List ℕ → Ending → Type 0
 IsRefutationRefused request c fault bytes ending = (d : Circuit) × IsRefutedFor request c d
-    × IsRefusedWhere (format_of request.lrat) (bad_clauses d) (literals_of d) fault bytes ending
+    × (clauses : List (List ℕ)) × AreClausesOf request.simplify d clauses
+    × IsRefusedWhere (format_of request.lrat) clauses (literals_of d) fault bytes ending
 
 -- It is not known that the clauses are refuted, for this reason.
 abbrev pub NotRefuted : Reach → Circuit → (refutation : List ℕ) → Fault → Type 0

@@ -1,10 +1,15 @@
 -- Which text an unrolling writes (this project's profile): a circuit is read, and what is written is its unrolled
--- circuit, or the clauses by which a bad state of that is 1; or it is simplified first.
+-- circuit, or the clauses by which a bad state of that is 1; or it is simplified first, and then a multiplexer has
+-- clauses of its own.
 use Rattle.std.specs.Prelude.{◌≡◌, ◌⊎◌, ℕ, List, Bool, true, false, ⊤}
 use Rattle.aig_circuit.specs.declared.circuit.Circuit.{Circuit}
 use Rattle.aig_text.specs.AsciiText.{ascii_text}
 use Rattle.aig_binary.specs.BinaryText.{binary_text}
+use Rattle.aig_cnf.specs.Clauses.{bad_clauses}
 use Rattle.aig_cnf.specs.ClauseText.{cnf_text}
+use Rattle.aig_cuts.specs.CutText.{cut_text}
+use Rattle.aig_cuts.specs.Cuts.{IsCutOf, cut_clauses}
+use Rattle.aig_cuts.specs.declared.cut.Cut.{Cut}
 use Rattle.aig_fault.specs.declared.fault.Fault.{Fault}
 use Rattle.aig_fault.specs.declared.stopped.Stopped.{Stopped}
 use Rattle.aig_fault.specs.declared.stopped.Stopped.TheVariants.{Refused}
@@ -59,6 +64,26 @@ IsWrittenFor simplify (Clauses property) d written = IsReducedIf simplify d writ
 IsWrittenFor true form d written = IsSimplified d written
 IsWrittenFor false form d written = written ≡ d
 
+-- The clauses of that circuit: those of its gates, or, where it was simplified, by a plan that is right for it.
+abbrev pub AreClausesOf : (simplify : Bool) → Circuit → List (List ℕ) → Type 0
+AreClausesOf true d clauses = (plan : List Cut) × IsCutOf plan d × (clauses ≡ cut_clauses plan d)
+AreClausesOf false d clauses = clauses ≡ bad_clauses d
+
+-- its text
+abbrev pub IsWrittenAs : (simplify : Bool) → UnrolledForm → Circuit → List ℕ → Type 0
+IsWrittenAs true (Clauses property) d text = (plan : List Cut) × IsCutOf plan d × (text ≡ cut_text plan d)
+IsWrittenAs true form d text = text ≡ unrolled_text form d
+IsWrittenAs false form d text = text ≡ unrolled_text form d
+
+-- the text that is written for an unrolled circuit, simplified where that is asked for
+abbrev pub IsTextFor : (simplify : Bool) → UnrolledForm → Circuit → List ℕ → Type 0
+IsTextFor simplify form d text = (written : Circuit) × IsWrittenFor simplify form d written
+    × IsWrittenAs simplify form written text
+
+-- the clauses of what is left of it, as text; only a private function cites this
+abbrev pub IsReducedText : Circuit → List ℕ → Type 0
+IsReducedText d text = IsTextFor true (Clauses AnyBad) d text
+
 -- The text that is written for this circuit: it can be unrolled, and this is the text of the unrolled circuit, or of
 -- what that is simplified to.
 pub record IsTextOf (request : Unroll) (found : Circuit) (text : List ℕ) : Type 0 where
@@ -67,7 +92,7 @@ pub record IsTextOf (request : Unroll) (found : Circuit) (text : List ℕ) : Typ
   pub is_unrolled : IsUnrolledFor (property_of request.form) request.frames found unrolled
   pub is_writable : IsWritable request.form unrolled
   pub is_written : IsWrittenFor request.simplify request.form unrolled written
-  pub written_as : text ≡ unrolled_text request.form written
+  pub written_as : IsWrittenAs request.simplify request.form written text
 
 -- The text that is written for these bytes: they are the file of such a circuit.
 pub record IsUnrollingText (request : Unroll) (bytes text : List ℕ) : Type 0 where

@@ -10,10 +10,10 @@ ghost use Rattle.aig_commands.specs.Unrolling.{unrolled_text};
 use aig_binary::{Ordered, write_binary};
 use aig_command::UnrolledForm;
 use aig_convert::{MappedImage, write_mapped};
-use aig_core::{Checked, DeviceFault, Output, Sink};
+use aig_core::{Checked, DeviceFault, Listing, Output, Sink};
+use aig_cuts::{Cut, write_cut_clauses};
 use aig_fault::{Message, Stopped};
 use aig_live::FoundLasso;
-use aig_reduce::write_clauses;
 use aig_replay::FoundWitness;
 use aig_text::write_ascii;
 use aig_unroll::Unrolling;
@@ -29,8 +29,11 @@ pub enum Answer {
     Mapped(MappedImage),
     /// An unrolled circuit, in this form.
     Unrolled(UnrolledForm, Unrolling),
-    /// What an unrolled circuit was simplified to, in this form.
-    Simplified(UnrolledForm, Ordered),
+    /// The clauses of a circuit by a plan.
+    Clauses {
+        plan: Listing<Cut>,
+        circuit: Ordered,
+    },
     /// A witness that a bad state is reached.
     Witness(FoundWitness),
     /// A witness that a justice property is met.
@@ -57,23 +60,6 @@ fn write_unrolled<W: Sink>(
         UnrolledForm::Binary => circuit.write_binary(sink),
         UnrolledForm::Ascii => circuit.write_ascii(sink),
         UnrolledForm::Clauses { property: _ } => circuit.write_cnf(sink),
-    }
-}
-
-fn write_simplified<W: Sink>(
-    form: UnrolledForm,
-    circuit: &Ordered,
-    sink: &mut W,
-) -> Result<(), DeviceFault>
-    ensures ok { OnOk result (W.history sink.new
-        ≡ took (unrolled_text form circuit.now) (W.history sink.old)) }
-    ensures err { OnErr result (TookBeginning (unrolled_text form circuit.now)
-        (W.history sink.old) (W.history sink.new)) }
-{
-    match form {
-        UnrolledForm::Binary => write_binary(circuit, sink),
-        UnrolledForm::Ascii => write_ascii(circuit.as_checked(), sink),
-        UnrolledForm::Clauses { property: _ } => write_clauses(circuit, sink),
     }
 }
 
@@ -138,8 +124,8 @@ impl Answer {
                 Ok(written?)
             }
             Answer::Unrolled(form, circuit) => Ok(write_unrolled(form, circuit, sink)?),
-            Answer::Simplified(form, circuit) => {
-                let written = write_simplified(form, &circuit, sink);
+            Answer::Clauses { plan, circuit } => {
+                let written = write_cut_clauses(&circuit, plan.as_slice(), sink);
                 drop(circuit); // for the proof
                 Ok(written?)
             }

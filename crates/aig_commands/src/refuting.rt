@@ -11,9 +11,11 @@ ghost use Rattle.aig_commands.specs.Refuting.{IsRefutedFor, IsUnsatisfiable, for
 use crate::answer::Answer;
 use aig_command::Reach;
 use aig_core::{Checked, Ordered, Source};
+use aig_cuts::cuts_of;
 use aig_fault::Stopped;
 use aig_reduce::reduce;
 use aig_refute::{RefutationFormat, check_refutation};
+use aig_refute_cuts::check_cut_refutation;
 use aig_unroll::unroll;
 use std::alloc::Global;
 
@@ -54,6 +56,29 @@ fn format_of(lrat: bool) -> RefutationFormat
     }
 }
 
+/// Reads a solver's refutation of the clauses of this circuit, which was unrolled of the selected
+/// one, and checks it.
+fn check_clauses_of<R: Source>(
+    alloc: Global,
+    request: &Reach,
+    selected: &Checked,
+    refuted: &Ordered,
+    source: &mut R,
+) -> Result<(), Stopped>
+    requires refuted { IsRefutedFor request.now selected.now refuted.now }
+    ensures { Read (ReadSays (λ _ _. IsUnsatisfiable selected.now request.now.frames)
+        (IsRefutationRefused request.now selected.now) result)
+        (R.history source.old) (R.history source.new) }
+{
+    let format = format_of(request.lrat);
+    let circuit = refuted.as_checked().circuit();
+    if !request.simplify {
+        return check_refutation(alloc, format, circuit, source);
+    }
+    let plan = cuts_of(alloc, refuted)?;
+    check_cut_refutation(alloc, format, plan.as_slice(), circuit, source)
+}
+
 /// Reads a solver's refutation of the clauses of this circuit over so many frames, and checks it.
 pub(crate) fn read_refutation<R: Source>(
     alloc: Global,
@@ -67,8 +92,7 @@ pub(crate) fn read_refutation<R: Source>(
         (R.history source.old) (R.history source.new) }
 {
     let refuted = refuted_of(alloc, request, selected)?;
-    let format = format_of(request.lrat);
-    let checked = check_refutation(alloc, format, refuted.as_checked().circuit(), source);
+    let checked = check_clauses_of(alloc, request, selected, &refuted, source);
     drop(refuted); // for the proof
     checked
 }

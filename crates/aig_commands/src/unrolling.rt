@@ -10,13 +10,15 @@ ghost use Rattle.aig_commands.specs.Outcome.{Says};
 ghost use Rattle.aig_commands.specs.Reading.{AtItsEnd, ReadSays};
 ghost use Rattle.aig_commands.specs.Unrolling.{property_of, IsTextOf, IsUnrolledFor};
 ghost use Rattle.aig_commands.specs.Unrolling.{IsUnrollingRefused, IsUnrollingText, IsWritable};
-ghost use Rattle.aig_commands.specs.Unrolling.{IsWrittenFor, NotUnrolledAs, NotWritable};
+ghost use Rattle.aig_commands.specs.Unrolling.{IsReducedText, IsTextFor, NotUnrolledAs};
+ghost use Rattle.aig_commands.specs.Unrolling.{NotWritable};
 
 use crate::answer::Answer;
 use crate::property::property_model;
 use aig_binary::{Ordered, read_source};
 use aig_command::{Property, Unroll, UnrolledForm};
 use aig_core::{Checked, Keep, OutOfMemory, Sink, Source};
+use aig_cuts::cuts_of;
 use aig_fault::Stopped;
 use aig_reduce::{check_clauses, reduce};
 use aig_simplify::simplify;
@@ -112,17 +114,43 @@ fn unroll_whole(
     }
 }
 
-/// What is written of an unrolled circuit that is simplified: of clauses the outputs are no part.
-fn simplify_for(
+/// The clauses of what is left of an unrolled circuit.
+fn reduced_answer(alloc: Global, circuit: Ordered) -> Result<Answer, OutOfMemory>
+    ensures text { IfOk result (λ answer. IsReducedText circuit (text_of answer)) }
+    ensures some { IfOk result (λ answer. 0 < length (text_of answer)) }
+{
+    let left = reduce(alloc, circuit)?;
+    match cuts_of(alloc, &left) {
+        Ok(plan) => Ok(Answer::Clauses {
+            plan,
+            circuit: left,
+        }),
+        Err(refused) => {
+            drop(left); // for the proof
+            Err(refused)
+        }
+    }
+}
+
+/// The text of an unrolled circuit that is simplified: of clauses the outputs are no part.
+fn simplified_answer(
     alloc: Global,
     form: UnrolledForm,
     circuit: Ordered,
-) -> Result<Ordered, OutOfMemory>
-    ensures { IfOk result (IsWrittenFor true form circuit) }
+) -> Result<Answer, OutOfMemory>
+    ensures text { IfOk result (λ answer. IsTextFor true form circuit (text_of answer)) }
+    ensures some { IfOk result (λ answer. 0 < length (text_of answer)) }
 {
     match form {
-        UnrolledForm::Clauses { property: _ } => reduce(alloc, circuit),
-        UnrolledForm::Binary | UnrolledForm::Ascii => simplify(alloc, circuit.into_checked()),
+        UnrolledForm::Clauses { property: _ } => reduced_answer(alloc, circuit),
+        UnrolledForm::Binary => {
+            let written = simplify(alloc, circuit.into_checked())?;
+            Ok(Answer::Binary(written))
+        }
+        UnrolledForm::Ascii => {
+            let written = simplify(alloc, circuit.into_checked())?;
+            Ok(Answer::Ascii(written.into_checked()))
+        }
     }
 }
 
@@ -139,8 +167,7 @@ pub(crate) fn unrolled_answer(
 {
     if request.simplify {
         let circuit = unroll_whole(alloc, request.form, request.frames, found)?;
-        let written = simplify_for(alloc, request.form, circuit)?;
-        return Ok(Answer::Simplified(request.form, written));
+        return Ok(simplified_answer(alloc, request.form, circuit)?);
     }
     let circuit = unroll_as(alloc, request.form, request.frames, found)?;
     Ok(Answer::Unrolled(request.form, circuit))

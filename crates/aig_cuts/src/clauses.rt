@@ -76,17 +76,18 @@ fn put_planned<W: Sink>(output: &mut Output<W>, gate: &Gate, cut: &Cut)
 
 fn put_plan<W: Sink>(output: &mut Output<W>, gates: &[Gate], plan: &[Cut])
     requires fit { All (λ (g : GateRecord). g.var ≤ LARGEST) gates.now }
-    requires many { length plan.now ≡ length gates.now }
+    requires few { length plan.now ≤ length gates.now }
     ensures { Appended output.old output.new (flat_map planned_text (zip gates.now plan.now)) }
 {
-    for at in 0..gates.len() {
+    for at in 0..plan.len() {
         put_planned(output, &gates[at], &plan[at]);
     }
 }
 
-fn put_cut_clauses<W: Sink>(output: &mut Output<W>, circuit: &Circuit, plan: &[Cut])
+/// Puts the clauses by a plan that is no longer than the circuit has gates.
+fn put_used_clauses<W: Sink>(output: &mut Output<W>, circuit: &Circuit, plan: &[Cut])
     requires formed { IsWellFormed circuit.now }
-    requires many { length plan.now ≡ length circuit.now.gates }
+    requires few { length plan.now ≤ length circuit.now.gates }
     ensures { Appended output.old output.new (cut_text plan.now circuit.now) }
 {
     let variables = u64::from(circuit.max_var) + 1;
@@ -97,15 +98,23 @@ fn put_cut_clauses<W: Sink>(output: &mut Output<W>, circuit: &Circuit, plan: &[C
     put_clause(output, circuit.bad.as_slice());
 }
 
+fn put_cut_clauses<W: Sink>(output: &mut Output<W>, circuit: &Circuit, plan: &[Cut])
+    requires { IsWellFormed circuit.now }
+    ensures { Appended output.old output.new (cut_text plan.now circuit.now) }
+{
+    let used = plan.len().min(circuit.gates.len());
+    put_used_clauses(output, circuit, &plan[..used]);
+}
+
 /// Writes the clauses by which a bad state of a circuit without latches is 1, as a plan has them,
-/// as DIMACS text, in slices of at most 8,192 bytes. It takes no memory and fails only where the
-/// sink fails; the sink then took a beginning of the text, and is not called again.
+/// as DIMACS text, in slices of at most 8,192 bytes. Gates behind the last of the plan have none. It
+/// takes no memory and fails only where the sink fails; the sink then took a beginning of the text,
+/// and is not called again.
 pub fn write_cut_clauses<W: Sink>(
     circuit: &Ordered,
     plan: &[Cut],
     sink: &mut W,
 ) -> Result<(), DeviceFault>
-    requires { length plan.now ≡ length circuit.now.gates }
     ensures ok { OnOk result (W.history sink.new
         ≡ took (cut_text plan.now circuit.now) (W.history sink.old)) }
     ensures err { OnErr result (TookBeginning (cut_text plan.now circuit.now)

@@ -15,7 +15,6 @@ use Rattle.aig_step.specs.TraceText.{IsTraceText}
 use Rattle.aig_batch.specs.Batched.{BatchSays}
 use Rattle.aig_dump.specs.InMemory.{IsBadStimulus, StopsInMemory}
 use Rattle.aig_dump.proofs.Lents as lents
-use Rattle.aig_cnf.specs.Clauses.{bad_clauses}
 use Rattle.aig_refute.specs.Refuted.{IsRefusedWhere, literals_of}
 use Rattle.aig_refute.proofs.Followed.{never_broken, refused_behind}
 use Rattle.aig_commands.specs.Jobs.{IsSolvedRefused, Refuses}
@@ -77,17 +76,19 @@ module _ (input : List ℕ) (now : History) (given : HasGiven now) where
   refutation request c fault bytes AtEnd is says =
       subst (λ (bs : List ℕ). IsRefutationRefused request c fault bs AtEnd)
       (lents.all_read input now given bytes is) says
-  refutation request c fault bytes Open is (d, refuted, why) =
+  refutation request c fault bytes Open is (d, refuted, clauses, are, why) =
       let front = lents.part_read input now given bytes is in
       let format = format_of request.lrat in (
         d,
         refuted,
-        subst (λ (bs : List ℕ). IsRefusedWhere format (bad_clauses d) (literals_of d) fault bs AtEnd)
+        clauses,
+        are,
+        subst (λ (bs : List ℕ). IsRefusedWhere format clauses (literals_of d) fault bs AtEnd)
             (ap (λ (bs : List ℕ). bs ++ drop (length bytes) input) front ∙ take-append-drop (length bytes) input)
-            (refused_behind format (bad_clauses d) (literals_of d) fault bytes (drop (length bytes) input) why),
+            (refused_behind format clauses (literals_of d) fault bytes (drop (length bytes) input) why),
       )
-  refutation request c fault bytes Broken is (d, refuted, inl why) = absurd why.0
-  refutation request c fault bytes Broken is (d, refuted, inr why) = absurd (never_broken why.1)
+  refutation request c fault bytes Broken is (d, refuted, clauses, are, inl why) = absurd why.0
+  refutation request c fault bytes Broken is (d, refuted, clauses, are, inr why) = absurd (never_broken why.1)
 
   solved : (by : SolverFile) (request : Reach) (selected : Circuit) (fault : Fault) (bytes : List ℕ) (ending : Ending)
       → now ≡ came bytes ending (unused (lent input)) → IsSolvedRefused by request selected fault bytes ending

@@ -93,10 +93,7 @@ pub fn justice_as_bad(
 fn can_unroll(options: u32, frames: u32, max_var: u32) -> bool
     ensures { IsTrue result ↔ CanUnroll options frames max_var }
 {
-    only_has(options, ASCII + SIMPLIFY)
-        && max_var <= LARGEST
-        && 1 <= frames
-        && frames <= 1_000_000
+    only_has(options, ASCII + SIMPLIFY) && max_var <= LARGEST && 1 <= frames && frames <= 1_000_000
 }
 
 /// Unrolls the circuit of an AIGER file over so many frames, from 1 to 1000000. The options are any

@@ -1,6 +1,6 @@
-//! What is left of an unrolled circuit for its bad states, and the clauses of that.
+//! What is left of an unrolled circuit for its bad states.
 //!
-//! Others call `reduce`, `check_clauses` and `write_clauses`.
+//! Others call `reduce`, and before it `check_clauses`.
 //!
 //! The definitions that matter most are `IsReduced` and `GoesOver`.
 #![tactic(auto)]
@@ -9,5 +9,5 @@ mod clauses;
 pub mod laws;
 mod reduction;
 
-pub use crate::clauses::{check_clauses, write_clauses};
+pub use crate::clauses::check_clauses;
 pub use crate::reduction::reduce;

@@ -34,5 +34,9 @@ folded_gates c d (f, is) =
 
 pub swept_gates : (c d : Circuit) → IsSwept c d → length d.gates ≤ length c.gates
 swept_gates c d is =
-    omega (arith, ap (λ (gs : List Gate). length gs) is.gates, length-filter is.keeps c.gates,
-    count_by-le-length is.keeps c.gates)
+    omega (
+      arith,
+      ap (λ (gs : List Gate). length gs) is.gates,
+      length-filter is.keeps c.gates,
+      count_by-le-length is.keeps c.gates,
+    )

@@ -1,5 +1,4 @@
 use Rattle.std.proofs.Common.{refl, rules}
-use Rattle.aig_fault.specs.Words.{message_text}
 use Rattle.aig_io.specs.Devices.{TookBeginning}
 use Rattle.aig_io.proofs.Puts.{beginning_sent}
 use Rattle.aig_commands.proofs.Outcomes.{on_err}

@@ -14,9 +14,9 @@ loop-at-preserved g c =
     let gates = c.args.gates.now in
     let plan = c.args.plan.now in
     let pair : Planned = (c.index-gates-at.result, c.index-plan-at.result) in
-    let there : c.loop-at.at < length plan = omega arith in
+    let there : c.loop-at.at < length gates = omega (arith, c.loop-at-test.true, c.requires.few) in
     put_more planned_text (zip gates plan) c.loop-at.at pair pair _ _ _
-    (pair_there gates plan c.loop-at.at c.index-gates-at.result c.index-plan-at.result c.loop-at-test.true there
+    (pair_there gates plan c.loop-at.at c.index-gates-at.result c.index-plan-at.result there c.loop-at-test.true
     c.index-gates-at.is c.index-plan-at.is) c.loop-at.invariant c.put_planned.ensures
     (omega (arith, length-zip gates plan))
 
