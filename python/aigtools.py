@@ -467,8 +467,8 @@ def answer(
     max_var: int = LARGEST,
 ) -> bytes:
     """The witness that a solver's answer to the clauses of the model gives, with the same frames and property, as
-    ``aiger aigunroll --answer`` writes it. Whether they were simplified makes no difference. It is confirmed, whatever the solver said. An answer that gives none is
-    refused: UNSATISFIABLE, UNKNOWN or NOT_REACHED.
+    ``aiger aigunroll --answer`` writes it. Whether they were simplified makes no difference. It is confirmed, whatever
+    the solver said. An answer that gives none is refused: UNSATISFIABLE, UNKNOWN or NOT_REACHED.
 
     >>> answer(b"aag 1 0 1 0 0 1\\n2 3\\n2\\n", b"s SATISFIABLE\\nv -2 3 0\\n", 2)
     b'1\\nb0\\n0\\n\\n\\n.\\n'
@@ -496,10 +496,10 @@ def refute(
     simplify: bool = False,
     max_var: int = LARGEST,
 ) -> None:
-    """Checks a solver's refutation (DRAT, text or binary) of the clauses of the model, with the same frames, property and
-    simplify, as ``aiger aigunroll --refutation``. If it is right, no run of at most so many steps reaches a bad state
-    with all constraints kept, or no lasso of the justice property has fewer: that is proved, whatever the solver said.
-    If it is not, it is refused: NO_REFUTATION, BAD_REFUTATION or DOES_NOT_FOLLOW.
+    """Checks a solver's refutation (DRAT, text or binary) of the clauses of the model, with the same frames, property
+    and simplify, as ``aiger aigunroll --refutation``. If it is right, no run of at most so many steps reaches a bad
+    state with all constraints kept, or no lasso of the justice property has fewer: that is proved, whatever the solver
+    said. If it is not, it is refused: NO_REFUTATION, BAD_REFUTATION or DOES_NOT_FOLLOW.
 
     >>> refute(b"aag 1 0 1 0 0 1\\n2 3\\n2\\n", b"", 1)
     >>> try:
@@ -560,10 +560,10 @@ def never(
     max_var: int = LARGEST,
 ) -> None:
     """Checks a solver's refutation (DRAT, text or binary) of the clauses in which the invariant of the model is to be
-    shown, with the same property and simplify, as ``aiger aigunroll --invariant --refutation``. If it is right, no run, however
-    long, reaches a bad state with all constraints kept, or none is fair to the justice property: that is proved,
-    whatever the invariant and the solver said. If it is not, it is refused, as ``refute`` does; so is what is no
-    invariant of the model: BAD_INVARIANT, NOT_EACH_LATCH, MET_AT_START or TOO_LARGE_INVARIANT.
+    shown, with the same property and simplify, as ``aiger aigunroll --invariant --refutation``. If it is right, no
+    run, however long, reaches a bad state with all constraints kept, or none is fair to the justice property: that is
+    proved, whatever the invariant and the solver said. If it is not, it is refused, as ``refute`` does; so is what is
+    no invariant of the model: BAD_INVARIANT, NOT_EACH_LATCH, MET_AT_START or TOO_LARGE_INVARIANT.
 
     >>> never(b"aag 1 0 1 0 0 1\\n2 2\\n2\\n", b"1 1\\n", b"-7 0\\n")
     >>> try:
