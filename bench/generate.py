@@ -1,11 +1,12 @@
 #!/usr/bin/env python3
-"""Writes the circuits that bench/run.py measures: those that are named FAMILY-N, of about N gates each.
+"""Writes the circuits that bench/run.py measures: those that are named FAMILY-N, of about N gates each, and forms of
+other circuits, of which each is a binary file NAME.aig.
 
 families:
   random      gates mostly over what stands a little before them, with a latch to 25 of them
   far         gates over anything before them, with 64 inputs, latches and outputs
-  multiplier  an array multiplier, without latches
-  memory      words of latches, with a port that writes and one that reads
+  multiplier  an array multiplier, without latches, its inputs and outputs named
+  memory      words of latches, with a port that writes and one that reads, all named
   chain       gates over the one before each and an input: as deep as a circuit can be
 
 Each form of a circuit has a file NAME.FORM:
@@ -45,6 +46,8 @@ class Circuit:
         ends = range(2, 2 * self.first, 2)
         self.inputs, self.latches = ends[:inputs], ends[inputs:]
         self.nexts, self.outputs, self.gates = [0] * latches, [], []
+        # the lines of names and comment
+        self.tail = ""
 
     def total(self):
         return self.first - 1 + len(self.gates)
@@ -64,6 +67,9 @@ class Circuit:
 
     def choice(self, condition, then, other):
         return self.both(self.both(condition, then) ^ 1, self.both(condition ^ 1, other) ^ 1) ^ 1
+
+    def name(self, kind, names):
+        self.tail += "".join(f"{kind}{at} {it}\n" for at, it in enumerate(names))
 
 
 def near_gates(count):
@@ -110,6 +116,8 @@ def multiplier(count):
         made.outputs.append(sums[0])
         total = sums[1:] + [carry]
     made.outputs += total
+    made.name("i", (f"{word}[{bit}]" for word in "ab" for bit in range(width)))
+    made.name("o", (f"p[{bit}]" for bit in range(len(made.outputs))))
     return made
 
 
@@ -127,6 +135,10 @@ def memory(count):
         pairs = zip(words[::2], words[1::2])
         words = [[made.choice(bit, one, zero) for zero, one in zip(*pair)] for pair in pairs]
     made.outputs = words[0]
+    ports = (("waddr", bits), ("raddr", bits), ("wdata", width))
+    made.name("i", [f"{port}[{bit}]" for port, count in ports for bit in range(count)] + ["we"])
+    made.name("l", (f"mem[{word}][{bit}]" for word in range(1 << bits) for bit in range(width)))
+    made.name("o", (f"rdata[{bit}]" for bit in range(width)))
     return made
 
 
@@ -153,7 +165,7 @@ def spelled(circuit):
                 text.append(delta % 128 + 128)
                 delta //= 128
             text.append(delta)
-    return text
+    return text + circuit.tail.encode("latin-1")
 
 
 def lines(circuit, largest=0, order=None, is_later=False):
@@ -172,6 +184,8 @@ def lines(circuit, largest=0, order=None, is_later=False):
     for at in range(len(circuit.gates)) if order is None else order:
         left, right = circuit.gates[at]
         yield f"{new[2 * (circuit.first + at)]} {new[left]} {new[right]}\n"
+    # what were outputs are bad states
+    yield re.sub("(?m)^o(?=.* )", "b", circuit.tail.partition("c\n")[0]) if is_later else circuit.tail
 
 
 def shuffled(circuit):
@@ -207,8 +221,40 @@ def stimulus(inputs, runs, steps):
         yield b".\n"
 
 
+def read(path):
+    """The circuit of a canonical binary file, of inputs, latches that start at 0, outputs and gates."""
+    with open(path, "rb") as file:
+        data = file.read()
+    front, at = data.partition(b"\n")[0], 0
+    words = front.split()
+    counts = [int(it) for it in words[1:] if it.isdigit()]
+    if words[:1] != [b"aig"] or len(words) != 6 or len(counts) != 5 or counts[0] != counts[1] + counts[2] + counts[4]:
+        raise ValueError("no binary file of inputs, latches, outputs and gates")
+    made = Circuit(counts[1], counts[2])
+    ends = data[len(front) + 1 :].split(b"\n", counts[2] + counts[3])
+    made.nexts, made.outputs = ([int(it) for it in some] for some in (ends[: counts[2]], ends[counts[2] : -1]))
+    deltas = ends[-1]
+    for variable in range(made.first, made.first + counts[4]):
+        left, at = lowered(2 * variable, deltas, at)
+        right, at = lowered(left, deltas, at)
+        made.gates.append((left, right))
+    made.tail = deltas[at:].decode("latin-1")
+    return made
+
+
+def lowered(literal, deltas, at):
+    """The literal less the delta that stands there, and where the next one stands."""
+    weight = 1
+    while deltas[at] > 127:
+        literal -= weight * (deltas[at] - 128)
+        weight *= 128
+        at += 1
+    return literal - weight * deltas[at], at + 1
+
+
 def path_of(name, form, folder=OUT):
-    return os.path.join(folder, f"{name}.{form}")
+    """Of a file its own name stands for the circuit."""
+    return os.path.join(folder, f"{os.path.basename(name).removesuffix('.aig')}.{form}")
 
 
 def text_of(circuit, count, form):
@@ -218,31 +264,50 @@ def text_of(circuit, count, form):
     return b"".join(stimulus(len(circuit.inputs), *steps_of(form, count))) if form in STIMULI else spelled(circuit)
 
 
+def count_of(name):
+    """About how many gates the circuit of this name has: FAMILY-N, or else a binary file's path."""
+    family, _, count = name.partition("-")
+    if family in FAMILIES:
+        return int(count)
+    with open(name, "rb") as file:
+        return max(1, int(file.readline().split()[5]))
+
+
+def make(name):
+    family, _, count = name.partition("-")
+    return FAMILIES[family](int(count)) if family in FAMILIES else read(name)
+
+
 def write(name, forms, folder=OUT):
     """Writes those of the forms of the circuit that are not there."""
     paths = {form: path_of(name, form, folder) for form in forms if not os.path.isfile(path_of(name, form, folder))}
     if not paths:
         return
     os.makedirs(folder, exist_ok=True)
-    family, _, count = name.partition("-")
-    circuit = FAMILIES[family](int(count))
+    circuit, count = make(name), count_of(name)
     for form, path in paths.items():
         with open(f"{path}.new", "wb") as file:
-            file.write(text_of(circuit, int(count), form))
+            file.write(text_of(circuit, count, form))
         os.replace(f"{path}.new", path)
 
 
 def name_of(text):
-    """A name of the form FAMILY-N, for argparse."""
+    """A name of the form FAMILY-N, or a file, for argparse."""
     form = re.fullmatch(r"([a-z]+)-(\d+)", text)
-    if not form or form[1] not in FAMILIES or not 100 <= int(form[2]) <= 10_000_000:
-        raise argparse.ArgumentTypeError(f"{text} is no FAMILY-N, with a family of --help and N from 100 to 10000000")
+    if os.path.isfile(text):
+        try:
+            read(text)
+        except (ValueError, IndexError) as fault:
+            raise argparse.ArgumentTypeError(f"{text} cannot be taken: {fault}") from fault
+    elif not form or form[1] not in FAMILIES or not 100 <= int(form[2]) <= 10_000_000:
+        no_name = f"{text} is no file, and no FAMILY-N, with a family of --help and N from 100 to 10000000"
+        raise argparse.ArgumentTypeError(no_name)
     return text
 
 
 def main():
     asked = argparse.ArgumentParser(description=__doc__, formatter_class=argparse.RawDescriptionHelpFormatter)
-    asked.add_argument("names", metavar="FAMILY-N", nargs="+", type=name_of)
+    asked.add_argument("names", metavar="FAMILY-N|FILE.aig", nargs="+", type=name_of)
     asked.add_argument("--form", action="append", choices=["aig", *ASCII, *STIMULI], help="these forms alone (all)")
     asked.add_argument("--folder", default=OUT, help="where the files go (bench/out)")
     given = asked.parse_args()

@@ -133,7 +133,11 @@ class Task(NamedTuple):
         return self.gates() * self.kind.times * steps
 
     def count(self):
-        return int(self.name.partition("-")[2])
+        return generate.count_of(self.name)
+
+    def short(self):
+        """Its name, without the folder of a file."""
+        return os.path.basename(self.name).removesuffix(".aig")
 
     def make(self, program):
         """Makes the files that are missing, and with the program the one that has a map."""
@@ -160,21 +164,23 @@ class Task(NamedTuple):
         return [min(times) for times in zip(*rounds)]
 
 
-def measure(name, contenders, floors, sizes, runs):
+def measure(name, contenders, floors, circuits, runs):
     """The cells of a kind."""
     kind, quotients, spent, held = KINDS[name], {}, [], {}
     contenders = contenders[: 1 + kind.has_peer]
-    for task in (Task(kind, f"{family}-{size}") for size in sizes for family in kind.families):
+    tasks = [Task(kind, it) for it in circuits]
+    most = max(it.count() for it in tasks)
+    for task in tasks:
         task.make(contenders[0])
         task.judge(contenders)
         times = task.least_seconds(contenders, runs)
         if kind.has_peer:
-            quotients[task.name] = times[0] / times[1]
-        if task.count() == max(sizes):
+            quotients[task.short()] = times[0] / times[1]
+        if task.count() > most // 2:
             peaks = [it.peak_bytes(task.words(), task.source()) - floor for it, floor in zip(contenders, floors)]
             spent.append(times[0] * 1e9 / task.units())
-            held[task.name] = [max(it, 0) / task.gates() for it in peaks]
-        print(name, task.name, *(f"{it * 1e3:.1f} ms" for it in times), file=sys.stderr, flush=True)
+            held[task.short()] = [max(it, 0) / task.gates() for it in peaks]
+        print(name, task.short(), *(f"{it * 1e3:.1f} ms" for it in times), file=sys.stderr, flush=True)
     worst = max(quotients, key=quotients.get, default="")
     shown = [f"{mean(quotients.values()):.2f}", f"{quotients[worst]:.2f}", worst] if worst else ["", "", ""]
     ours, *peers = (f"{max(it):.0f}" for it in zip(*held.values()))
@@ -221,6 +227,8 @@ def asked():
     words.add_argument("--only", metavar="KIND", action="append", choices=KINDS, help=kinds)
     sizes = "a size of the circuits, which may be given again (10000, 100000 and 1000000)"
     words.add_argument("--gates", action="append", type=int, help=sizes)
+    models = "forms of this binary file in the place of such circuits; may be given again"
+    words.add_argument("--model", metavar="FILE", action="append", type=generate.name_of, help=models)
     words.add_argument("--runs", type=int, default=9, help="runs of each, of which the least counts (9)")
     given = words.parse_args()
     if given.runs < 1 or min(given.gates or [100]) < 100:
@@ -241,11 +249,12 @@ def main():
     with open(smallest, "w", encoding="ascii") as it:
         it.write("aag 0 0 0 0 0\n")
     floors = [it.peak_bytes(["aigtoaig"], smallest) for it in contenders]
-    quotients = []
+    sizes, quotients = given.gates or [10_000, 100_000, 1_000_000], []
     row(["kind", "mean", "worst", "which", "ns a gate", "bytes a gate", "of random", "peer's"])
     print("|---|---:|---:|---|---:|---:|---:|---:|")
     for name in given.only or KINDS:
-        cells, found = measure(name, contenders, floors, given.gates or [10_000, 100_000, 1_000_000], given.runs)
+        circuits = given.model or [f"{family}-{size}" for size in sizes for family in KINDS[name].families]
+        cells, found = measure(name, contenders, floors, circuits, given.runs)
         row(cells + [""] * (8 - len(cells)))
         quotients += found.values()
     if quotients:
