@@ -149,6 +149,26 @@ def of_search(file):
         yield "search.py", came == tuple(wanted), came
 
 
+def of_folder(convert, work):
+    """Files of a folder are converted, and those that are refused are named."""
+    source, target = work / "from", work / "to"
+    source.mkdir()
+    for name, text in (("a.aag", EACH), ("b.aig", convert(CHAIN)), ("c.aag", BROKEN), ("d.txt", b"none of them")):
+        (source / name).write_bytes(text)
+    came = script("convert_all.py", source, target)
+    said = f"convert_all.py: {source}/c.aag: {BROKEN_SAYS}\n"
+    yield "convert_all.py", came == (b"2 files converted\n", said, 1), came
+    made = {it.name: it.read_bytes() for it in target.iterdir()}
+    yield "what convert_all.py writes", made == {"a.aig": convert(EACH), "b.aig": convert(CHAIN)}, made
+    (source / "c.aag").unlink()
+    came = script("convert_all.py", source, target)
+    yield "convert_all.py of good files", came == (b"2 files converted\n", "", 0), came
+    came = script("convert_all.py", work / "none", target)
+    yield "convert_all.py of no folder", came == (b"", f"convert_all.py: {work}/none: No such file or directory\n", 1), came
+    output, errors, status = script("convert_all.py", source)
+    yield "convert_all.py of wrong words", (output, status) == (b"", 2) and errors.startswith("usage: convert_all.py "), errors
+
+
 def of_levels(program, convert, file):
     """What a program says of the levels of gates."""
     deep = b"1 1\n2 1\n3 1\n"
@@ -209,4 +229,5 @@ def checks(module, folder, work):
     yield from of_chance(module.simulate)
     yield from of_dot()
     yield from of_search(file)
+    yield from of_folder(module.convert, work)
     yield from of_compiled(module.convert, folder, work)
