@@ -1,7 +1,8 @@
 //! The gates of a binary image, made in one go: where a gate's turn comes, its operands have their
 //! new numbers.
-ghost use Rattle.std.specs.Prelude.{◌≡◌, ◌+◌, ◌<◌, IfOk, OnOk};
+ghost use Rattle.std.specs.Prelude.{◌≡◌, ◌+◌, ◌<◌, IfOk, OnOk, None};
 ghost use Rattle.std.specs.Option.{IfSome};
+ghost use Rattle.std.specs.FinMap.{get};
 ghost use Rattle.aig_circuit.specs.Wellformed.{IsWellFormed};
 ghost use Rattle.aig_circuit.specs.declared.circuit.TheConstants.{LARGEST};
 ghost use Rattle.aig_tables.specs.VarMap.{with_new};
@@ -46,6 +47,7 @@ fn by_new_number(numbers: &Numbers, literal: Lit) -> Option<Lit>
 fn next_gate(numbers: &mut Numbers, gate: Gate) -> Result<Option<Gate>, AllocError>
     requires room { numbers.old.noted < LARGEST }
     requires small { FitIntoLiterals (number_of numbers.old) }
+    requires none { get numbers.old.numbers gate.var ≡ None }
     ensures known { IfOk result (λ some. IfSome some (λ _.
         HasNumber numbers.old gate.left × HasNumber numbers.old gate.right)) }
     ensures gate { IfOk result (λ some. IfSome some (λ g. g ≡ next_numbered numbers.old gate)) }
@@ -60,7 +62,7 @@ fn next_gate(numbers: &mut Numbers, gate: Gate) -> Result<Option<Gate>, AllocErr
     let Some(right) = by_new_number(numbers, gate.right) else {
         return Ok(None);
     };
-    numbers.note(gate.var)?;
+    numbers.note_new(gate.var)?;
     let var = Var(numbers.count());
     Ok(Some(with_larger_first(Gate { var, left, right })))
 }

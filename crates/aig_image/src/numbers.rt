@@ -1,9 +1,9 @@
 //! The new numbers of variables.
 ghost use Rattle.std.specs.Prelude.{◌≡◌, ◌↔◌, ◌⊎◌, ◌+◌, ◌==◌, ◌≤◌, ◌<◌};
 ghost use Rattle.std.specs.Prelude.{◌++◌, ℕ, List, [], length, map, false};
-ghost use Rattle.std.specs.Prelude.{IfOk, OnOk, IsTrue, if◌then◌else◌};
+ghost use Rattle.std.specs.Prelude.{IfOk, OnOk, IsTrue, None, if◌then◌else◌};
 ghost use Rattle.std.specs.Option.{IfSome};
-ghost use Rattle.std.specs.FinMap.{empty};
+ghost use Rattle.std.specs.FinMap.{get, empty};
 ghost use Rattle.aig_circuit.specs.Literal.{variable_of};
 ghost use Rattle.aig_tables.specs.VarMap.{with_new};
 ghost use Rattle.aig_circuit.specs.declared.circuit.Gate.{Gate as GateRecord};
@@ -120,6 +120,19 @@ impl Numbers {
         self.noted += 1;
         self.numbers.insert(var, self.noted)?;
         Ok(())
+    }
+
+    /// As `note`, of a variable that has no number: nothing is read for it.
+    #[inline(always)]
+    pub(crate) fn note_new(&mut self, var: Var) -> Result<(), AllocError>
+        requires few { self.old.noted < LARGEST }
+        requires none { get self.old.numbers var ≡ None }
+        ensures count { OnOk result (self.new.noted ≡ self.old.noted + 1) }
+        ensures numbers { OnOk result (self.new.numbers
+            ≡ with_new self.old.numbers var (self.old.noted + 1)) }
+    {
+        self.noted += 1;
+        self.numbers.put(var, self.noted)
     }
 
     fn note_all<T: Defines>(&mut self, items: &[T]) -> Result<(), AllocError>

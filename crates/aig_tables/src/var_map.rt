@@ -1,5 +1,5 @@
 //! Maps from variables.
-ghost use Rattle.std.specs.Prelude.{◌≡◌, ◌<◌, ◌-◌, ◌^◌, IfOk, OnOk, OnErr, not, false};
+ghost use Rattle.std.specs.Prelude.{◌≡◌, ◌<◌, ◌-◌, ◌^◌, IfOk, OnOk, OnErr, None, not, false};
 ghost use Rattle.std.specs.Option.{IfSome};
 ghost use Rattle.std.specs.Ordering.{nat_cmp};
 ghost use Rattle.std.specs.FinMap as map;
@@ -119,6 +119,25 @@ impl<T: MapValue> VarMap<T> {
         } else {
             self.spread.insert(var, value)
         }
+    }
+
+    /// Gives a variable that has no value its value. In contrast to `insert` its place is not read:
+    /// a read would be waited for, a write is not.
+    #[tactic(auto, using(crate::proofs::Tables::Maps::map_has))]
+    #[inline(always)]
+    pub fn put(&mut self, var: Var, value: T) -> Result<(), AllocError>
+        requires fits { T.Table.fits value }
+        requires none { map.get self.old var ≡ None }
+        ensures ok { OnOk result (self.new ≡ with_new self.old var value) }
+        ensures err { OnErr result (self.new ≡ self.old) }
+    {
+        let index = var.0 as usize;
+        if self.places.covers(index) {
+            self.places.put(index, value);
+        } else {
+            self.spread.insert(var, value)?;
+        }
+        Ok(())
     }
 }
 

@@ -1,11 +1,12 @@
 //! The gates of a circuit by the variables that they define.
-ghost use Rattle.std.specs.Prelude.{◌≡◌, ◌≤◌, length, false, IfOk};
+ghost use Rattle.std.specs.Prelude.{◌≡◌, ◌≤◌, ◌<◌, length, false, not, IfOk, OnOk};
 ghost use Rattle.std.specs.Option.{is_some};
-ghost use Rattle.std.specs.FinMap.{get};
+ghost use Rattle.std.specs.FinMap.{get, contains_key};
+ghost use Rattle.aig_tables.specs.VarMap.{with_new, keys_of};
 ghost use Rattle.aig_topo.specs.Index.{IsIndexOf};
 
 use aig_circuit::{Circuit, Gate, LARGEST, Var};
-use aig_tables::VarMap;
+use aig_tables::{VarMap, VarSet};
 use std::alloc::{AllocError, Global};
 
 /// How many variables are read ahead together.
@@ -24,6 +25,32 @@ fn is_any_overfull(positions: &VarMap<u32>, gates: &[Gate], from: usize) -> bool
     any
 }
 
+/// Up to so many indices for each gate, the place of a variable is found by its index.
+const NEAR: usize = 4;
+
+/// Gives a variable its position, unless it has one, and answers whether it had none. That is told
+/// by a set, which takes a bit where the position takes a word, so it is near where that is far;
+/// and the position is written without a read, which would be waited for.
+#[inline(always)]
+fn insert_unseen(
+    positions: &mut VarMap<u32>,
+    seen: &mut VarSet,
+    var: Var,
+    position: u32,
+) -> Result<bool, AllocError>
+    requires few { position < LARGEST }
+    requires same { keys_of positions.old ≡ seen.old }
+    ensures added { IfOk result (λ added. added ≡ not (contains_key positions.old var)) }
+    ensures ok { OnOk result (positions.new ≡ with_new positions.old var position) }
+    ensures same { OnOk result (keys_of positions.new ≡ seen.new) }
+{
+    if !seen.insert(var)? {
+        return Ok(false);
+    }
+    positions.put(var, position)?;
+    Ok(true)
+}
+
 /// The gates of a circuit by the variables that they define.
 #[derive(Drop)]
 pub struct GateIndex {
@@ -36,6 +63,32 @@ pub struct GateIndex {
 impl GateIndex {
     /// The index of a circuit's gates.
     pub fn new(alloc: Global, circuit: &Circuit) -> Result<Self, AllocError>
+        requires { length circuit.now.gates ≤ LARGEST }
+        ensures { IfOk result (λ index. IsIndexOf circuit.now.gates index) }
+    {
+        if circuit.max_var as usize / NEAR < circuit.gates.len() {
+            GateIndex::of_near(alloc, circuit)
+        } else {
+            GateIndex::of_spread(alloc, circuit)
+        }
+    }
+
+    fn of_near(alloc: Global, circuit: &Circuit) -> Result<Self, AllocError>
+        requires { length circuit.now.gates ≤ LARGEST }
+        ensures { IfOk result (λ index. IsIndexOf circuit.now.gates index) }
+    {
+        let gates = circuit.gates.as_slice();
+        let mut positions = VarMap::for_circuit(alloc, circuit)?;
+        let mut seen = VarSet::new(alloc, gates.len(), circuit.max_var)?;
+        let mut is_once = true;
+        for position in 0..gates.len() {
+            let var = gates[position].var;
+            is_once &= insert_unseen(&mut positions, &mut seen, var, position as u32)?;
+        }
+        Ok(GateIndex { positions, is_once })
+    }
+
+    fn of_spread(alloc: Global, circuit: &Circuit) -> Result<Self, AllocError>
         requires { length circuit.now.gates ≤ LARGEST }
         ensures { IfOk result (λ index. IsIndexOf circuit.now.gates index) }
     {

@@ -143,17 +143,17 @@ impl Order {
         self.marks[gate as usize / 64] |= 1 << (gate % 64);
     }
 
-    /// Counts down what a gate waits for, as one step.
+    /// Counts down what a gate waits for to what is left then, as one step. What it waited for is not
+    /// read: a read would be waited for, a write is not.
     #[inline(always)]
-    pub fn count_down(&mut self, gate: u32)
+    pub fn count_down(&mut self, gate: u32, left: u8)
         requires there { gate < length self.old.waiting }
-        requires waiting { 0 < slice_index self.old.waiting gate }
-        ensures waiting { self.new.waiting
-            ≡ slice_set self.old.waiting gate (slice_index self.old.waiting gate - 1) }
+        requires waiting { slice_index self.old.waiting gate ≡ left + 1 }
+        ensures waiting { self.new.waiting ≡ slice_set self.old.waiting gate left }
         ensures steps { self.new.steps ≡ self.old.steps + 1 }
         ensures list { self.new.list ≡ self.old.list }
     {
-        self.waiting[gate as usize] -= 1;
+        self.waiting[gate as usize] = left;
         self.counted += 1;
     }
 

@@ -24,7 +24,7 @@ use Rattle.aig_topo.proofs.Ordering.Trees.{eqb_comm}
 use Rattle.aig_topo.proofs.Ordering.Ranked.{at, no_gate, variables}
 use Rattle.aig_topo.proofs.Ordering.Counted.{among_first}
 use Rattle.aig_topo.proofs.Ordering.Cyclic.{among_last}
-use Rattle.aig_meaning.proofs.Related.{distinct_front}
+use Rattle.aig_meaning.proofs.Related.{distinct_apart, distinct_front}
 use Rattle.aig_image.specs.declared.numbers.Numbers.{Numbers}
 use Rattle.aig_image.specs.Parts.InTurn.{HasNumber, AreMadeOf, next_numbered, numbered_gate}
 use Rattle.aig_image.specs.Parts.Numbers.{number_of, number_in, HaveNumbers}
@@ -210,6 +210,16 @@ module _ (before : List ℕ) (gs made : List Gate) (n : Numbers) (i : ℕ) (sofa
           in_list (before ++ variables (take i gs)) v,
         ),
       )
+
+  -- and the gate's variable has none yet
+  pub none_yet : (g : Gate) → AreDistinct (before ++ variables gs) → g ≡ get_or made i g → get n.numbers g.var ≡ None
+  none_yet g once read =
+      let f : Gate → Gate = numbered_gate (renumbered (before ++ variables gs)) in
+      let stands : g ≡ get_or gs i g = stands_ahead gs made f i g there sofar.made read in
+      let xs : List ℕ = before ++ variables (take i gs) in
+      let cut = around before gs i g there stands in
+      sofar.numbers.others g.var (no_number g.var xs
+      (λ a. distinct_apart xs (g.var ∷ variables (drop (suc i) gs)) (rw cut at once) g.var a (inl refl)))
 
   pub one_made : (m : Numbers) (g h : Gate) → AreDistinct (before ++ variables gs)
       → AllByRecursion (λ v. 1 ≤ v) (before ++ variables gs) → g ≡ get_or made i g → HasNumber n g.left

@@ -61,4 +61,9 @@ impl Places for Bits {
         self.words[index / 64] |= 1 << (index % 64);
         is_new
     }
+
+    #[inline(always)]
+    fn put(&mut self, index: usize, _value: ()) {
+        self.words[index / 64] |= 1 << (index % 64);
+    }
 }

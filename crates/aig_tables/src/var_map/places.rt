@@ -48,6 +48,15 @@ pub trait Places {
         ensures held { (i : ℕ) → held self.new i
             ≡ option_or (held self.old i) (if i == index then Some value else None) }
         ensures same_places { (i : ℕ) → covered self.new i ≡ covered self.old i };
+
+    /// Puts a value into the place of an index that has none. The place is not read.
+    fn put(&mut self, index: usize, value: Self::Item)
+        requires has_place { covered self.old index ≡ true }
+        requires none { held self.old index ≡ None }
+        requires fits { fits value }
+        ensures held { (i : ℕ) → held self.new i
+            ≡ option_or (held self.old i) (if i == index then Some value else None) }
+        ensures same_places { (i : ℕ) → covered self.new i ≡ covered self.old i };
 }
 
 /// What a map may have of variables, and the places for it.

@@ -97,4 +97,10 @@ impl Places for Table {
         }
         is_new
     }
+
+    #[inline(always)]
+    fn put(&mut self, index: usize, value: u32) {
+        let place = self.slot(index);
+        self.places[place] = value + 1;
+    }
 }

@@ -109,13 +109,12 @@ module _ (positions : List ℕ) (taken : ℕ) (marks waiting : List ℕ) (counte
       paid = is.paid;
     }
 
-  -- it is counted down where it waits for some
-  pub counts_down : (n : ℕ) → n ≡ get_or waiting g n → 0 < get_or waiting g 0
-      → IsCounted positions taken marks (put waiting g (n - 1)) (counted + 1)
-  counts_down n n_is some =
-      let as_long : length (put waiting g (n - 1)) ≡ length waiting = length-set waiting g (n - 1) in
-      let same : get_or waiting g 0 ≡ n = sym (n_is ∙ get_or_default waiting g n 0 there) in
-      let less : sum (put waiting g (n - 1)) + get_or waiting g 0 ≡ sum waiting + (n - 1) =
+  -- it is counted down to one less
+  pub counts_down : (left : ℕ) → get_or waiting g 0 ≡ left + 1
+      → IsCounted positions taken marks (put waiting g left) (counted + 1)
+  counts_down left was =
+      let as_long : length (put waiting g left) ≡ length waiting = length-set waiting g left in
+      let less : sum (put waiting g left) + get_or waiting g 0 ≡ sum waiting + left =
       search (rules, sum_by-set) in record {
         room = is.room ∙ sym as_long;
         marked = rw as_long is.marked;
@@ -124,7 +123,7 @@ module _ (positions : List ℕ) (taken : ℕ) (marks waiting : List ℕ) (counte
         once = is.once;
         below = rw as_long is.below;
         told = is.told;
-        paid = omega (arith, is.paid, less, some, same, as_long);
+        paid = omega (arith, is.paid, less, was, as_long);
       }
 
 -- at first no gate is taken, and each waits for at most two operands

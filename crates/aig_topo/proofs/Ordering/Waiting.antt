@@ -247,9 +247,12 @@ module _ (all : List Needs) (lists : Lists) (ready : Tree) (seen : ℕ) where
           }
 
       -- an operand of it is counted, the rest of what it needs is asked for, and it is entered again
-      module _ (less : Progress) (ahead : ℕ) (ahead_is : linked ahead ≡ rest_by lists.rows.items u)
-          (counts : less.waiting ≡ put order.waiting u (get_or order.waiting u 0 - 1))
+      module _ (less : Progress) (ahead left : ℕ) (ahead_is : linked ahead ≡ rest_by lists.rows.items u)
+          (left_is : left ≡ length (linked ahead)) (told : less.waiting ≡ put order.waiting u left)
           (steps : less.steps ≡ order.steps + 1) (list : less.list ≡ order.list) where
+        counts : less.waiting ≡ put order.waiting u (get_or order.waiting u 0 - 1)
+        counts = told ∙ ap (put order.waiting u) (omega (arith, left_is, ap length ahead_is, waited.counted))
+
         fits : u < length order.waiting
         fits = omega (arith, waited.below, stands.waits.within, stands.waits.room.counted)
 

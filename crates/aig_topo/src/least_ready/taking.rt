@@ -28,12 +28,12 @@ struct Missing {
     rest: u32,
 }
 
-/// Answers whether the gate that is needed is missing.
+/// Answers whether the gate that is needed is missing. Without it so many are left to wait for.
 #[inline(always)]
-fn count_if_taken(needed: u32, gate: u32, order: &mut Order) -> bool
+fn count_if_taken(needed: u32, left: u8, gate: u32, order: &mut Order) -> bool
     requires there { gate < length order.old.waiting }
     requires needed { AllByRecursion (λ h. h < length order.old.waiting) (linked needed) }
-    requires waiting { length (linked needed) ≤ slice_index order.old.waiting gate }
+    requires waiting { 0 < needed → slice_index order.old.waiting gate ≡ left + 1 }
     ensures missing { result ≡ nat_lt 0 (left_over order.old.list (linked needed)) }
     ensures for_gate { CountsFor gate order.old order.new }
     ensures counted { slice_index order.new.waiting gate + length (linked needed)
@@ -45,7 +45,7 @@ fn count_if_taken(needed: u32, gate: u32, order: &mut Order) -> bool
     if !order.has(needed - 1) {
         return true;
     }
-    order.count_down(gate);
+    order.count_down(gate, left);
     false
 }
 
@@ -66,13 +66,13 @@ fn missing_gate(asked: Needs, gate: u32, order: &mut Order) -> Option<Missing>
     ensures there { IfSome result (λ m.
         AllByRecursion (λ h. h < length order.old.waiting) (m.gate ∷ linked m.rest)) }
 {
-    if count_if_taken(asked.left, gate, order) {
+    if count_if_taken(asked.left, u8::from(asked.right > 0), gate, order) {
         return Some(Missing {
             gate: asked.left - 1,
             rest: asked.right,
         });
     }
-    if count_if_taken(asked.right, gate, order) {
+    if count_if_taken(asked.right, 0, gate, order) {
         return Some(Missing {
             gate: asked.right - 1,
             rest: 0,
@@ -116,7 +116,7 @@ fn count_rest(gate: u32, order: &mut Order, lists: &Lists)
         ≡ suc (left_over order.old.list (rest_by lists.now.rows.items gate)) }
 {
     if order.waiting(gate) > 0 {
-        count_if_taken(lists.rest(gate), gate, order);
+        count_if_taken(lists.rest(gate), 1, gate, order);
     }
 }
 
@@ -171,7 +171,7 @@ impl Search {
                 right: ahead,
             };
             ahead = self.lists.first_rest(gate);
-            self.order.count_down(user);
+            self.order.count_down(user, asked.count());
             self.enter(user, asked);
         }
     }

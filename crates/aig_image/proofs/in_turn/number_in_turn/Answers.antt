@@ -1,7 +1,7 @@
 use Rattle.std.proofs.Common.{length-append}
 use Rattle.std.proofs.lemmas.List.{length-map}
 use Rattle.aig_image.specs.Parts.Numbers.{first_variables}
-use Rattle.aig_image.proofs.Numbering.Kept.{none_made, room_left, one_made, all_made}
+use Rattle.aig_image.proofs.Numbering.Kept.{none_made, room_left, none_yet, one_made, all_made}
 use Rattle.aig_image.proofs.in_turn.number_in_turn.Goals as goal
 
 pub loop-at-init : goal.loop-at-init
@@ -14,7 +14,13 @@ next_gate-requires c =
     let room =
     room_left (first_variables c.args.circuit.now) c.args.gates.now c.loop-at.gates c.loop-at.numbers c.loop-at.at
     c.loop-at.invariant c.loop-at-test.true (simp (length-append, length-map) c.requires.few) in
-    record { room = room.0; small = room.1 }
+    record {
+      room = room.0;
+      small = room.1;
+      none = none_yet (first_variables c.args.circuit.now) c.args.gates.now c.loop-at.gates c.loop-at.numbers
+          c.loop-at.at c.loop-at.invariant c.loop-at-test.true c.index-gates-at.result c.requires.once
+          c.index-gates-at.is;
+    }
 
 pub loop-at-preserved : goal.loop-at-preserved
 loop-at-preserved c =

@@ -30,7 +30,8 @@ enter-requires g c =
     let e = c.in-Some.ensures in
     let d = c.count_down.ensures in
     entered_again g.all s.lists s.ready s.seen s.order (Some gate) inv.stands new gate user e.lists e.needs e.first
-    e.others less c.loop-user.ahead (inv.ahead user (list_in new.rows.items gate) e.first) d.waiting d.steps d.list
+    e.others less c.loop-user.ahead c.count.result (inv.ahead user (list_in new.rows.items gate) e.first)
+    c.count.ensures d.waiting d.steps d.list
     (subst (IsAmong gate) (sym inv.list) c.requires.0)
 
 pub loop-user-preserved : goal.loop-user-preserved

@@ -3,7 +3,7 @@ use Rattle.std.specs.FinMap.{get}
 use Rattle.aig_circuit.specs.declared.circuit.Gate.{Gate}
 use Rattle.aig_circuit.specs.Wellformed.{AreDistinct}
 use Rattle.aig_topo.specs.Order.{gate_of}
-use Rattle.aig_topo.proofs.index.GateIndex.new.Given as goal
+use Rattle.aig_topo.proofs.index.GateIndex.of_spread.Given as goal
 
 abbrev pub invariant-loop-position : goal.invariant-loop-position
 invariant-loop-position l = record {

@@ -4,7 +4,7 @@ use Rattle.aig_topo.specs.Order.{gate_of}
 use Rattle.aig_topo.proofs.Ordering.Trees.{gate_of_more}
 use Rattle.aig_topo.proofs.Ordering.Index.{once_more}
 use Rattle.aig_tables.proofs.Tables.Maps.{get-with_new}
-use Rattle.aig_topo.proofs.index.GateIndex.new.Goals as goal
+use Rattle.aig_topo.proofs.index.GateIndex.of_spread.Goals as goal
 
 pub loop-position-init : goal.loop-position-init
 loop-position-init c = record {
