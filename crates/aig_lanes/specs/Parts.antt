@@ -1,9 +1,7 @@
 pub mod Benches
-pub mod Lanes
 pub mod Groups
 pub mod Sheets
 pub mod InputBits
 pub mod Vectors
 pub mod LaneTexts
 pub mod Kept
-pub mod Places

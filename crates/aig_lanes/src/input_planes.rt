@@ -9,14 +9,13 @@ ghost use Rattle.aig_circuit.specs.declared.value.Val.TheVariants.{Zero};
 ghost use Rattle.aig_lanes.specs.declared.input_bits.InputWord.{InputWord as InputWordRecord};
 ghost use Rattle.aig_lanes.specs.Parts.InputBits.{AreBlocks, AreBytes, AreWords};
 ghost use Rattle.aig_lanes.specs.Parts.InputBits.{IsWord, byte_in, word_at};
-ghost use Rattle.aig_lanes.specs.Parts.Lanes.{IsLane, IsPlane, bit_in};
+ghost use Rattle.aig_places.specs.Lanes.{IsLane, IsPlane, bit_in};
 ghost use Rattle.aig_step.specs.Parts.Tables.{placed};
 ghost use Rattle.aig_step.specs.TraceText.{values_text};
 
 use crate::input_bits::BlockBits;
-use crate::lanes::{put_in_all_lanes, put_pair};
-use crate::planes::Plane;
 use aig_circuit::Val;
+use aig_places::{Plane, put_in_all_lanes, put_pair};
 use std::simd::Simd;
 use std::simd::prelude::*;
 

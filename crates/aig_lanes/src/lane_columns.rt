@@ -6,8 +6,8 @@ ghost use Rattle.std.specs.List.{All};
 ghost use Rattle.aig_circuit.specs.declared.circuit.Latch.{Latch as LatchRecord};
 ghost use Rattle.aig_circuit.specs.declared.value.Val.{Val as Value};
 ghost use Rattle.aig_meaning.specs.Meaning.{Row as RowRecord, literal_value};
-ghost use Rattle.aig_lanes.specs.Parts.Groups.{Begun, IsWhole};
-ghost use Rattle.aig_lanes.specs.Parts.Lanes.{IsLane, IsPair};
+ghost use Rattle.aig_places.specs.Tables.{Begun, IsWhole};
+ghost use Rattle.aig_places.specs.Lanes.{IsLane, IsPair};
 ghost use Rattle.aig_lanes.specs.Parts.Kept.{asked as asked_of, reset_literal as literal_by};
 ghost use Rattle.aig_lanes.specs.Parts.Kept.{reset_literals as literals_by, seen as seen_of};
 ghost use Rattle.aig_lanes.specs.Parts.Sheets.{SameRoom, text_in};
@@ -15,15 +15,13 @@ ghost use Rattle.aig_lanes.specs.Runs.{row_of};
 ghost use Rattle.aig_step.specs.Parts.Tables.{IsLiteralBelow, read_from};
 ghost use Rattle.aig_step.specs.TraceText.{values_text};
 
-use crate::lanes::{planes_of, put_literal_planes};
-use crate::places::Places;
-use crate::placing::places_for;
-use crate::planes::{Plane, plane_of};
 use crate::run::FullRow;
 use crate::sheets::Sheet;
-use crate::tables::{begin_table, fill_table};
 use crate::vectors::RunGroup;
 use aig_circuit::{Circuit, Latch, Listing, Lit, OutOfMemory, Reset, Val};
+use aig_places::{
+    Places, Plane, begin_table, fill_table, places_for, plane_of, planes_of, put_literal_planes,
+};
 use aig_step::{Columns, Machine, write_text_column};
 use std::alloc::{AllocError, Global};
 

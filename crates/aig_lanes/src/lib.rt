@@ -12,14 +12,9 @@ mod byte_rows;
 mod input_bits;
 mod input_planes;
 mod lane_columns;
-mod lanes;
-mod places;
-mod placing;
-mod planes;
 mod run;
 mod sheets;
 mod shown_line;
-mod tables;
 mod transposed;
 mod vectors;
 

@@ -5,17 +5,17 @@ ghost use Rattle.std.specs.Prelude.{slice_index_or, take};
 ghost use Rattle.std.specs.List.{All};
 ghost use Rattle.aig_circuit.specs.declared.value.Val.{Val as Value};
 ghost use Rattle.aig_lanes.specs.declared.run.Run.{Run as RunRecord};
-ghost use Rattle.aig_lanes.specs.Parts.Lanes.{bit_in};
+ghost use Rattle.aig_places.specs.Lanes.{bit_in};
 ghost use Rattle.aig_lanes.specs.Parts.Sheets.{BytesText, HoldsSteps, IsSheet};
 ghost use Rattle.aig_lanes.specs.Parts.Sheets.{bytes_text, character_by, eight_at};
 ghost use Rattle.aig_lanes.specs.Parts.Sheets.{overwritten, part, text_in};
 ghost use Rattle.aig_step.specs.TraceText.{character_of, values_text};
 
 use crate::byte_rows::ByteRows;
-use crate::planes::Plane;
 use crate::transposed::transpose;
 use crate::vectors::{RunGroup, Vectors};
 use aig_circuit::{Listing, OutOfMemory, Val};
+use aig_places::Plane;
 use std::alloc::{AllocError, Global};
 use std::marker::Model;
 

@@ -3,10 +3,10 @@
 ghost use Rattle.std.specs.Prelude.{◌≡◌, ◌+◌, ◌*◌, ◌/◌, ◌%◌, ◌<◌, ◌==◌, ℕ};
 ghost use Rattle.std.specs.Prelude.{[], if◌then◌else◌, slice_index_or};
 ghost use Rattle.std.specs.Int.{bit_at};
-ghost use Rattle.aig_lanes.specs.Parts.Lanes.{bit_in};
+ghost use Rattle.aig_places.specs.Lanes.{bit_in};
 ghost use Rattle.aig_lanes.specs.Parts.Sheets.{byte_at};
 
-use crate::planes::Plane;
+use aig_places::Plane;
 use std::simd::prelude::*;
 
 #[inline(always)]

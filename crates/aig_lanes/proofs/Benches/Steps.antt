@@ -32,8 +32,8 @@ use Rattle.aig_lanes.specs.Parts.InputBits.{AreBlocks, HasLaneRoom, HasStep, Sam
 use Rattle.aig_lanes.specs.Parts.Kept.{asked, reset_literal, reset_literals, seen, step_literals}
 use Rattle.aig_lanes.specs.Parts.LaneTexts.{HoldsRun, ShowsRows, end_of, shown_size, KeepsRun, KeepsTrace, LaneStands}
 use Rattle.aig_lanes.specs.Parts.Sheets.{text_in, BytesText, part}
-use Rattle.aig_lanes.specs.Parts.Groups.{Assigned, Begun}
-use Rattle.aig_lanes.specs.Parts.Lanes.{IsLane, values_in}
+use Rattle.aig_places.specs.Tables.{Assigned, Begun}
+use Rattle.aig_places.specs.Lanes.{IsLane, values_in}
 use Rattle.aig_lanes.specs.Runs.{IsRunOf}
 use Rattle.aig_lanes.proofs.Side.Sheets.{StepsIn, steps_within}
 use Rattle.aig_lanes.proofs.Benches.ShownTexts.{keeps_more, keeps_still, row_stands}

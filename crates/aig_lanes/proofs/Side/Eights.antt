@@ -13,7 +13,7 @@ use Rattle.std.proofs.lemmas.List.FromFn.{get_or-map-range_with_len}
 use Rattle.std.proofs.lemmas.Simd.{get_or-zip2, get_or_narrower, length-zip2}
 use Rattle.aig_circuit.specs.declared.value.Val.{Val}
 use Rattle.aig_circuit.specs.declared.value.Val.TheVariants.{Zero}
-use Rattle.aig_lanes.specs.Parts.Lanes.{IsPair, bit_in}
+use Rattle.aig_places.specs.Lanes.{IsPair, bit_in}
 use Rattle.aig_lanes.specs.Parts.Sheets.{BytesText, byte_at, bytes_text, character_by, eight_at, overwritten}
 use Rattle.aig_step.specs.TraceText.{character_of, values_text}
 use Rattle.aig_lanes.proofs.Side.InputBits.{bit_of_byte}

@@ -16,7 +16,7 @@ use Rattle.std.proofs.lemmas.List.FromFn.{get_or-map-range_with_len}
 use Rattle.aig_circuit.specs.declared.value.Val.{Val}
 use Rattle.aig_circuit.specs.declared.value.Val.TheVariants.{Zero, One, X}
 use Rattle.aig_circuit.specs.Values.{value_not}
-use Rattle.aig_lanes.specs.Parts.Lanes.{bit_in, may_be_one}
+use Rattle.aig_places.specs.Lanes.{bit_in, may_be_one}
 use Rattle.aig_step.specs.TraceText.{character_of}
 use Rattle.aig_lanes.proofs.Side.Sheets.{byte_bit, no_bit, shifted_byte, some_bit}
 use Rattle.aig_lanes.specs.Parts.InputBits.{byte_in}

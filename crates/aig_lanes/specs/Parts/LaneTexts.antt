@@ -10,10 +10,10 @@ use Rattle.aig_lanes.specs.declared.lane_columns.LaneColumns.{LaneColumns}
 use Rattle.aig_step.specs.declared.trace.Columns.{Columns}
 use Rattle.aig_step.specs.declared.trace.Columns.TheVariants.{Plain, Properties}
 use Rattle.aig_lanes.specs.declared.input_bits.InputWord.{InputWord}
-use Rattle.aig_lanes.specs.Parts.Groups.{IsTable}
+use Rattle.aig_places.specs.Tables.{IsTable}
 use Rattle.aig_lanes.specs.Parts.InputBits.{AreBlocks, HoldsLane}
-use Rattle.aig_lanes.specs.Parts.Lanes.{IsLane}
-use Rattle.aig_lanes.specs.Parts.Places.{ArePlaces, StandFor}
+use Rattle.aig_places.specs.Lanes.{IsLane}
+use Rattle.aig_places.specs.Places.{ArePlaces, StandFor}
 use Rattle.aig_lanes.specs.Parts.Kept.{asked, reset_literals, step_literals}
 use Rattle.aig_lanes.specs.Parts.Sheets.{BytesText, part, text_in}
 use Rattle.aig_lanes.specs.Runs.{IsRunOf}

@@ -4,11 +4,11 @@ use Rattle.std.proofs.lemmas.List.{get_or-map, length-map}
 use Rattle.std.specs.Int.{bit_at}
 use Rattle.aig_circuit.specs.declared.value.Val.{Val}
 use Rattle.aig_circuit.specs.declared.value.Val.TheVariants.{Zero}
-use Rattle.aig_lanes.specs.Parts.Lanes.{IsLane}
+use Rattle.aig_places.specs.Lanes.{IsLane}
 use Rattle.aig_step.specs.Parts.Tables.{placed}
 use Rattle.aig_step.specs.TraceText.{character_of, values_text}
 use Rattle.aig_lanes.proofs.Side.InputBits.{bit_of_byte, may_be_one_where, may_be_zero_where}
-use Rattle.aig_lanes.proofs.Side.Tables.{placed_more}
+use Rattle.aig_places.proofs.Side.Tables.{placed_more}
 use Rattle.aig_lanes.proofs.input_planes.put_planes.Goals as goal
 
 -- a bit of a byte that is read by a word

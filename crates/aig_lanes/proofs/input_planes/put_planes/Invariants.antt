@@ -2,7 +2,7 @@ use Rattle.std.specs.Prelude.{◌≡◌, ◌+◌, ◌<◌, ◌≤◌, ℕ, List,
 use Rattle.aig_circuit.specs.declared.value.Val.{Val}
 use Rattle.aig_lanes.specs.declared.input_bits.InputWord.{InputWord}
 use Rattle.aig_lanes.specs.Parts.InputBits.{AreBytes, IsWord}
-use Rattle.aig_lanes.specs.Parts.Lanes.{IsLane}
+use Rattle.aig_places.specs.Lanes.{IsLane}
 use Rattle.aig_step.specs.Parts.Tables.{placed}
 use Rattle.aig_step.specs.TraceText.{values_text}
 use Rattle.aig_lanes.proofs.input_planes.put_planes.Given as goal

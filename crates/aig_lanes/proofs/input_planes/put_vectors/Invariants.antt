@@ -2,7 +2,7 @@ use Rattle.std.specs.Prelude.{◌≡◌, ◌*◌, ◌<◌, ℕ, List, length, sl
 use Rattle.aig_circuit.specs.declared.value.Val.{Val}
 use Rattle.aig_circuit.specs.declared.value.Val.TheVariants.{Zero}
 use Rattle.aig_lanes.specs.Parts.InputBits.{AreWords}
-use Rattle.aig_lanes.specs.Parts.Lanes.{IsLane}
+use Rattle.aig_places.specs.Lanes.{IsLane}
 use Rattle.aig_step.specs.Parts.Tables.{placed}
 use Rattle.aig_lanes.proofs.input_planes.put_vectors.Given as goal
 

@@ -2,7 +2,7 @@ use Rattle.std.proofs.Common.{◌≡◌, ◌+◌, ◌∙◌, ℕ, ap, arith, get
 use Rattle.std.proofs.lemmas.Bool.{cases_lt}
 use Rattle.std.proofs.lemmas.List.{get_or_default}
 use Rattle.aig_meaning.specs.Meaning.{literal_value}
-use Rattle.aig_lanes.specs.Parts.Lanes.{IsPair}
+use Rattle.aig_places.specs.Lanes.{IsPair}
 use Rattle.aig_step.specs.Parts.Tables.{read_from}
 use Rattle.aig_lanes.proofs.Side.Eights.{pair_stands, pair_stays, two_long}
 use Rattle.aig_lanes.proofs.lane_columns.planes_of_literals.Goals as goal

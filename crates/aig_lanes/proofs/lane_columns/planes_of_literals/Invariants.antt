@@ -1,7 +1,7 @@
 use Rattle.std.specs.Prelude.{◌≡◌, ◌+◌, ◌*◌, ◌<◌, ℕ, List, [], length, slice_index_or}
 use Rattle.aig_circuit.specs.declared.value.Val.{Val}
 use Rattle.aig_meaning.specs.Meaning.{literal_value}
-use Rattle.aig_lanes.specs.Parts.Lanes.{IsLane, IsPair}
+use Rattle.aig_places.specs.Lanes.{IsLane, IsPair}
 use Rattle.aig_step.specs.Parts.Tables.{read_from}
 use Rattle.aig_lanes.proofs.lane_columns.planes_of_literals.Given as goal
 

@@ -1,6 +1,6 @@
 use Rattle.std.specs.Prelude.{◌≡◌, ◌+◌, ◌*◌, ◌<◌, ℕ, [], length, slice_index_or}
 use Rattle.std.specs.Int.{bit_at}
-use Rattle.aig_lanes.specs.Parts.Lanes.{bit_in}
+use Rattle.aig_places.specs.Lanes.{bit_in}
 use Rattle.aig_lanes.proofs.transposed.rows_of.Given as goal
 
 abbrev pub invariant-loop-r : goal.invariant-loop-r

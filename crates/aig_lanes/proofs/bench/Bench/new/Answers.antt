@@ -1,8 +1,8 @@
 use Rattle.std.proofs.Common.{◌≡◌, ◌*◌, ◌<◌, ◌^◌, IsTrue, arith, get_or, length, replicate, rules, subst, ℕ}
 use Rattle.std.proofs.lemmas.Simd.{length-replicate}
 use Rattle.aig_circuit.specs.declared.value.Val.TheVariants.{X}
-use Rattle.aig_lanes.specs.Parts.Lanes.{IsLane}
-use Rattle.aig_lanes.proofs.Side.Tables.{table_stands}
+use Rattle.aig_places.specs.Lanes.{IsLane}
+use Rattle.aig_places.proofs.Side.Tables.{table_stands}
 use Rattle.aig_lanes.proofs.bench.Bench.new.Goals as goal
 
 pub returns-clause-is : goal.returns-clause-is

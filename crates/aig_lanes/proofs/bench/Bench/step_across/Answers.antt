@@ -4,7 +4,7 @@ use Rattle.std.proofs.lemmas.List.{with_items_is}
 use Rattle.aig_circuit.specs.declared.circuit.Circuit.{Circuit}
 use Rattle.aig_circuit.specs.declared.value.Val.{Val}
 use Rattle.aig_lanes.specs.declared.lane_columns.LaneColumns.{LaneColumns}
-use Rattle.aig_lanes.specs.Parts.Groups.{IsTable}
+use Rattle.aig_places.specs.Tables.{IsTable}
 use Rattle.aig_lanes.specs.Parts.InputBits.{HoldsLane, one_step, step_of}
 use Rattle.aig_lanes.specs.Parts.LaneTexts.{KeepsRun}
 use Rattle.aig_lanes.specs.Runs.{IsRunOf}

@@ -2,8 +2,8 @@ use Rattle.std.proofs.Common.{◌≡◌, ◌/◌, ◌∙◌, ap, arith, length, 
 use Rattle.std.specs.Vec.{with_items}
 use Rattle.std.proofs.lemmas.List.{length-map, with_items_is}
 use Rattle.aig_step.specs.Parts.Tables.{IsLiteralBelow}
-use Rattle.aig_lanes.specs.Parts.Groups.{IsWhole}
-use Rattle.aig_lanes.specs.Parts.Lanes.{values_in}
+use Rattle.aig_places.specs.Tables.{IsWhole}
+use Rattle.aig_places.specs.Lanes.{values_in}
 use Rattle.aig_lanes.proofs.Benches.Steps.{resets_below, stands_first}
 use Rattle.aig_lanes.proofs.bench.Bench.step_lanes.Goals as goal
 

@@ -1,7 +1,7 @@
 use Rattle.std.proofs.Common.{◌≡◌, ◌+◌, All, List, ap, rules, subst, sym, ℕ}
 use Rattle.aig_circuit.specs.declared.circuit.Latch.{Latch}
 use Rattle.aig_lanes.specs.Parts.Kept.{step_literals}
-use Rattle.aig_lanes.specs.Parts.Places.{StandFor}
+use Rattle.aig_places.specs.Places.{StandFor}
 use Rattle.aig_step.specs.Parts.Tables.{IsLiteralBelow}
 use Rattle.aig_lanes.proofs.Benches.Steps.{literals_below}
 use Rattle.aig_lanes.proofs.lane_columns.LaneColumns.new.Goals as goal

@@ -1,7 +1,7 @@
 use Rattle.std.proofs.Common.{List, length, map, replicate, subst, ℕ}
 use Rattle.aig_circuit.specs.declared.value.Val.TheVariants.{X}
 use Rattle.aig_meaning.specs.Meaning.{literal_value}
-use Rattle.aig_lanes.specs.Parts.Lanes.{IsLane}
+use Rattle.aig_places.specs.Lanes.{IsLane}
 use Rattle.aig_step.specs.Parts.Tables.{read_from}
 use Rattle.aig_lanes.proofs.lane_columns.LaneColumns.put_resets.Goals as goal
 

@@ -2,7 +2,7 @@ use Rattle.std.proofs.Common.{◌≡◌, ◌+◌, ◌*◌, ◌/◌, ◌%◌, ◌
 use Rattle.std.proofs.Common.{sym}
 use Rattle.std.proofs.lemmas.Bool.{cases_lt}
 use Rattle.std.proofs.lemmas.List.{get_or_past, with_items_is}
-use Rattle.aig_lanes.specs.Parts.Lanes.{bit_in}
+use Rattle.aig_places.specs.Lanes.{bit_in}
 use Rattle.aig_lanes.specs.Parts.Sheets.{BytesText, bytes_text, character_by, eight_at, text_in}
 use Rattle.aig_lanes.proofs.Side.Eights.{eight_character, eight_long, overwritten_at, overwritten_front}
 use Rattle.aig_lanes.proofs.Side.Eights.{overwritten_size}

@@ -1,0 +1,3 @@
+pub mod Planes
+pub mod Tables
+pub mod Places
