@@ -24,7 +24,7 @@ NOT_VARIABLE 2 line 2: not a variable
 >>> circuit = read(and_gate)
 >>> circuit
 <Circuit: max_var 3, 2 inputs, 1 outputs, 1 gates>
->>> for literal, left, right in circuit.gates:
+>>> for literal, left, right in circuit.gates.tuples():
 ...     print(literal, left, right)
 6 4 2
 >>> circuit.outputs[0] ^= 1
