@@ -88,7 +88,7 @@ launch() { look_again && RT=$work/rt "$tree/aiger" "$@"; }
 edit() { echo '// more' >> "$tree/crates/low/src/lib.rt" && look_again; }
 on_the_path() { ( unset RT; export PATH=$1:/usr/bin:/bin && shift && exec "$@" ); }
 without_kit() { look_again && on_the_path "$work/none" "$tree/aiger" "$@"; }
-begins='aiger: proving and linking the program from its sources: up to 35 minutes on four cores the first time ..
+begins='aiger: proving and linking the program from its sources: up to an hour on four cores the first time ..
 '
 links_it="aiger: 3 of 3: aiger is proved
 aiger: the program is linked: $out/aiger

@@ -580,7 +580,10 @@ def check_examples(folder, program):
             judge(name, holds, *details)
     words = [sys.executable, TOP / "tests/run/readme.py", program, TOP / "examples/README.md"]
     ran = subprocess.run(words, capture_output=True, text=True, check=False)
-    judge("examples/README.md, with nothing skipped", re.fullmatch(r"\d+ passed, 0 failed\n", ran.stdout), ran.stdout)
+    # one command wants what aiger-check works with
+    skips = "" if all(map(shutil.which, ("yosys", "berkeley-abc", "cadical"))) else ", 1 skipped"
+    wanted = rf"\d+ passed, 0 failed{skips}\n"
+    judge("examples/README.md, with nothing else skipped", re.fullmatch(wanted, ran.stdout), ran.stdout)
 
 
 # what a model checker carries of Biere's library: a header aiger.h, and a function of another type than ours had
