@@ -185,7 +185,7 @@ def lines(circuit, largest=0, order=None, is_later=False):
         left, right = circuit.gates[at]
         yield f"{new[2 * (circuit.first + at)]} {new[left]} {new[right]}\n"
     # what were outputs are bad states
-    yield re.sub("(?m)^o(?=.* )", "b", circuit.tail.partition("c\n")[0]) if is_later else circuit.tail
+    yield re.sub(r"(?m)^o(?=\d+ )", "b", re.split(r"(?m)^c\n", circuit.tail)[0]) if is_later else circuit.tail
 
 
 def shuffled(circuit):
@@ -278,9 +278,16 @@ def make(name):
     return FAMILIES[family](int(count)) if family in FAMILIES else read(name)
 
 
+def is_there(name, path):
+    """Whether a form of the circuit is there, and is no older than the file that it is made of."""
+    made_of_file = os.path.isfile(name)
+    return os.path.isfile(path) and not (made_of_file and os.path.getmtime(path) < os.path.getmtime(name))
+
+
 def write(name, forms, folder=OUT):
     """Writes those of the forms of the circuit that are not there."""
-    paths = {form: path_of(name, form, folder) for form in forms if not os.path.isfile(path_of(name, form, folder))}
+    paths = {form: path_of(name, form, folder) for form in forms}
+    paths = {form: path for form, path in paths.items() if not is_there(name, path)}
     if not paths:
         return
     os.makedirs(folder, exist_ok=True)

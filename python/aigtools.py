@@ -734,7 +734,7 @@ class Entries(Sequence):
     >>> gates
     [Gate(literal=6, left=4, right=2), Gate(literal=8, left=6, right=3)]
 
-    Of a million gates, ``tuples`` are gone through in a fifth of the time that these take, and ``pairs`` are one call.
+    Where they are many, ``tuples`` are unpacked in a sixth of the time that these take, and ``pairs`` are one call.
     """
 
     def __init__(self, entry: Callable[[int, int, int], Any], given: Iterable[Any]) -> None:

@@ -4,7 +4,7 @@
     PYTHONPATH=python python3 examples/python/convert_all.py FROM TO
 
 NAME.aag or NAME.aig of FROM becomes NAME.aig of TO, which is made where it is missing. A file that is refused is named
-with the reason, and the others are converted. Status 0: all were; 1: some were not, or a folder cannot be read or
+with the reason, and the others are converted; so is NAME.aig where NAME.aag is there, or where TO is FROM. Status 0: all were; 1: some were not, or a folder cannot be read or
 written; 2: wrong words."""
 import argparse
 import sys
@@ -15,8 +15,11 @@ import aigtools
 
 def convert(path, folder):
     """Writes the binary form of a file into the folder, and answers what is wrong with it, if anything is."""
+    made = folder / f"{path.stem}.aig"
+    if path.suffix == ".aig" and (path.with_suffix(".aag").exists() or made.exists() and made.samefile(path)):
+        return f"{path}: what is made of another file, or of this one, has its name"
     try:
-        (folder / f"{path.stem}.aig").write_bytes(aigtools.convert(path.read_bytes()))
+        made.write_bytes(aigtools.convert(path.read_bytes()))
     except OSError as why:
         return f"{why.filename}: {why.strerror}"
     except aigtools.Refused as why:

@@ -163,6 +163,10 @@ def of_folder(convert, work):
     (source / "c.aag").unlink()
     came = script("convert_all.py", source, target)
     yield "convert_all.py of good files", came == (b"2 files converted\n", "", 0), came
+    (source / "a.aig").write_bytes(convert(CHAIN))
+    output, errors, status = script("convert_all.py", source, target)
+    kept = (target / "a.aig").read_bytes() == convert(EACH)
+    yield "convert_all.py of one name twice", (output, status, kept) == (b"2 files converted\n", 1, True), errors
     came = script("convert_all.py", work / "none", target)
     yield "convert_all.py of no folder", came == (b"", f"convert_all.py: {work}/none: No such file or directory\n", 1), came
     output, errors, status = script("convert_all.py", source)
