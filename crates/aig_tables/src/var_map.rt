@@ -20,11 +20,40 @@ mod slot;
 mod spread;
 mod table;
 
+pub use crate::var_map::ranks::Ranks;
+
 /// Below so many indices for each definition of a circuit, each index has its place.
 const PLACES_PER_DEFINITION: usize = 3;
 
 /// Below so many indices for each definition of a circuit, each index has a bit.
-pub const BITS_PER_DEFINITION: usize = 32;
+const BITS_PER_DEFINITION: usize = 32;
+
+/// How far the variables that a circuit defines lie apart, which decides what a map of them is fast
+/// for.
+#[derive(Clone, Copy)]
+pub enum Spacing {
+    /// Near one another: each index has its place.
+    Near,
+    /// Spread: each index has a bit, and each that is defined a place.
+    Spread,
+    /// Far apart: there are slots for so many as are defined.
+    Far,
+}
+
+impl Spacing {
+    /// How far they lie apart in this circuit.
+    pub fn of_circuit(circuit: &Circuit) -> Spacing {
+        let definitions = circuit.definition_count();
+        let largest = circuit.max_var as usize;
+        if largest < definitions.saturating_mul(PLACES_PER_DEFINITION) {
+            Spacing::Near
+        } else if largest < definitions.saturating_mul(BITS_PER_DEFINITION) {
+            Spacing::Spread
+        } else {
+            Spacing::Far
+        }
+    }
+}
 
 /// Values of variables. Where the largest index is not far above their number, which is most often,
 /// each index has its place; where it is farther above, each that a circuit defines. Otherwise few
@@ -68,11 +97,8 @@ impl<T: MapValue> VarMap<T> {
     pub fn for_circuit(alloc: Global, circuit: &Circuit) -> Result<Self, AllocError>
         ensures { IfOk result (λ values. values ≡ map.empty) }
     {
-        let definitions = circuit.definition_count();
-        let largest = circuit.max_var as usize;
-        let is_spread = largest >= definitions.saturating_mul(PLACES_PER_DEFINITION);
-        if !is_spread || largest >= definitions.saturating_mul(BITS_PER_DEFINITION) {
-            return VarMap::new(alloc, definitions, circuit.max_var);
+        if !matches!(Spacing::of_circuit(circuit), Spacing::Spread) {
+            return VarMap::new(alloc, circuit.definition_count(), circuit.max_var);
         }
         Ok(VarMap {
             places: T::Table::for_circuit(alloc, circuit)?,

@@ -6,7 +6,7 @@ ghost use Rattle.aig_tables.specs.VarMap.{with_new, keys_of};
 ghost use Rattle.aig_topo.specs.Index.{IsIndexOf};
 
 use aig_circuit::{Circuit, Gate, LARGEST, Var};
-use aig_tables::{VarMap, VarSet};
+use aig_tables::{Spacing, VarMap, VarSet};
 use std::alloc::{AllocError, Global};
 
 /// How many variables are read ahead together.
@@ -25,12 +25,9 @@ fn is_any_overfull(positions: &VarMap<u32>, gates: &[Gate], from: usize) -> bool
     any
 }
 
-/// Up to so many indices for each gate, the place of a variable is found by its index.
-const NEAR: usize = 4;
-
 /// Gives a variable its position, unless it has one, and answers whether it had none. That is told
-/// by a set, which takes a bit where the position takes a word, so it is near where that is far;
-/// and the position is written without a read, which would be waited for.
+/// by a set: its bits are in the cache where the positions, of a word each, are not. So the position
+/// is written without a read of memory, which would be waited for.
 #[inline(always)]
 fn insert_unseen(
     positions: &mut VarMap<u32>,
@@ -66,10 +63,9 @@ impl GateIndex {
         requires { length circuit.now.gates ≤ LARGEST }
         ensures { IfOk result (λ index. IsIndexOf circuit.now.gates index) }
     {
-        if circuit.max_var as usize / NEAR < circuit.gates.len() {
-            GateIndex::of_near(alloc, circuit)
-        } else {
-            GateIndex::of_spread(alloc, circuit)
+        match Spacing::of_circuit(circuit) {
+            Spacing::Near => GateIndex::of_near(alloc, circuit),
+            _ => GateIndex::of_spread(alloc, circuit),
         }
     }
 

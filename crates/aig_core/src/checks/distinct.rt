@@ -10,7 +10,7 @@ ghost use Rattle.aig_core.specs.Parts.Parted.{AreParts};
 use crate::checks::faults::define_all;
 use aig_circuit::{Circuit, Entry, Listing, OutOfMemory, Var};
 use aig_fault::Stopped;
-use aig_tables::{BITS_PER_DEFINITION, VarSet};
+use aig_tables::{Spacing, VarSet};
 use std::alloc::Global;
 
 /// How many parts there are. Of a million variables a part has some thousands, and a set of so many
@@ -19,10 +19,7 @@ const PARTS: usize = 256;
 
 /// Whether a set of what a circuit defines has no bit for each index.
 pub(super) fn is_spread(circuit: &Circuit) -> bool {
-    let most = circuit
-        .definition_count()
-        .saturating_mul(BITS_PER_DEFINITION);
-    circuit.max_var as usize >= most
+    matches!(Spacing::of_circuit(circuit), Spacing::Far)
 }
 
 fn empty_parts(alloc: Global) -> Result<Vec<Listing<Var>>, OutOfMemory>

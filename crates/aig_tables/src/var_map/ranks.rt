@@ -15,7 +15,7 @@ struct Word {
 /// Indices that are announced. The place of each is how many smaller ones are announced, so there
 /// are places for them alone.
 #[derive(Drop)]
-pub(super) struct Ranks {
+pub struct Ranks {
     words: Vec<Word>,
     count: usize,
     ghost ranking: { IsRanking words.items (length words.items) count },
@@ -62,8 +62,8 @@ impl Ranks {
         }
     }
 
-    /// What a circuit defines is announced.
-    pub(super) fn of_circuit(alloc: Global, circuit: &Circuit) -> Result<Self, AllocError> {
+    /// What a circuit defines is announced. Nothing is promised of it: who relies on it asks `has`.
+    pub fn of_circuit(alloc: Global, circuit: &Circuit) -> Result<Self, AllocError> {
         let count = circuit.max_var.min(LARGEST) / 32 + 1;
         let mut words = vec![in alloc; Word { bits: 0, before: 0 }; count as usize]?;
         announce_all(words.as_mut_slice(), &circuit.inputs);
@@ -73,7 +73,8 @@ impl Ranks {
         Ok(Ranks { words, count })
     }
 
-    pub(super) fn count(&self) -> usize
+    /// How many places there are.
+    pub fn count(&self) -> usize
         ensures { result ≡ self.now.count }
     {
         self.count
@@ -87,15 +88,17 @@ impl Ranks {
         self.words.is_empty()
     }
 
+    /// Whether an index is announced.
     #[inline(always)]
-    pub(super) fn has(&self, index: usize) -> bool
+    pub fn has(&self, index: usize) -> bool
         ensures { result ≡ is_announced self.now.words.items index }
     {
         index / 32 < self.words.len() && self.words[index / 32].bits >> (index % 32) & 1 == 1
     }
 
+    /// The place of an index, below their count: that of no other one.
     #[inline(always)]
-    pub(super) fn rank(&self, index: usize) -> usize
+    pub fn rank(&self, index: usize) -> usize
         requires { is_announced self.now.words.items index ≡ true }
         ensures { result ≡ rank_of self.now.words.items index }
     {
