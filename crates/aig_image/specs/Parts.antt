@@ -3,3 +3,4 @@ pub mod Numbers
 pub mod InOrder
 pub mod InTurn
 pub mod Placed
+pub mod Ranked

@@ -8,23 +8,46 @@ ghost use Rattle.aig_circuit.specs.declared.circuit.TheConstants.{LARGEST};
 ghost use Rattle.aig_tables.specs.VarMap.{with_new};
 ghost use Rattle.aig_topo.specs.Order.{IsLeastReadyOrder};
 ghost use Rattle.aig_image.specs.Image.{IsBinaryImage};
-ghost use Rattle.aig_image.specs.Parts.InTurn.{next_numbered, DefineApart};
-ghost use Rattle.aig_image.specs.Parts.InTurn.{HasNumber, AreMadeOf, IsMadeInTurn};
+ghost use Rattle.aig_image.specs.Parts.InTurn.{next_numbered, new_number, DefineApart};
+ghost use Rattle.aig_image.specs.Parts.InTurn.{HasNumber, AreMadeOf, AreMadeInTurn, IsMadeInTurn};
 ghost use Rattle.aig_image.specs.Parts.Numbers.{number_of, first_variables};
 ghost use Rattle.aig_image.specs.Relabelled.{relabelled_literal, FitIntoLiterals};
 
 use crate::image::{take_gates, with_larger_first};
-use crate::labelling::relabel;
-use crate::numbers::{AHEAD, Numbers};
+use crate::labelling::{Labels, relabel};
+use crate::numbers::{AHEAD, FirstVariables, Numbers};
+use crate::ranked::VariableRanks;
 use aig_checked::{Checked, Ordered};
 use aig_circuit::{Circuit, Gate, Listing, Lit, OutOfMemory, Var};
+use aig_tables::Spacing;
 use aig_topo::Order;
 use std::alloc::{AllocError, Global};
+
+/// New numbers, by variables or by ranks.
+#[derive(Drop)]
+pub(crate) struct KeptNumbers {
+    /// The ranks by which the numbers are kept; none where they are kept by variables.
+    ranks: Option<VariableRanks>,
+    numbers: Numbers,
+}
+
+impl Labels for KeptNumbers {
+    ghost label = { new_number };
+
+    #[inline(always)]
+    fn label(&self, var: Var) -> Var {
+        let kept_by = match &self.ranks {
+            Some(ranks) => ranks.label(var),
+            None => var,
+        };
+        Var(self.numbers.number(kept_by))
+    }
+}
 
 /// New numbers, and the gates of the image by them.
 #[derive(Drop)]
 pub(crate) struct InTurn {
-    numbers: Numbers,
+    numbers: KeptNumbers,
     gates: Vec<Gate>,
 }
 
@@ -68,18 +91,17 @@ fn next_gate(numbers: &mut Numbers, gate: Gate) -> Result<Option<Gate>, AllocErr
 }
 
 /// Makes each of the gates the gate of the image, in the order in which they stand, up to the first
-/// one with an operand that has no number yet. The numbers of the circuit's variables where there
-/// is none such.
-fn number_in_turn(
+/// one with an operand that has no number yet. All numbers, where there is none such.
+fn number_in_turn<F: FirstVariables>(
     alloc: Global,
-    circuit: &Circuit,
+    first: &F,
     gates: &mut [Gate],
 ) -> Result<Option<Numbers>, AllocError>
-    requires { DefineApart circuit.now gates.old }
-    ensures { IfOk result (λ some. IfSome some (λ numbers.
-        AreMadeOf (first_variables circuit.now) gates.old gates.new numbers)) }
+    requires { DefineApart (F.variables first.now) gates.old }
+    ensures { IfOk result (λ some.
+        IfSome some (AreMadeOf (F.variables first.now) gates.old gates.new)) }
 {
-    let mut numbers = Numbers::of_first(alloc, circuit)?;
+    let mut numbers = first.numbers(alloc)?;
     for at in 0..gates.len() {
         if at % AHEAD == 0 && numbers.is_any_overfull(gates, at) {
             return Ok(None);
@@ -92,6 +114,69 @@ fn number_in_turn(
     Ok(Some(numbers))
 }
 
+impl KeptNumbers {
+    fn by_variables(
+        alloc: Global,
+        circuit: &Circuit,
+        gates: &mut [Gate],
+    ) -> Result<Option<Self>, OutOfMemory>
+        requires { DefineApart (first_variables circuit.now) gates.old }
+        ensures { IfOk result (λ some.
+            IfSome some (AreMadeInTurn (first_variables circuit.now) gates.old gates.new)) }
+    {
+        match number_in_turn(alloc, circuit, gates)? {
+            Some(numbers) => Ok(Some(KeptNumbers {
+                ranks: None,
+                numbers,
+            })),
+            None => Ok(None),
+        }
+    }
+
+    /// The ranks are found in a pass of their own, where none waits for another.
+    fn by_ranks(
+        alloc: Global,
+        circuit: &Circuit,
+        gates: &mut [Gate],
+    ) -> Result<Option<Self>, OutOfMemory>
+        requires { DefineApart (first_variables circuit.now) gates.old }
+        ensures { IfOk result (λ some.
+            IfSome some (AreMadeInTurn (first_variables circuit.now) gates.old gates.new)) }
+    {
+        let Some(ranks) = VariableRanks::of_circuit(alloc, circuit)? else {
+            return Ok(None);
+        };
+        let Some(first) = ranks.of_first(alloc, circuit)? else {
+            return Ok(None);
+        };
+        if !ranks.relabel_gates(gates) {
+            return Ok(None);
+        }
+        match number_in_turn(alloc, &first, gates)? {
+            Some(numbers) => Ok(Some(KeptNumbers {
+                ranks: Some(ranks),
+                numbers,
+            })),
+            None => Ok(None),
+        }
+    }
+
+    fn of_gates(
+        alloc: Global,
+        circuit: &Circuit,
+        gates: &mut [Gate],
+    ) -> Result<Option<Self>, OutOfMemory>
+        requires { DefineApart (first_variables circuit.now) gates.old }
+        ensures { IfOk result (λ some.
+            IfSome some (AreMadeInTurn (first_variables circuit.now) gates.old gates.new)) }
+    {
+        match Spacing::of_circuit(circuit) {
+            Spacing::Spread => KeptNumbers::by_ranks(alloc, circuit, gates),
+            _ => KeptNumbers::by_variables(alloc, circuit, gates),
+        }
+    }
+}
+
 impl InTurn {
     /// By gates in the order in which they stand, if each stands after those that it uses.
     fn of_gates(
@@ -99,11 +184,11 @@ impl InTurn {
         circuit: &Circuit,
         mut gates: Vec<Gate>,
     ) -> Result<Option<Self>, OutOfMemory>
-        requires { DefineApart circuit.now gates.items }
+        requires { DefineApart (first_variables circuit.now) gates.items }
         ensures { IfOk result (λ some. IfSome some (λ made.
-            AreMadeOf (first_variables circuit.now) gates.items made.gates.items made.numbers)) }
+            AreMadeInTurn (first_variables circuit.now) gates.items made.gates.items made.numbers)) }
     {
-        match number_in_turn(alloc, circuit, gates.as_mut_slice())? {
+        match KeptNumbers::of_gates(alloc, circuit, gates.as_mut_slice())? {
             Some(numbers) => Ok(Some(InTurn { numbers, gates })),
             None => Ok(None),
         }
@@ -157,7 +242,7 @@ impl InTurn {
             },
         );
         Ordered::from_well_ordered(Circuit {
-            max_var: self.numbers.count(),
+            max_var: self.numbers.numbers.count(),
             gates: Listing::from_vec(self.gates),
             ..rest
         })

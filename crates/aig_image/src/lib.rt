@@ -14,6 +14,7 @@ mod labelling;
 pub mod laws;
 mod numbers;
 mod placed;
+mod ranked;
 
 pub use crate::image::{Renumbering, binary_image, into_binary, sort_operands};
 pub use crate::labelling::{Labels, NamesVariables, relabel};

@@ -54,6 +54,26 @@ impl Defines for Gate {
     }
 }
 
+/// What gets numbers before gates do.
+pub(crate) trait FirstVariables {
+    /// The variables, in the order of their numbers.
+    ghost variables: { Self → List ℕ };
+
+    /// Their numbers, with room for those of gates.
+    fn numbers(&self, alloc: Global) -> Result<Numbers, AllocError>
+        requires { length (variables self.now) ≤ LARGEST }
+        ensures { IfOk result (λ n. HaveNumbers n (variables self.now)) };
+}
+
+/// Inputs and latches.
+impl FirstVariables for Circuit {
+    ghost variables = { first_variables };
+
+    fn numbers(&self, alloc: Global) -> Result<Numbers, AllocError> {
+        Numbers::of_first(alloc, self)
+    }
+}
+
 /// How many variables are read ahead together.
 pub(crate) const AHEAD: usize = 32;
 
@@ -188,6 +208,21 @@ impl Numbers {
         let mut numbers = Numbers { noted: 0, numbers };
         numbers.note_all(circuit.inputs.as_slice())?;
         numbers.note_all(circuit.latches.as_slice())?;
+        Ok(numbers)
+    }
+
+    /// The numbers of these variables, with room for all up to the largest.
+    pub(crate) fn of_variables(
+        alloc: Global,
+        variables: &[Var],
+        largest: u32,
+    ) -> Result<Self, AllocError>
+        requires { length variables.now ≤ LARGEST }
+        ensures { IfOk result (λ n. HaveNumbers n variables.now) }
+    {
+        let numbers = VarMap::new(alloc, largest as usize, largest)?;
+        let mut numbers = Numbers { noted: 0, numbers };
+        numbers.note_all(variables)?;
         Ok(numbers)
     }
 

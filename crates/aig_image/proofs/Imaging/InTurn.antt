@@ -23,6 +23,7 @@ use Rattle.aig_image.specs.Relabelled.{relabelled_gate}
 use Rattle.aig_image.specs.Reordered.{operands_sorted, taken, no_gate, ArePlaces, positions_of}
 use Rattle.aig_image.specs.Renumbering.{renumbered, in_new_order, source_variable}
 use Rattle.aig_image.specs.Parts.InTurn.{DefineApart}
+use Rattle.aig_image.specs.Parts.Numbers.{first_variables}
 use Rattle.aig_image.specs.Laws.{IsOneToOneOnto}
 use Rattle.aig_image.proofs.Relabelling.Formed.{among_there}
 use Rattle.aig_image.proofs.Numbering.Places.{number_of, number_within, place_there, have_positions, back_variable}
@@ -142,6 +143,10 @@ module _ (gates : List Gate) (first vs : List ℕ) (once : AreDistinct vs) (gate
               (in_turn (g ∷ seen) (before ++ gate.var ∷ []) rest (held seen before g holds) least.2 all),
         )
 
+-- inputs and latches are the first variables
+many_first : (c : Circuit) → length (first_variables c) ≡ length c.inputs + length c.latches
+many_first c = simp (length-append, length-map) refl
+
 -- The least ready order of a well-formed circuit has each gate once, so its new order has each variable once.
 module _ (c : Circuit) (order : List ℕ) (good : IsWellFormed c) (least : IsLeastReadyOrder c order) where
   abbrev pub first : List ℕ
@@ -195,12 +200,12 @@ module _ (c : Circuit) (order : List ℕ) (good : IsWellFormed c) (least : IsLea
   pub new_fits : length new ≤ c.max_var
   new_fits = search (rules, at_most, new_once, all_of, each, is_defined)
 
-  few : length c.inputs + length c.latches + length (taken c.gates order) ≤ LARGEST
+  few : length first + length (taken c.gates order) ≤ LARGEST
   few =
       let many = length-map order (λ at. slice_index_or c.gates at no_gate) in
-      omega (arith, many, not_more, definitions_fit c good, good.limits.max_var)
+      omega (arith, many, many_first c, not_more, definitions_fit c good, good.limits.max_var)
 
-  pub taken_apart : DefineApart c (taken c.gates order)
+  pub taken_apart : DefineApart first (taken c.gates order)
   taken_apart = record {
     few = few;
     once = new_once;
@@ -208,9 +213,9 @@ module _ (c : Circuit) (order : List ℕ) (good : IsWellFormed c) (least : IsLea
   }
 
 -- gates as they stand
-pub standing_apart : (c : Circuit) → IsWellFormed c → DefineApart c c.gates
+pub standing_apart : (c : Circuit) → IsWellFormed c → DefineApart (first_variables c) c.gates
 standing_apart c good = record {
-  few = omega (arith, definitions_fit c good, good.limits.max_var);
+  few = omega (arith, many_first c, definitions_fit c good, good.limits.max_var);
   once = good.once;
   some = all_weaker (IsVariableUpTo c.max_var) (λ v. 1 ≤ v) (λ v r. r.0) (defined_variables c) good.in_range;
 }

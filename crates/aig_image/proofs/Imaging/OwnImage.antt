@@ -24,8 +24,8 @@ use Rattle.aig_meaning.proofs.Related.{distinct_apart}
 use Rattle.aig_image.specs.Parts.InOrder.{StandInOrder}
 use Rattle.aig_image.specs.declared.image.Renumbering.{Renumbering}
 use Rattle.aig_image.specs.declared.in_turn.InTurn.{InTurn}
-use Rattle.aig_image.specs.Parts.InTurn.{numbered_gate, AreMadeOf, IsMadeInTurn}
-use Rattle.aig_image.specs.Parts.Numbers.{number_of, HaveNumbers, IsRenumberingOf}
+use Rattle.aig_image.specs.Parts.InTurn.{numbered_gate, new_number, AreMadeInTurn, IsMadeInTurn}
+use Rattle.aig_image.specs.Parts.Numbers.{number_of, number_in, HaveNumbers, IsRenumberingOf}
 use Rattle.aig_image.specs.Relabelled.{FitIntoLiterals, relabelled}
 use Rattle.aig_image.specs.Renumbering.{renumbered, in_new_order}
 use Rattle.aig_image.specs.Reordered.{taken, operands_sorted, converted, with_operands_sorted}
@@ -139,11 +139,13 @@ module _ (c : Circuit) (good : IsWellFormed c) where
   in_place r none stand numbered small = search (rules, least_as_they_stand, taken_as_they_stand, variables)
 
   -- and so do gates that were made in turn as they stand
-  pub made_as_they_stand : (m : InTurn) → AreMadeOf first c.gates m.gates.items m.numbers → IsMadeInTurn c m
+  pub made_as_they_stand : (m : InTurn) → AreMadeInTurn first c.gates m.gates.items m.numbers → IsMadeInTurn c m
   made_as_they_stand m a = record {
     order = as_they_stand;
     least = least_as_they_stand a.in_order;
-    numbers = subst (λ gs. HaveNumbers m.numbers (first ++ variables gs)) (sym taken_as_they_stand) a.numbers;
+    count = subst (λ gs. m.numbers.numbers.noted ≡ length (first ++ variables gs)) (sym taken_as_they_stand) a.count;
+    numbers = λ v.
+        subst (λ gs. new_number m.numbers v ≡ number_in (first ++ variables gs) v) (sym taken_as_they_stand) (a.numbers v);
     gates =
         subst (λ gs. m.gates.items ≡ map (numbered_gate (renumbered (first ++ variables gs))) gs)
         (sym taken_as_they_stand) a.made;

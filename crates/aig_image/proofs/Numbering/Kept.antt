@@ -190,7 +190,7 @@ none_made before gs n numbered = record {
   made = refl;
 }
 
-stands_ahead : {X : Type 0} (xs ys : List X) (f : X → X) (i : ℕ) (x : X) → i < length xs
+pub stands_ahead : {X : Type 0} (xs ys : List X) (f : X → X) (i : ℕ) (x : X) → i < length xs
     → ys ≡ map f (take i xs) ++ drop i xs → x ≡ get_or ys i x → x ≡ get_or xs i x
 stands_ahead xs ys f i x there are is = grind (arith, common_steps)
 

@@ -81,7 +81,7 @@ module _ (f g : ℕ → ℕ) where
   latch_twice : (l : Latch) → relabelled_latch g (relabelled_latch f l) ≡ relabelled_latch (λ v. g (f v)) l
   latch_twice l = ap (λ next. latch (g (f l.var)) next l.reset) (literal_twice l.next)
 
-  gate_twice : (h : Gate) → relabelled_gate g (relabelled_gate f h) ≡ relabelled_gate (λ v. g (f v)) h
+  pub gate_twice : (h : Gate) → relabelled_gate g (relabelled_gate f h) ≡ relabelled_gate (λ v. g (f v)) h
   gate_twice h = ap₂ (gate (g (f h.var))) (literal_twice h.left) (literal_twice h.right)
 
 pub relabellings_compose : (f g : ℕ → ℕ) (c : Circuit) → relabelled g (relabelled f c) ≡ relabelled (λ v. g (f v)) c

@@ -1,5 +1,5 @@
 -- Gates that are made with new numbers in one go: each where its turn comes, over what was numbered before it.
-use Rattle.std.specs.Prelude.{◌≡◌, ◌+◌, ◌<◌, ◌≤◌, ◌⊎◌, ℕ, List, ◌++◌, length, map}
+use Rattle.std.specs.Prelude.{◌≡◌, ◌+◌, ◌<◌, ◌≤◌, ◌⊎◌, ℕ, List, ◌++◌, length, map, Option, None, Some}
 use Rattle.std.specs.List.{AllByRecursion}
 use Rattle.aig_circuit.specs.Literal.{variable_of}
 use Rattle.aig_circuit.specs.Wellformed.{AreDistinct}
@@ -8,9 +8,12 @@ use Rattle.aig_circuit.specs.declared.circuit.Gate.{Gate}
 use Rattle.aig_circuit.specs.declared.circuit.Circuit.{Circuit}
 use Rattle.aig_topo.specs.Order.{IsLeastReadyOrder}
 use Rattle.aig_image.specs.declared.in_turn.InTurn.{InTurn}
+use Rattle.aig_image.specs.declared.in_turn.KeptNumbers.{KeptNumbers}
 use Rattle.aig_image.specs.declared.numbers.Numbers.{Numbers}
 use Rattle.aig_image.specs.Parts.InOrder.{StandInOrder}
-use Rattle.aig_image.specs.Parts.Numbers.{number_of, variables_with, HaveNumbers}
+use Rattle.aig_image.specs.declared.ranked.VariableRanks.{VariableRanks}
+use Rattle.aig_image.specs.Parts.Numbers.{number_of, number_in, HaveNumbers}
+use Rattle.aig_image.specs.Parts.Ranked.{rank_label}
 use Rattle.aig_image.specs.Relabelled.{relabelled_gate, relabelled_literal}
 use Rattle.aig_image.specs.Renumbering.{in_new_order, renumbered}
 use Rattle.aig_image.specs.Reordered.{operands_sorted, taken}
@@ -31,11 +34,11 @@ next_numbered n g = operands_sorted (record {
   right = relabelled_literal (number_of n) g.right;
 })
 
--- the gates define other variables than inputs and latches do, each once, and none of them is the constant
-pub record DefineApart (c : Circuit) (gates : List Gate) : Type 0 where
-  pub few : length c.inputs + length c.latches + length gates ≤ LARGEST
-  pub once : AreDistinct (variables_with c gates)
-  pub some : AllByRecursion (λ v. 1 ≤ v) (variables_with c gates)
+-- the gates define other variables than those before, each once, and none of them is the constant
+pub record DefineApart (before : List ℕ) (gates : List Gate) : Type 0 where
+  pub few : length before + length gates ≤ LARGEST
+  pub once : AreDistinct (before ++ map (λ (g : Gate). g.var) gates)
+  pub some : AllByRecursion (λ v. 1 ≤ v) (before ++ map (λ (g : Gate). g.var) gates)
 
 -- the gates of the image are made of gates that stand in order, and their variables have numbers after these
 pub record AreMadeOf (before : List ℕ) (gates news : List Gate) (n : Numbers) : Type 0 where
@@ -43,9 +46,26 @@ pub record AreMadeOf (before : List ℕ) (gates news : List Gate) (n : Numbers) 
   pub in_order : StandInOrder before gates
   pub made : news ≡ map (numbered_gate (renumbered (before ++ map (λ (g : Gate). g.var) gates))) gates
 
+-- what a number is kept by: the variable, or its rank where there are ranks
+abbrev pub kept_by : Option VariableRanks → ℕ → ℕ
+kept_by None v = v
+kept_by (Some r) v = rank_label r.ranks v
+
+-- the number of a variable, 0 where it has none
+abbrev pub new_number : KeptNumbers → ℕ → ℕ
+new_number n v = number_of n.numbers (kept_by n.ranks v)
+
+-- gates and numbers as above, whatever the numbers are kept by
+pub record AreMadeInTurn (before : List ℕ) (gates news : List Gate) (n : KeptNumbers) : Type 0 where
+  pub count : n.numbers.noted ≡ length (before ++ map (λ (g : Gate). g.var) gates)
+  pub numbers : (v : ℕ) → new_number n v ≡ number_in (before ++ map (λ (g : Gate). g.var) gates) v
+  pub in_order : StandInOrder before gates
+  pub made : news ≡ map (numbered_gate (renumbered (before ++ map (λ (g : Gate). g.var) gates))) gates
+
 -- the gates of the circuit's image, and the numbers of its variables
 pub record IsMadeInTurn (c : Circuit) (m : InTurn) : Type 0 where
   pub order : List ℕ
   pub least : IsLeastReadyOrder c order
-  pub numbers : HaveNumbers m.numbers (in_new_order c order)
+  pub count : m.numbers.numbers.noted ≡ length (in_new_order c order)
+  pub numbers : (v : ℕ) → new_number m.numbers v ≡ number_in (in_new_order c order) v
   pub gates : m.gates.items ≡ map (numbered_gate (renumbered (in_new_order c order))) (taken c.gates order)

@@ -1,7 +1,7 @@
 use Rattle.std.proofs.Common.{◌≡◌, ◌∙◌, sym, subst}
 use Rattle.std.proofs.lemmas.Option.{IfSome_then}
 use Rattle.std.proofs.lemmas.Result.{IfOk-weaker}
-use Rattle.aig_image.specs.Parts.InTurn.{AreMadeOf, DefineApart}
+use Rattle.aig_image.specs.Parts.InTurn.{AreMadeInTurn, DefineApart}
 use Rattle.aig_image.specs.Parts.Numbers.{first_variables}
 use Rattle.aig_image.proofs.Imaging.InTurn.{standing_apart}
 use Rattle.aig_image.proofs.Imaging.OwnImage.{made_as_they_stand}
@@ -9,7 +9,7 @@ use Rattle.aig_image.proofs.in_turn.InTurn.as_they_stand.Goals as goal
 
 pub of_gates-requires : goal.of_gates-requires
 of_gates-requires c =
-    subst (DefineApart c.args.circuit.now) (sym (c.into_vec.ensures ∙ c.in_ok-gates.ensures))
+    subst (DefineApart (first_variables c.args.circuit.now)) (sym (c.into_vec.ensures ∙ c.in_ok-gates.ensures))
     (standing_apart c.args.circuit.now c.requires)
 
 pub returns : goal.returns
@@ -19,5 +19,5 @@ returns c =
     IfOk-weaker c.of_gates.result _ _
     (λ some made. IfSome_then some made
     (λ m a. made_as_they_stand circuit c.requires m
-    (subst (λ gs. AreMadeOf (first_variables circuit) gs m.gates.items m.numbers) are a)))
+    (subst (λ gs. AreMadeInTurn (first_variables circuit) gs m.gates.items m.numbers) are a)))
     c.of_gates.ensures

@@ -2,7 +2,7 @@ use Rattle.std.proofs.Common.{◌≡◌, ◌<◌, rules, length, sym, subst}
 use Rattle.std.specs.List.{AllByRecursion}
 use Rattle.std.proofs.lemmas.Option.{IfSome_then}
 use Rattle.std.proofs.lemmas.Result.{IfOk-weaker}
-use Rattle.aig_image.specs.Parts.InTurn.{AreMadeOf, DefineApart}
+use Rattle.aig_image.specs.Parts.InTurn.{AreMadeInTurn, DefineApart}
 use Rattle.aig_image.specs.Parts.Numbers.{first_variables}
 use Rattle.aig_image.specs.Reordered.{taken}
 use Rattle.aig_image.proofs.Imaging.InTurn.{order_there, taken_apart}
@@ -19,7 +19,7 @@ are_taken c = search rules
 
 pub of_gates-requires : goal.of_gates-requires
 of_gates-requires c =
-    subst (DefineApart c.args.circuit.now) (sym (are_taken c))
+    subst (DefineApart (first_variables c.args.circuit.now)) (sym (are_taken c))
     (taken_apart c.args.circuit.now c.args.order.now.list c.requires.good c.requires.least)
 
 pub returns : goal.returns
@@ -29,6 +29,6 @@ returns c =
     let are : c.into_vec.result.items ≡ taken circuit.gates order = search rules in
     IfOk-weaker c.of_gates.result _ _
     (λ some made. IfSome_then some made
-    (λ m a. let of_taken = subst (λ gs. AreMadeOf (first_variables circuit) gs m.gates.items m.numbers) are a in
-    record { order = order; least = c.requires.least; numbers = of_taken.numbers; gates = of_taken.made }))
+    (λ m a. let of_taken = subst (λ gs. AreMadeInTurn (first_variables circuit) gs m.gates.items m.numbers) are a in
+    record { order = order; least = c.requires.least; count = of_taken.count; numbers = of_taken.numbers; gates = of_taken.made }))
     c.of_gates.ensures

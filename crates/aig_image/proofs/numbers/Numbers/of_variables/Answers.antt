@@ -1,0 +1,9 @@
+use Rattle.std.proofs.Common.{[], refl, subst, map-id}
+use Rattle.aig_image.specs.Parts.Numbers.{HaveNumbers}
+use Rattle.aig_image.proofs.Numbering.Kept.{none_noted}
+use Rattle.aig_image.proofs.numbers.Numbers.of_variables.Goals as goal
+
+pub returns : goal.returns
+returns c =
+    subst (HaveNumbers c.note_all.new.self) (map-id c.args.variables.now)
+    (c.in_ok-note_all.ensures.numbers [] (none_noted _ refl c.in_ok-numbers.ensures))
