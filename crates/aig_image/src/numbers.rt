@@ -5,6 +5,7 @@ ghost use Rattle.std.specs.Prelude.{IfOk, OnOk, IsTrue, None, if◌then◌else�
 ghost use Rattle.std.specs.Option.{IfSome};
 ghost use Rattle.std.specs.FinMap.{get, empty};
 ghost use Rattle.aig_circuit.specs.Literal.{variable_of};
+ghost use Rattle.aig_circuit.specs.Wellformed.{AreDistinct, IsAmong};
 ghost use Rattle.aig_tables.specs.VarMap.{with_new};
 ghost use Rattle.aig_circuit.specs.declared.circuit.Gate.{Gate as GateRecord};
 ghost use Rattle.aig_image.specs.Parts.Numbers.{number_of, first_variables};
@@ -61,7 +62,8 @@ pub(crate) trait FirstVariables {
 
     /// Their numbers, with room for those of gates.
     fn numbers(&self, alloc: Global) -> Result<Numbers, AllocError>
-        requires { length (variables self.now) ≤ LARGEST }
+        requires few { length (variables self.now) ≤ LARGEST }
+        requires once { AreDistinct (variables self.now) }
         ensures { IfOk result (λ n. HaveNumbers n (variables self.now)) };
 }
 
@@ -155,15 +157,19 @@ impl Numbers {
         self.numbers.put(var, self.noted)
     }
 
+    /// None of the items' variables has a number, and no two items have the same variable.
     fn note_all<T: Defines>(&mut self, items: &[T]) -> Result<(), AllocError>
-        requires { self.old.noted + length items.now ≤ LARGEST }
+        requires few { self.old.noted + length items.now ≤ LARGEST }
+        requires once { AreDistinct (map T.variable items.now) }
+        requires none { (v : ℕ) → IsAmong v (map T.variable items.now)
+            → get self.old.numbers v ≡ None }
         ensures count { OnOk result (self.new.noted ≡ self.old.noted + length items.now) }
         ensures numbers { OnOk result ((variables : List ℕ)
             → HaveNumbers self.old variables
             → HaveNumbers self.new (variables ++ map T.variable items.now)) }
     {
         for item in items {
-            self.note(item.variable())?;
+            self.note_new(item.variable())?;
         }
         Ok(())
     }
@@ -200,6 +206,7 @@ impl Numbers {
     /// The numbers of inputs and latches, in a map that has none yet.
     fn first_into(numbers: VarMap<u32>, circuit: &Circuit) -> Result<Self, AllocError>
         requires few { length circuit.now.inputs + length circuit.now.latches ≤ LARGEST }
+        requires once { AreDistinct (first_variables circuit.now) }
         requires none { numbers ≡ empty }
         ensures count { IfOk result (λ n. n.noted
             ≡ length circuit.now.inputs + length circuit.now.latches) }
@@ -217,7 +224,8 @@ impl Numbers {
         variables: &[Var],
         largest: u32,
     ) -> Result<Self, AllocError>
-        requires { length variables.now ≤ LARGEST }
+        requires few { length variables.now ≤ LARGEST }
+        requires once { AreDistinct variables.now }
         ensures { IfOk result (λ n. HaveNumbers n variables.now) }
     {
         let numbers = VarMap::new(alloc, largest as usize, largest)?;
@@ -228,7 +236,8 @@ impl Numbers {
 
     /// With room for no more.
     pub(crate) fn of_first_alone(alloc: Global, circuit: &Circuit) -> Result<Self, AllocError>
-        requires { length circuit.now.inputs + length circuit.now.latches ≤ LARGEST }
+        requires few { length circuit.now.inputs + length circuit.now.latches ≤ LARGEST }
+        requires once { AreDistinct (first_variables circuit.now) }
         ensures count { IfOk result (λ n. n.noted
             ≡ length circuit.now.inputs + length circuit.now.latches) }
         ensures numbers { IfOk result (λ n. HaveNumbers n (first_variables circuit.now)) }
@@ -239,7 +248,8 @@ impl Numbers {
 
     /// With room for the numbers of gates too.
     pub(crate) fn of_first(alloc: Global, circuit: &Circuit) -> Result<Self, AllocError>
-        requires { length circuit.now.inputs + length circuit.now.latches ≤ LARGEST }
+        requires few { length circuit.now.inputs + length circuit.now.latches ≤ LARGEST }
+        requires once { AreDistinct (first_variables circuit.now) }
         ensures count { IfOk result (λ n. n.noted
             ≡ length circuit.now.inputs + length circuit.now.latches) }
         ensures numbers { IfOk result (λ n. HaveNumbers n (first_variables circuit.now)) }
@@ -248,8 +258,9 @@ impl Numbers {
     }
 
     pub(crate) fn new(alloc: Global, circuit: &Circuit, taken: &[Gate]) -> Result<Self, AllocError>
-        requires { length circuit.now.inputs + length circuit.now.latches
+        requires few { length circuit.now.inputs + length circuit.now.latches
             + length taken.now ≤ LARGEST }
+        requires once { AreDistinct (variables_with circuit.now taken.now) }
         ensures numbers { IfOk result (λ n. HaveNumbers n (variables_with circuit.now taken.now)) }
         ensures small { IfOk result (λ n. FitIntoLiterals (number_of n)) }
     {
@@ -261,8 +272,9 @@ impl Numbers {
     /// None if the gates do not stand in order, each after those that it uses.
     #[tactic(auto, using(crate::proofs::Numbering::Kept::few))]
     pub(crate) fn of_ordered(alloc: Global, circuit: &Circuit) -> Result<Option<Self>, AllocError>
-        requires { length circuit.now.inputs + length circuit.now.latches
+        requires few { length circuit.now.inputs + length circuit.now.latches
             + length circuit.now.gates ≤ LARGEST }
+        requires once { AreDistinct (first_variables circuit.now) }
         ensures numbers { IfOk result (λ some. IfSome some (λ n. HaveNumbers n
             (first_variables circuit.now ++ map (λ (g : GateRecord). g.var) circuit.now.gates))) }
         ensures small { IfOk result (λ some. IfSome some (λ n. FitIntoLiterals (number_of n))) }

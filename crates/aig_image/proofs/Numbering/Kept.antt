@@ -6,7 +6,7 @@ use Rattle.std.proofs.Common.{take-append-drop, take_all, length-take-le, drop-c
 use Rattle.std.specs.FinMap.{get, get-empty, empty}
 use Rattle.std.specs.List.{AllByRecursion}
 use Rattle.std.proofs.lemmas.Grind.{common_steps}
-use Rattle.std.proofs.lemmas.List.{get_or_default, map-append, drop_all, length-map}
+use Rattle.std.proofs.lemmas.List.{get_or_default, get_or-map, map-append, drop_all, length-map}
 use Rattle.std.proofs.lemmas.List.Folds.{position_or_len_push}
 use Rattle.std.proofs.lemmas.List.Sums.{prefix_len-le-length}
 use Rattle.std.proofs.Math.ListN.{get_or-append}
@@ -31,7 +31,7 @@ use Rattle.aig_image.specs.Parts.Numbers.{number_of, number_in, HaveNumbers}
 use Rattle.aig_image.specs.Renumbering.{renumbered}
 use Rattle.aig_image.specs.Relabelled.{FitIntoLiterals}
 use Rattle.aig_image.specs.Reordered.{operands_sorted}
-use Rattle.aig_image.proofs.Numbering.Places.{no_place, number_at, number_of as own_number, number_within, somewhere}
+use Rattle.aig_image.proofs.Numbering.Places.{no_place, number_at, number_of as own_number, number_within, somewhere, here}
 
 -- the place in a list that grows
 number_push : (xs : List ℕ) (x v : ℕ)
@@ -65,6 +65,38 @@ one_more old new var counted told variables numbered =
 pub variables_more : {X : Type 0} (f : X → ℕ) (variables : List ℕ) (items : List X) (i : ℕ) (d : X) → i < length items
     → (variables ++ map f (take i items)) ++ f (get_or items i d) ∷ [] ≡ variables ++ map f (take (i + 1) items)
 variables_more f variables items i d below = grind (arith, common_steps)
+
+-- a variable of an item that stands in a list is there, and where each stands there once, not before the item
+module _ {X : Type 0} (f : X → ℕ) (items : List X) (i : ℕ) (x : X) (there : i < length items) where
+  abbrev item : ℕ
+  item = f (get_or items i x)
+
+  pub among_items : IsAmong item (map f items)
+  among_items =
+      subst (λ v. IsAmong v (map f items)) (get_or-map f items i x 0 there)
+      (here (map f items) i (omega (arith, there, length-map items f)))
+
+  pub not_before : AreDistinct (map f items) → ¬ IsAmong item (map f (take i items))
+  not_before once =
+      let cut : map f items ≡ map f (take i items) ++ item ∷ map f (drop (suc i) items) =
+      ap (map f) (sym (take-append-drop i items) ∙ ap (λ xs. take i items ++ xs) (drop-cons items i x there))
+      ∙ map-append f (take i items) (get_or items i x ∷ drop (suc i) items) in
+      λ a. distinct_apart (map f (take i items)) (item ∷ map f (drop (suc i) items)) (rw cut at once) item a (inl refl)
+
+  -- what has no number, and is none of the items that have one, has none where one more has
+  pub none_more : (old new : Numbers) (var n : ℕ) → var ≡ item → new.numbers ≡ with_new old.numbers var n
+      → (v : ℕ) → (¬ IsAmong v (map f (take i items)) → get old.numbers v ≡ None)
+      → ¬ IsAmong v (map f (take (i + 1) items)) → get new.numbers v ≡ None
+  none_more old new var n is told v none out =
+      let more = variables_more f [] items i x there in
+      let before : ¬ IsAmong v (map f (take i items)) =
+      λ a. out (subst (IsAmong v) more (among_first v (map f (take i items)) (item ∷ []) a)) in
+      let apart : v ≢ var =
+      λ e. out (subst (IsAmong v) more (among_last (map f (take i items)) (item ∷ []) v (inl (e ∙ is)))) in
+      let has = get-with_new old.numbers var n v in
+      let differ = ne_eqb v var apart in
+      let had = none before in
+      ap (λ m. get m v) told ∙ has ∙ rw (had, differ) refl
 
 pub in_list : (variables : List ℕ) (v : ℕ) → number_in variables v ≤ length variables
 in_list variables v = grind (arith, common_steps)

@@ -1,4 +1,6 @@
 use Rattle.std.proofs.Common.{arith}
+use Rattle.aig_meaning.proofs.Related.{distinct_front}
+use Rattle.aig_topo.proofs.Ordering.Ranked.{variables}
 use Rattle.aig_image.proofs.Numbering.Kept.{none_made, room_left, none_yet, one_made, all_made}
 use Rattle.aig_image.proofs.in_turn.number_in_turn.Goals as goal
 
@@ -8,7 +10,10 @@ loop-at-init g c =
     c.in_ok-numbers.ensures
 
 pub numbers-requires : goal.numbers-requires
-numbers-requires g c = omega (arith, c.requires.few)
+numbers-requires g c = record {
+  few = omega (arith, c.requires.few);
+  once = distinct_front (g.F.FirstVariables.variables c.args.first.now) (variables c.args.gates.now) c.requires.once;
+}
 
 pub next_gate-requires : goal.next_gate-requires
 next_gate-requires g c =

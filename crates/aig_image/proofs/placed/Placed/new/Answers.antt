@@ -1,12 +1,19 @@
 use Rattle.std.proofs.Common.{◌≡◌, ◌<◌, ◌≤◌, ◌+◌, length, sym, subst, arith}
 use Rattle.std.specs.List.{AllByRecursion}
 use Rattle.aig_circuit.proofs.Checking.{definitions_fit}
+use Rattle.aig_meaning.proofs.Related.{distinct_front}
+use Rattle.aig_topo.proofs.Ordering.Ranked.{variables}
+use Rattle.aig_image.specs.Parts.Numbers.{first_variables}
 use Rattle.aig_image.proofs.Imaging.InTurn.{all_taken, order_once, order_there}
 use Rattle.aig_image.proofs.placed.Placed.new.Goals as goal
 
 pub of_first_alone-requires : goal.of_first_alone-requires
 of_first_alone-requires c =
-    omega (arith, definitions_fit c.args.circuit.now c.requires.good, c.requires.good.limits.max_var)
+    let circuit = c.args.circuit.now in
+    record {
+      few = omega (arith, definitions_fit circuit c.requires.good, c.requires.good.limits.max_var);
+      once = distinct_front (first_variables circuit) (variables circuit.gates) c.requires.good.once;
+    }
 
 pub gate_numbers-requires-clause-few : goal.gate_numbers-requires-clause-few
 gate_numbers-requires-clause-few c =
