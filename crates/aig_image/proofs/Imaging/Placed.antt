@@ -1,9 +1,8 @@
 -- Gates that are made by the positions of what they need are those of the image.
-use Rattle.std.proofs.Common.{◌≡◌, ◌≢◌, ◌+◌, ◌*◌, ◌%◌, ◌<◌, ◌≤◌, ◌∷◌, ◌++◌, ◌∙◌, ◌⊎◌, rules, ℕ, List, [], length, map}
+use Rattle.std.proofs.Common.{◌≡◌, ◌+◌, ◌*◌, ◌%◌, ◌<◌, ◌≤◌, ◌∷◌, ◌∙◌, rules, ℕ, List, [], length, map}
 use Rattle.std.proofs.Common.{get_or, Option, None, Some, refl, sym, ap, ap₂, subst, arith, ⊎_elim, true, false}
 use Rattle.std.proofs.Common.{length-append}
 use Rattle.std.specs.List.{AllByRecursion}
-use Rattle.std.specs.FinMap.{get}
 use Rattle.std.specs.Option.{is_some}
 use Rattle.std.proofs.lemmas.Bool.{cases_lt}
 use Rattle.std.proofs.lemmas.List.{length-map, get_or-map, get_or_past, get_or-append-add}
@@ -22,7 +21,7 @@ use Rattle.aig_topo.proofs.Ordering.Index.{defined_exactly}
 use Rattle.aig_topo.proofs.Ordering.Ranked.{at, no_gate, variables, stands_there}
 use Rattle.aig_image.specs.declared.placed.Placed.{Placed}
 use Rattle.aig_image.specs.Parts.InTurn.{numbered_gate}
-use Rattle.aig_image.specs.Parts.Numbers.{number_of, number_in, first_variables}
+use Rattle.aig_image.specs.Parts.Numbers.{number_in, first_variables}
 use Rattle.aig_image.specs.Parts.Placed.{number_by, placed_number, literal_by, gate_by, unlinked, AreSmall, IsPlaced}
 use Rattle.aig_image.specs.Parts.Placed.{IsMadeByPlaces}
 use Rattle.aig_image.specs.Image.{IsBinaryImage}
@@ -30,7 +29,7 @@ use Rattle.aig_image.specs.Relabelled.{relabelled, GateNames}
 use Rattle.aig_image.specs.Renumbering.{in_new_order, renumbered}
 use Rattle.aig_image.specs.Reordered.{operands_sorted, taken}
 use Rattle.aig_image.proofs.Imaging.InTurn.{taken_variables, all_taken, order_there, number_there, some_gate}
-use Rattle.aig_image.proofs.Imaging.InTurn.{new_fits, many}
+use Rattle.aig_image.proofs.Imaging.InTurn.{new_fits}
 use Rattle.aig_image.proofs.Imaging.Renewed.{same_names, told_is_image}
 use Rattle.aig_image.proofs.Relabelling.Relabelled.{with_gates}
 use Rattle.aig_image.proofs.Numbering.Kept.{in_list, in_place, not_behind}

@@ -1,5 +1,5 @@
 -- Numbers that follow on one another in an order, by the positions that it has: each tells the place in the order.
-use Rattle.std.proofs.Common.{◌≡◌, ◌≢◌, ◌+◌, ◌-◌, ◌<◌, ◌≤◌, ◌∙◌, ℕ, List, length, get_or, sym, ap, arith}
+use Rattle.std.proofs.Common.{◌≡◌, ◌≢◌, ◌+◌, ◌-◌, ◌<◌, ◌∙◌, ℕ, List, length, get_or, sym, ap, arith}
 use Rattle.aig_image.specs.Parts.Placed.{FollowOn}
 
 module _ (before : ℕ) (order given : List ℕ) (on : FollowOn before order given) where

@@ -1,5 +1,5 @@
 -- Numbers that are kept under other variables are the numbers, where each variable has another one of its own.
-use Rattle.std.proofs.Common.{◌≡◌, ◌≢◌, ◌<◌, ◌≤◌, ◌+◌, ◌∷◌, ◌++◌, ◌∙◌, ◌⊎◌, rules, ℕ, zero, suc, List, [], cond, eqb, true, false}
+use Rattle.std.proofs.Common.{◌≡◌, ◌≢◌, ◌<◌, ◌≤◌, ◌+◌, ◌∷◌, ◌++◌, ◌∙◌, rules, ℕ, zero, suc, List, [], cond, eqb, true, false}
 use Rattle.std.proofs.Common.{length, get_or, take, drop, map, ap, ap₂, arith, refl, sym, subst, ⊎_elim, append_assoc}
 use Rattle.std.proofs.Common.{inl, inr, ltb, take-append-drop, Some}
 use Rattle.std.specs.List.{AllByRecursion, position_or_len}
@@ -9,7 +9,7 @@ use Rattle.std.proofs.lemmas.Grind.{common_steps}
 use Rattle.std.proofs.lemmas.List.{map-append, length-map, get_or-map, take-map}
 use Rattle.std.proofs.lemmas.Simd.{map-map}
 use Rattle.aig_circuit.specs.Literal.{variable_of}
-use Rattle.aig_circuit.specs.Wellformed.{IsAmong, IsKnown, AreDistinct, operands}
+use Rattle.aig_circuit.specs.Wellformed.{IsAmong, IsKnown, AreDistinct}
 use Rattle.aig_circuit.specs.declared.circuit.Gate.{Gate}
 use Rattle.aig_circuit.specs.declared.circuit.Latch.{Latch}
 use Rattle.aig_circuit.specs.declared.circuit.TheConstants.{LARGEST}

@@ -6,11 +6,9 @@ use Rattle.aig_circuit.specs.Literal.{variable_of}
 use Rattle.aig_circuit.specs.declared.circuit.TheConstants.{LARGEST}
 use Rattle.aig_circuit.specs.declared.circuit.Gate.{Gate}
 use Rattle.aig_circuit.specs.declared.circuit.Circuit.{Circuit}
-use Rattle.aig_topo.specs.declared.operands.Needs.{Needs}
 use Rattle.aig_topo.specs.Needs.{no_needs}
 use Rattle.aig_topo.specs.Order.{IsLeastReadyOrder}
 use Rattle.aig_topo.specs.Resolved.{IsResolved}
-use Rattle.aig_image.specs.declared.numbers.Numbers.{Numbers}
 use Rattle.aig_image.specs.declared.placed.Placed.{Placed}
 use Rattle.aig_image.specs.Parts.InTurn.{numbered_gate}
 use Rattle.aig_image.specs.Parts.Numbers.{number_of, first_variables, HaveNumbers}

@@ -1,4 +1,4 @@
-use Rattle.std.proofs.Common.{◌≡◌, ◌∙◌, length, map, sym, ap, ap₂, subst}
+use Rattle.std.proofs.Common.{◌∙◌, length, map, sym, ap, ap₂, subst}
 use Rattle.std.proofs.lemmas.List.{length-map}
 use Rattle.aig_topo.specs.Needs.{needs_of}
 use Rattle.aig_topo.specs.Order.{IsLeastReadyOrder}

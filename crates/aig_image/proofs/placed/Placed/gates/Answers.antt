@@ -1,4 +1,4 @@
-use Rattle.std.proofs.Common.{◌≡◌, ◌<◌, ◌≤◌, ◌-◌, ◌+◌, ◌∙◌, rules, ℕ, length, get_or, set, sym, ap, ap₂, arith}
+use Rattle.std.proofs.Common.{◌≡◌, ◌<◌, ◌-◌, ◌∙◌, ℕ, length, get_or, set, sym, ap, ap₂, arith}
 use Rattle.std.proofs.lemmas.List.{ext_get_or, get_or-map, length-map, length-set, get_or_default}
 use Rattle.aig_circuit.specs.declared.circuit.Gate.{Gate}
 use Rattle.aig_image.specs.Parts.Placed.{gate_by}

@@ -1,4 +1,4 @@
-use Rattle.std.proofs.Common.{◌≡◌, ◌<◌, ◌≤◌, ◌+◌, length, sym, subst, arith}
+use Rattle.std.proofs.Common.{◌<◌, sym, subst, arith}
 use Rattle.std.specs.List.{AllByRecursion}
 use Rattle.aig_circuit.proofs.Checking.{definitions_fit}
 use Rattle.aig_meaning.proofs.Related.{distinct_front}
