@@ -16,7 +16,7 @@ use Rattle.aig_circuit.specs.Wellformed.{IsWithinLimits, HasGoodSymbols, IsWellF
 use Rattle.aig_circuit.specs.Wellformed.{used_literals}
 use Rattle.aig_circuit.specs.declared.circuit.Latch.{Latch}
 use Rattle.aig_circuit.specs.Literal.{literal_of}
-use Rattle.aig_circuit.specs.Form.{IsLiteralUpTo}
+use Rattle.aig_circuit.specs.Form.{IsInForm, IsLiteralUpTo}
 use Rattle.aig_circuit.proofs.Checking.{each, among_from_test, distinct_by_test, all_weaker, joined, joined_all}
 use Rattle.aig_checked.specs.BinaryOrder.{AreNumberedGates, AreOrderedGates, IsInBinaryOrder, IsNumberedInOrder}
 use Rattle.aig_checked.specs.Parts.Numbered.{AreFirstInOrder, AreNumbered, AreSectionsInOrder, AreSectionsNumbered}
@@ -175,30 +175,49 @@ by_numbered c h = search (rules, inputs_to, latches_to, numbered_gates_to)
 pub all_numbered : (c : Circuit) → IsNumberedInOrder c → AreSectionsNumbered c
 all_numbered c h = search (rules, first_from, numbered_gates_from)
 
--- A circuit in binary order is well formed, where its counts, its symbols and its literals are right.
+-- A circuit whose variables are numbered in order is well formed, where its counts, symbols and literals are right.
 abbrev IsOverLower : Gate → Type 0
-IsOverLower g = (g.left < literal_of g.var) × (g.right ≤ g.left)
+IsOverLower g = (g.left < literal_of g.var) × (g.right < literal_of g.var)
 
-all_over_lower : (variable : ℕ) (gs : List Gate) → AreOrderedGates variable gs → AllByRecursion IsOverLower gs
+all_over_lower : (variable : ℕ) (gs : List Gate) → AreNumberedGates variable gs → AllByRecursion IsOverLower gs
 all_over_lower variable [] o = tt
 all_over_lower variable (g ∷ gs) o = ((o.1, o.2), all_over_lower (suc variable) gs o.3)
 
-lower : (v left right w : ℕ) → left < 2 * v → right ≤ left → (w ≡ left / 2) ⊎ ((w ≡ right / 2) ⊎ ⊥) → w < v
+lower : (v left right w : ℕ) → left < 2 * v → right < 2 * v → (w ≡ left / 2) ⊎ ((w ≡ right / 2) ⊎ ⊥) → w < v
 lower v left right w l r h =
     ⊎_elim (λ (e : w ≡ left / 2). omega arith)
     (λ (i : (w ≡ right / 2) ⊎ ⊥). ⊎_elim (λ (e : w ≡ right / 2). omega arith) (λ (n : ⊥). absurd n) i) h
 
 -- so the variable is a rank
-variable_ranks : (variable : ℕ) (gs : List Gate) → AreOrderedGates variable gs → IsRank (λ v. v) gs
+variable_ranks : (variable : ℕ) (gs : List Gate) → AreNumberedGates variable gs → IsRank (λ v. v) gs
 variable_ranks variable gs o = grind (arith, common_steps, all_over_lower, lower)
 
-operands_up_to : (variable m : ℕ) (gs : List Gate) → AreOrderedGates variable gs → variable + length gs ≤ m + 1
+pub numbered_well_formed : (c : Circuit) → IsNumberedInOrder c
+    → AllByRecursion (IsLiteralUpTo c.max_var) (used_literals c) → IsWithinLimits c → HasGoodSymbols c → IsWellFormed c
+numbered_well_formed c o literals limits symbols =
+    let m : ℕ = c.max_var in
+    let vars = numbered_variables_are c o in
+    record {
+      limits = limits;
+      in_range = subst (λ (vs : List ℕ). AllByRecursion (IsVariableUpTo m) vs) (sym vars)
+          (each_in_range (IsVariableUpTo m) 1 m (λ x low high. (low, omega arith)));
+      once = subst AreDistinct (sym vars) (distinct 1 m);
+      known = subst (λ (vs : List ℕ). AllByRecursion (IsKnown vs) (used_literals c)) (sym vars)
+          (all_weaker (IsLiteralUpTo m) (IsKnown (range_with_len 1 m)) (known m) (used_literals c) literals);
+      symbols = symbols;
+      ranked = (λ v. v, variable_ranks (1 + length c.inputs + length c.latches) c.gates o.gates);
+    }
+
+pub form_well_formed : (c : Circuit) → IsInForm c → IsNumberedInOrder c → IsWellFormed c
+form_well_formed c form o = numbered_well_formed c o form.literals form.limits form.symbols
+
+operands_up_to : (variable m : ℕ) (gs : List Gate) → AreNumberedGates variable gs → variable + length gs ≤ m + 1
     → AllByRecursion (IsLiteralUpTo m) (flat_map operands gs)
 operands_up_to variable m [] o fits = tt
 operands_up_to variable m (g ∷ gs) o fits =
     let var : g.var ≡ variable = o.0 in
     let left : g.left < 2 * g.var = o.1 in
-    let right : g.right ≤ g.left = o.2 in
+    let right : g.right < 2 * g.var = o.2 in
     let long : variable + suc (length gs) ≤ m + 1 = fits in
     (omega arith, (omega arith, operands_up_to (suc variable) m gs o.3 (omega arith)))
 
@@ -207,7 +226,7 @@ abbrev pub HasLiteralsUpTo : Circuit → Type 0
 HasLiteralsUpTo c = AllByRecursion (IsLiteralUpTo c.max_var) (map (λ (l : Latch). l.next) c.latches)
     × AllByRecursion (AllByRecursion (IsLiteralUpTo c.max_var)) (literal_lists c)
 
-all_up_to : (c : Circuit) → IsInBinaryOrder c → HasLiteralsUpTo c
+all_up_to : (c : Circuit) → IsNumberedInOrder c → HasLiteralsUpTo c
     → AllByRecursion (IsLiteralUpTo c.max_var) (used_literals c)
 all_up_to c o literals =
     let all : c.max_var ≡ length c.inputs + length c.latches + length c.gates = o.all in
@@ -220,16 +239,4 @@ all_up_to c o literals =
 pub well_formed : (c : Circuit) → IsInBinaryOrder c → HasLiteralsUpTo c → IsWithinLimits c → HasGoodSymbols c
     → IsWellFormed c
 well_formed c o literals limits symbols =
-    let m : ℕ = c.max_var in
-    let vars = variables_are c o in
-    record {
-      limits = limits;
-      in_range = subst (λ (vs : List ℕ). AllByRecursion (IsVariableUpTo m) vs) (sym vars)
-          (each_in_range (IsVariableUpTo m) 1 m (λ x low high. (low, omega arith)));
-      once = subst AreDistinct (sym vars) (distinct 1 m);
-      known = subst (λ (vs : List ℕ). AllByRecursion (IsKnown vs) (used_literals c)) (sym vars)
-          (all_weaker (IsLiteralUpTo m) (IsKnown (range_with_len 1 m)) (known m) (used_literals c)
-          (all_up_to c o literals));
-      symbols = symbols;
-      ranked = (λ v. v, variable_ranks (1 + length c.inputs + length c.latches) c.gates o.gates);
-    }
+    numbered_well_formed c (is_numbered c o) (all_up_to c (is_numbered c o) literals) limits symbols

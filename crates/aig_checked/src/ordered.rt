@@ -1,6 +1,7 @@
 //! Circuits in binary order, and the tests for it.
 ghost use Rattle.std.specs.Prelude.{◌≡◌, ◌↔◌, ◌+◌, ◌^◌, ◌<◌, ◌≤◌, ℕ};
-ghost use Rattle.std.specs.Prelude.{length, IsTrue, IsOk, IfOk, IfErr};
+ghost use Rattle.std.specs.Prelude.{length, IsTrue, IsOk, IfOk, IfErr, OnOk};
+ghost use Rattle.aig_circuit.specs.Form.{IsInForm};
 ghost use Rattle.aig_circuit.specs.Wellformed.{IsWellFormed, IsWithinLimits};
 ghost use Rattle.aig_checked.specs.BinaryOrder.{IsInBinaryOrder, IsNumberedInOrder};
 ghost use Rattle.aig_checked.specs.Parts.Numbered.{AreFirstInOrder, AreNumbered};
@@ -156,6 +157,28 @@ pub fn is_numbered_in_order(checked: &Checked) -> bool
     ensures { IsTrue result ↔ IsNumberedInOrder checked.now }
 {
     are_sections_numbered(checked.circuit())
+}
+
+impl Checked {
+    /// A circuit in form whose variables are numbered in order, which is well formed. Any other
+    /// comes back. It is gone over once, or twice where a larger operand comes second, and no
+    /// memory is taken.
+    #[tactic(auto, using(crate::proofs::Numbered::by_numbered, crate::proofs::Numbered::all_numbered, crate::proofs::Numbered::by_sections, crate::proofs::Numbered::is_numbered, crate::proofs::Numbered::form_well_formed))]
+    pub fn try_numbered(circuit: Circuit) -> Result<Checked, Circuit>
+        requires { IsInForm circuit }
+        ensures numbered { IsOk result ↔ IsNumberedInOrder circuit }
+        ensures ok { IfOk result (λ checked. checked ≡ circuit) }
+        ensures well_formed { OnOk result (IsWellFormed circuit) }
+        ensures handed_back { IfErr result (λ same. same ≡ circuit) }
+    {
+        if are_sections_in_order(&circuit) {
+            return Ok(Checked::from_well_ordered(circuit));
+        }
+        if are_sections_numbered(&circuit) {
+            return Ok(Checked::from_well_formed(circuit));
+        }
+        Err(circuit)
+    }
 }
 
 impl Ordered {

@@ -45,6 +45,10 @@ pub fn check(
     ensures refused { IfErr result (λ e. e.1 ≢ WantOfMemory → ¬ IsWellFormed circuit) }
     ensures few { steps.new.count ≤ steps.old.count + steps_a_gate keep * length circuit.gates }
 {
+    let circuit = match Checked::try_numbered(circuit) {
+        Ok(checked) => return Ok(checked),
+        Err(circuit) => circuit,
+    };
     match find_fault(alloc, &circuit, keep, steps) {
         Ok((order, resolved)) => Ok(Checked::with_order(circuit, order, resolved)),
         Err(fault) => Err((circuit, fault)),
