@@ -4,8 +4,9 @@
     PYTHONPATH=python python3 examples/python/convert_all.py FROM TO
 
 NAME.aag or NAME.aig of FROM becomes NAME.aig of TO, which is made where it is missing. A file that is refused is named
-with the reason, and the others are converted; so is NAME.aig where NAME.aag is there, or where TO is FROM. Status 0: all were; 1: some were not, or a folder cannot be read or
-written; 2: wrong words."""
+with the reason, and the others are converted. NAME.aig is refused where NAME.aag is there too, or where TO is FROM:
+what is made of it would take the place of what is made of the other, or its own. Status 0: all were; 1: some were not,
+or a folder cannot be read or written; 2: wrong words."""
 import argparse
 import sys
 from pathlib import Path
