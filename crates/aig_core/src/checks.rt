@@ -7,7 +7,7 @@ ghost use Rattle.aig_circuit.specs.Form.{IsInForm};
 ghost use Rattle.aig_core.specs.Fault.{first_structural_fault, IsFault};
 ghost use Rattle.aig_core.specs.Steps.{steps_a_gate};
 
-use crate::checks::distinct::{is_defined_once_by_parts, is_spread};
+use crate::checks::distinct::{is_defined_once_by_parts, is_far};
 use crate::checks::faults::{find_fault, find_redefinition};
 use aig_checked::Checked;
 use aig_circuit::{Circuit, OutOfMemory};
@@ -24,7 +24,7 @@ pub enum Keep {
     /// The circuit alone: the least time and memory if nobody asks for an order of the gates later.
     Circuit,
     /// The least ready order of the gates too, where they do not stand in order or their indices
-    /// are spread: for a binary image, which would otherwise make it once more.
+    /// lie far apart: for a binary image, which would otherwise make it once more.
     Order,
 }
 
@@ -59,7 +59,7 @@ pub fn check(
 pub fn is_defined_once(alloc: Global, circuit: &Circuit) -> Result<bool, OutOfMemory>
     ensures { IfOk result (λ once. IsTrue once ↔ AreDistinct (defined_variables circuit.now)) }
 {
-    if is_spread(circuit) {
+    if is_far(circuit) {
         return is_defined_once_by_parts(alloc, circuit);
     }
     match find_redefinition(alloc, circuit) {

@@ -1,4 +1,4 @@
-//! Whether a circuit defines each variable once, where its variables are spread: they are put into
+//! Whether a circuit defines each variable once, where its variables lie far apart: they are put into
 //! parts, and a set is made of one part after the other.
 ghost use Rattle.std.specs.Prelude.{◌≡◌, ◌↔◌, ◌<◌, ◌++◌, ◌∷◌, [], List};
 ghost use Rattle.std.specs.Prelude.{ℕ, IsTrue, IfOk, OnOk, length};
@@ -18,7 +18,7 @@ use std::alloc::Global;
 const PARTS: usize = 256;
 
 /// Whether a set of what a circuit defines has no bit for each index.
-pub(super) fn is_spread(circuit: &Circuit) -> bool {
+pub(super) fn is_far(circuit: &Circuit) -> bool {
     matches!(Spacing::of_circuit(circuit), Spacing::Far)
 }
 

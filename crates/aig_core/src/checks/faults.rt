@@ -21,7 +21,7 @@ ghost use Rattle.aig_core.specs.Steps.{steps_a_gate};
 ghost use Rattle.aig_circuit.specs.declared.circuit.TheConstants.{LARGEST as largest};
 
 use crate::checks::Keep;
-use crate::checks::distinct::is_spread;
+use crate::checks::distinct::is_far;
 use aig_circuit::{Circuit, Entry, Gate, LARGEST, Latch, Listing, Lit, OutOfMemory, Var};
 use aig_fault::{Kind, Place, Stopped, refused};
 use aig_tables::VarSet;
@@ -338,10 +338,10 @@ fn is_right_outside_gates(before: &VarSet, index: &GateIndex, circuit: &Circuit)
         && are_lists_defined(before, index, &circuit.literal_lists())
 }
 
-/// What the gates of a circuit need, where its variables are spread: each variable of a gate is put
+/// What the gates of a circuit need, where its variables lie far apart: each variable of a gate is put
 /// into one table alone, and no set is made of them. None where something is wrong outside of what
 /// gates use.
-fn spread_needs(alloc: Global, circuit: &Circuit) -> Result<Option<(GateNeeds, Resolved)>, Stopped>
+fn far_needs(alloc: Global, circuit: &Circuit) -> Result<Option<(GateNeeds, Resolved)>, Stopped>
     requires in_form { IsInForm circuit.now }
     ensures needs { IfOk result (λ some. IfSome some (λ found.
         AreNeedsOf circuit.now.gates found.0)) }
@@ -499,8 +499,8 @@ fn needs_of_order(
     match keep {
         Keep::Circuit => Ok(None),
         Keep::Order => {
-            if is_spread(circuit) {
-                spread_needs(alloc, circuit)
+            if is_far(circuit) {
+                far_needs(alloc, circuit)
             } else {
                 Ok(None)
             }
@@ -509,7 +509,7 @@ fn needs_of_order(
 }
 
 /// The first fault of a circuit. Where there is none, the order of its gates, if that is to be kept
-/// and had to be made; and what was resolved for it, where its variables are spread.
+/// and had to be made; and what was resolved for it, where its variables lie far apart.
 pub(crate) fn find_fault(
     alloc: Global,
     circuit: &Circuit,

@@ -4,7 +4,7 @@ use Rattle.aig_core.specs.Fault.{cyclic, undefined}
 use Rattle.aig_topo.specs.Order.{first_cyclic}
 use Rattle.aig_core.specs.Parts.Indexed.{is_right_outside}
 use Rattle.aig_core.proofs.Checking.Indexed.{left_to_gates}
-use Rattle.aig_core.proofs.checks.faults.spread_needs.Goals as goal
+use Rattle.aig_core.proofs.checks.faults.far_needs.Goals as goal
 
 pub returns-in-Some : goal.returns-in-Some
 returns-in-Some c =
