@@ -1,17 +1,18 @@
 -- The new numbers of the variables that a circuit defines: those that are noted, and those that a map records.
 use Rattle.std.proofs.Common.{◌≡◌, ◌+◌, ◌++◌, ◌∷◌, ◌∙◌, ◌<◌, ◌≤◌, ℕ, List, [], ap, ap₂, arith, length, map, refl, rules}
-use Rattle.std.proofs.Common.{append-nil, length-append, sym, ⊎_elim}
+use Rattle.std.proofs.Common.{append-nil, length-append, subst, sym, ⊎_elim}
 use Rattle.std.specs.List.{AllByRecursion, range_with_len}
 use Rattle.std.proofs.lemmas.Bool.{cases_lt}
-use Rattle.std.proofs.lemmas.List.{length-map, map-append}
+use Rattle.std.proofs.lemmas.Grind.{same_number_lists}
+use Rattle.std.proofs.lemmas.List.{get_or-map, length-map, map-append}
 use Rattle.std.proofs.lemmas.List.FromFn.{length-range_with_len}
 use Rattle.std.proofs.lemmas.Simd.{map-map, pick_l_whole}
 use Rattle.std.proofs.Math.ListN.{get_or-append}
 use Rattle.aig_circuit.specs.declared.circuit.Circuit.{Circuit}
 use Rattle.aig_circuit.specs.declared.circuit.Gate.{Gate}
 use Rattle.aig_circuit.specs.declared.circuit.Latch.{Latch}
-use Rattle.aig_circuit.specs.Wellformed.{IsAmong, IsVariableUpTo, IsWellFormed, defined_variables}
-use Rattle.aig_circuit.proofs.Checking.{all_weaker, each, front}
+use Rattle.aig_circuit.specs.Wellformed.{IsAmong, IsVariableUpTo, IsWellFormed, defined_variables, largest_index}
+use Rattle.aig_circuit.proofs.Checking.{all_weaker, definitions_fit, each, front}
 use Rattle.aig_meaning.proofs.Related.{distinct_apart, map_same}
 use Rattle.aig_topo.specs.Order.{IsLeastReadyOrder}
 use Rattle.aig_topo.proofs.Ordering.Cyclic.{among_last}
@@ -19,17 +20,21 @@ use Rattle.aig_topo.proofs.Ordering.LeastReady.{one_least_ready_order}
 use Rattle.aig_topo.proofs.Ordering.Ranked.{all_of, no_gate, variables}
 use Rattle.aig_image.specs.declared.image.Renumbering.{Renumbering}
 use Rattle.aig_image.specs.Image.{IsBinaryImage, image_by}
-use Rattle.aig_image.specs.Parts.Numbers.{IsRenumberingOf, number_in, number_of}
+use Rattle.aig_image.specs.Parts.Numbers.{IsRenumberingOf, first_variables, number_in, number_of}
+use Rattle.aig_image.specs.Parts.Placed.{FollowOn}
 use Rattle.aig_image.specs.Renumbering.{in_new_order, renumbered}
 use Rattle.aig_checked.specs.BinaryOrder.{IsNumberedInOrder}
 use Rattle.aig_checked.proofs.Numbered.{numbered_variables_are}
 use Rattle.aig_image.proofs.Imaging.OwnImage.{numbered_in_order}
-use Rattle.aig_image.proofs.Imaging.InTurn.{has_defined, many as as_many, new_once, one_to_one, taken_variables}
+use Rattle.aig_image.proofs.Imaging.InTurn.{all_taken, has_defined, many as as_many, new_once, one_to_one}
+use Rattle.aig_image.proofs.Imaging.InTurn.{order_there, taken_variables}
+use Rattle.aig_image.proofs.Imaging.Placed.{at_gate}
 use Rattle.aig_image.proofs.Numbering.Kept.{in_place}
 use Rattle.aig_image.proofs.Numbering.Places.{here, number_at, numbered_on, somewhere}
 use Rattle.aig_map.specs.MapBlock.{map_block, mapped_gate}
 use Rattle.aig_map.specs.declared.map_block.MappedGate.{MappedGate}
 use Rattle.aig_arrays.specs.Ordered.{IsNumberedImageIn, new_numbers}
+use Rattle.aig_arrays.specs.Parts.Numbered.{AreGateNumbers}
 use Rattle.aig_arrays.specs.Parts.Placed.{placed}
 use Rattle.aig_arrays.proofs.Placing.{others_left, placed_between}
 
@@ -89,6 +94,28 @@ module _ (c : Circuit) (order : List ℕ) (good : IsWellFormed c) (least : IsLea
       map-append number first (variables c.gates)
       ∙ ap₂ (λ (ns ms : List ℕ). ns ++ ms) first_numbers
       (by_places number start c.gates (all_of (λ v. start ≤ number v) (variables c.gates) above))
+
+  -- those that gates have by their positions follow those of inputs and latches
+  pub numbers_follow : (given : List ℕ) → FollowOn (length first) order given
+      → new_numbers order c ≡ range_with_len 1 (length first) ++ given
+  numbers_follow given follow =
+      let gates : length (variables c.gates) ≡ length c.gates = length-map c.gates (λ (g : Gate). g.var) in
+      let long : length (map number (variables c.gates)) ≡ length given =
+      omega (
+        arith,
+        gates,
+        length-map (variables c.gates) number,
+        follow.many,
+        all_taken c order good least,
+      ) in
+      map-append number first (variables c.gates)
+      ∙ ap₂ (λ (ns ms : List ℕ). ns ++ ms) (first_numbers ∙ ap (range_with_len 1) (omega (arith, many)))
+      (same_number_lists (map number (variables c.gates)) given long
+      (λ k below.
+      let there : k < length c.gates = omega (arith, below, gates, length-map (variables c.gates) number) in
+      get_or-map number (variables c.gates) k 0 0 (omega (arith, there, gates))
+      ∙ ap number (get_or-map (λ (g : Gate). g.var) c.gates k no_gate 0 there)
+      ∙ sym (at_gate c order good least given follow k there).0))
 
   -- the numbers that are noted are the new ones
   pub noted_numbers : (noted : ℕ → ℕ) → ((v : ℕ) → noted v ≡ number_in vs v)
@@ -154,6 +181,53 @@ pub noted_at_front : (c image : Circuit) (r : Renumbering) (old new : List ℕ) 
 noted_at_front c image r old new good of_it is =
     put_at_front c image of_it.order (map (number_of r.numbers) (defined_variables c)) old new of_it.least is
     (noted_numbers c of_it.order good of_it.least (number_of r.numbers) of_it.numbers.numbers)
+
+-- an order is of all gates, which fit beside what is before them
+first_length : (c : Circuit) → length (first_variables c) ≡ length c.inputs + length c.latches
+first_length c =
+    omega (
+      arith,
+      length-append c.inputs (map (λ (l : Latch). l.var) c.latches),
+      length-map c.latches (λ (l : Latch). l.var),
+    )
+
+pub order_fits : (c : Circuit) (order : List ℕ) → IsWellFormed c → IsLeastReadyOrder c order
+    → length (first_variables c) + length order ≤ largest_index
+order_fits c order good least =
+    omega (arith, first_length c, definitions_fit c good, good.limits.max_var, all_taken c order good least)
+
+pub order_below : (c : Circuit) (order : List ℕ) → IsWellFormed c → IsLeastReadyOrder c order
+    → AllByRecursion (λ at. at < length order) order
+order_below c order good least =
+    subst (λ n. AllByRecursion (λ at. at < n) order) (sym (all_taken c order good least))
+    (order_there c order good least)
+
+pub given_fit : (c : Circuit) (given : List ℕ) → IsWellFormed c → AreGateNumbers c given
+    → length (first_variables c) + length given ≡ length (defined_variables c)
+given_fit c given good are =
+    omega (
+      arith,
+      first_length c,
+      length-append (first_variables c) (variables c.gates),
+      length-map c.gates (λ (g : Gate). g.var),
+      are.follow.many,
+      all_taken c are.order good are.least,
+    )
+
+-- those of gates, which are put after those from 1 on
+pub gates_at_front : (c image : Circuit) (given between old new : List ℕ) (end : ℕ) → IsWellFormed c
+    → AreGateNumbers c given → IsBinaryImage c image → length (defined_variables c) ≤ length old
+    → between ≡ placed 0 (range_with_len 1 end) old → end ≡ length (first_variables c)
+    → new ≡ placed end given between → IsNumberedImageIn c image old new
+gates_at_front c image given between old new end good are is room first_put end_is put =
+    let first : List ℕ = range_with_len 1 end in
+    let all : first ++ given ≡ new_numbers are.order c =
+    ap (λ n. range_with_len 1 n ++ given) end_is
+    ∙ sym (numbers_follow c are.order good are.least given are.follow) in
+    put_at_front c image are.order (first ++ given) old new are.least is all room
+    (put
+    ∙ others_left 0 first given old (placed 0 (first ++ given) old) refl end between
+    (omega (arith, length-range_with_len 1 end)) first_put)
 
 -- as many variables are defined as the largest one tells, where they are numbered in order
 pub as_many_defined : (c : Circuit) → IsNumberedInOrder c → length (defined_variables c) ≡ c.max_var

@@ -3,9 +3,15 @@ use Rattle.std.proofs.Common.{◌≡◌, ◌+◌, ◌++◌, ◌∷◌, ◌∙◌
 use Rattle.std.proofs.Common.{append_assoc, drop, drop-cons, flat_map, get_or, length, length-append, length-drop}
 use Rattle.std.proofs.Common.{length-take-le, set, take, take-append-drop}
 use Rattle.std.proofs.Math.Seq.{set-append_seam}
+use Rattle.std.proofs.lemmas.List.{length-set}
 use Rattle.aig_circuit.specs.declared.circuit.Symbol.{Symbol}
 use Rattle.aig_arrays.specs.Parts.Placed.{placed}
 use Rattle.aig_arrays.specs.Words.{symbol_row, symbol_words}
+
+-- an array stays as long
+pub length-placed : (at : ℕ) (xs array : List ℕ) → length (placed at xs array) ≡ length array
+length-placed at [] array = refl
+length-placed at (x ∷ xs) array = length-placed (at + 1) xs (set array at x) ∙ length-set array at x
 
 -- one list after another
 pub placed_twice : (at : ℕ) (xs ys array : List ℕ)

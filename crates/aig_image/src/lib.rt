@@ -2,7 +2,7 @@
 //!
 //! Others call `binary_image` and `into_binary`, which make the image, and `relabel`, which gives a
 //! circuit other variables in its own memory. `aig_convert` also calls `Renumbering` and
-//! `sort_operands`.
+//! `sort_operands`, and `aig_arrays` `gate_numbers`.
 //!
 //! The definitions that matter most are `relabelled`, `reordered` and `IsBinaryImage`.
 #![tactic(auto)]
@@ -19,4 +19,5 @@ mod ranked;
 pub use crate::image::{Renumbering, binary_image, into_binary, sort_operands};
 pub use crate::labelling::{Labels, NamesVariables, relabel};
 pub use crate::numbers::{Defines, Numbers};
+pub use crate::placed::gate_numbers;
 pub use aig_topo::Steps;

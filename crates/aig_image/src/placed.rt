@@ -41,8 +41,9 @@ impl Labels for Placed {
     }
 }
 
-/// The numbers of gates by their positions, where so many numbers come before.
-fn gate_numbers(alloc: Global, before: u32, order: &[u32]) -> Result<Vec<u32>, AllocError>
+/// The number of each gate by its position, where gates are numbered in this order, and inputs and
+/// latches, of which there are so many, before them. It fails only if an allocation fails.
+pub fn gate_numbers(alloc: Global, before: u32, order: &[u32]) -> Result<Vec<u32>, OutOfMemory>
     requires few { before + length order.now ≤ largest }
     requires once { AreDistinct order.now }
     requires there { AllByRecursion (λ at. at < length order.now) order.now }
@@ -61,7 +62,7 @@ impl Placed {
         circuit: &Circuit,
         order: &[u32],
         resolved: Resolved,
-    ) -> Result<Self, AllocError>
+    ) -> Result<Self, OutOfMemory>
         requires good { IsWellFormed circuit.now }
         requires least { IsLeastReadyOrder circuit.now order.now }
         requires resolved { IsResolved circuit.now.gates resolved }

@@ -60,7 +60,7 @@ impl Labels for VariableRanks {
 }
 
 impl VariableRanks {
-    /// Those of what a circuit defines, or none where there are too many.
+    /// Those of what a circuit defines, or none where there are too many, or the constant has one.
     pub(crate) fn of_circuit(alloc: Global, circuit: &Circuit) -> Result<Option<Self>, AllocError> {
         let ranks = Ranks::of_circuit(alloc, circuit)?;
         if ranks.has(0) || ranks.count() >= LARGEST as usize {

@@ -145,7 +145,8 @@ module _ (c : Circuit) (good : IsWellFormed c) where
     least = least_as_they_stand a.in_order;
     count = subst (λ gs. m.numbers.numbers.noted ≡ length (first ++ variables gs)) (sym taken_as_they_stand) a.count;
     numbers = λ v.
-        subst (λ gs. new_number m.numbers v ≡ number_in (first ++ variables gs) v) (sym taken_as_they_stand) (a.numbers v);
+        subst (λ gs. new_number m.numbers v ≡ number_in (first ++ variables gs) v) (sym taken_as_they_stand)
+        (a.numbers v);
     gates =
         subst (λ gs. m.gates.items ≡ map (numbered_gate (renumbered (first ++ variables gs))) gs)
         (sym taken_as_they_stand) a.made;

@@ -31,7 +31,8 @@ use Rattle.aig_image.specs.Parts.Numbers.{number_of, number_in, HaveNumbers}
 use Rattle.aig_image.specs.Renumbering.{renumbered}
 use Rattle.aig_image.specs.Relabelled.{FitIntoLiterals}
 use Rattle.aig_image.specs.Reordered.{operands_sorted}
-use Rattle.aig_image.proofs.Numbering.Places.{no_place, number_at, number_of as own_number, number_within, somewhere, here}
+use Rattle.aig_image.proofs.Numbering.Places.{no_place, number_at, number_of as own_number, number_within, somewhere}
+use Rattle.aig_image.proofs.Numbering.Places.{here}
 
 -- the place in a list that grows
 number_push : (xs : List ℕ) (x v : ℕ)

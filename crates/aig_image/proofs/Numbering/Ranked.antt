@@ -1,7 +1,7 @@
 -- Numbers that are kept under other variables are the numbers, where each variable has another one of its own.
-use Rattle.std.proofs.Common.{◌≡◌, ◌≢◌, ◌<◌, ◌≤◌, ◌+◌, ◌∷◌, ◌++◌, ◌∙◌, rules, ℕ, zero, suc, List, [], cond, eqb, true, false}
+use Rattle.std.proofs.Common.{◌≡◌, ◌≢◌, ◌<◌, ◌≤◌, ◌+◌, ◌∷◌, ◌++◌, ◌∙◌, rules, ℕ, zero, suc, List, [], cond, eqb}
 use Rattle.std.proofs.Common.{length, get_or, take, drop, map, ap, ap₂, arith, refl, sym, subst, ⊎_elim, append_assoc}
-use Rattle.std.proofs.Common.{inl, inr, ltb, take-append-drop, Some}
+use Rattle.std.proofs.Common.{inl, inr, ltb, take-append-drop, true, false, Some}
 use Rattle.std.specs.List.{AllByRecursion, position_or_len}
 use Rattle.std.proofs.lemmas.Bool.{ne_eqb, eq-eqb}
 use Rattle.std.proofs.lemmas.Bool.Decides.{eqb_tells}
@@ -183,11 +183,13 @@ module _ (r : VariableRanks) where
     all_have : AllByRecursion (HasRank r.ranks) all_variables
     all_have =
         joined (HasRank r.ranks) before (variables gates) first
-        (all_through (λ (g : Gate). HasRank r.ranks g.var) (HasRank r.ranks) (λ (g : Gate). g.var) (λ g h. h) gates have)
+        (all_through (λ (g : Gate). HasRank r.ranks g.var) (HasRank r.ranks) (λ (g : Gate). g.var) (λ g h. h) gates
+        have)
 
     names_apart : AreApart f all_variables
     names_apart x v a =
-        one_name x v (each (λ v. 1 ≤ v) all_variables defined.some x a) (each (HasRank r.ranks) all_variables all_have x a)
+        one_name x v (each (λ v. 1 ≤ v) all_variables defined.some x a)
+        (each (HasRank r.ranks) all_variables all_have x a)
 
     names_are : map f before ++ variables (map (relabelled_gate f) gates) ≡ map f all_variables
     names_are = search (rules, map-append, gates_there)

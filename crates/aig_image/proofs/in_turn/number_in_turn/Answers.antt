@@ -18,8 +18,8 @@ numbers-requires g c = record {
 pub next_gate-requires : goal.next_gate-requires
 next_gate-requires g c =
     let room =
-    room_left (g.F.FirstVariables.variables c.args.first.now) c.args.gates.now c.loop-at.gates c.loop-at.numbers c.loop-at.at
-    c.loop-at.invariant c.loop-at-test.true c.requires.few in
+    room_left (g.F.FirstVariables.variables c.args.first.now) c.args.gates.now c.loop-at.gates c.loop-at.numbers
+    c.loop-at.at c.loop-at.invariant c.loop-at-test.true c.requires.few in
     record {
       room = room.0;
       small = room.1;
@@ -31,13 +31,13 @@ next_gate-requires g c =
 pub loop-at-preserved : goal.loop-at-preserved
 loop-at-preserved g c =
     let known = rw c.in-Some.is at c.in_ok-gate.ensures.known in
-    one_made (g.F.FirstVariables.variables c.args.first.now) c.args.gates.now c.loop-at.gates c.loop-at.numbers c.loop-at.at
-    c.loop-at.invariant c.loop-at-test.true c.next_gate.new.numbers c.index-gates-at.result c.in-Some.gate
+    one_made (g.F.FirstVariables.variables c.args.first.now) c.args.gates.now c.loop-at.gates c.loop-at.numbers
+    c.loop-at.at c.loop-at.invariant c.loop-at-test.true c.next_gate.new.numbers c.index-gates-at.result c.in-Some.gate
     c.requires.once c.requires.some c.index-gates-at.is known.0 known.1
     (rw c.in-Some.is at c.in_ok-gate.ensures.gate) (rw c.in-Some.is at c.in_ok-gate.ensures.count)
     (rw c.in-Some.is at c.in_ok-gate.ensures.numbers)
 
 pub returns : goal.returns
 returns g c =
-    all_made (g.F.FirstVariables.variables c.args.first.now) c.args.gates.now c.loop-at.gates c.loop-at.numbers c.loop-at.at
-    c.loop-at.invariant c.loop-at-test.false
+    all_made (g.F.FirstVariables.variables c.args.first.now) c.args.gates.now c.loop-at.gates c.loop-at.numbers
+    c.loop-at.at c.loop-at.invariant c.loop-at-test.false

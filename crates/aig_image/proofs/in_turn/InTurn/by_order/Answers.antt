@@ -30,5 +30,11 @@ returns c =
     IfOk-weaker c.of_gates.result _ _
     (λ some made. IfSome_then some made
     (λ m a. let of_taken = subst (λ gs. AreMadeInTurn (first_variables circuit) gs m.gates.items m.numbers) are a in
-    record { order = order; least = c.requires.least; count = of_taken.count; numbers = of_taken.numbers; gates = of_taken.made }))
+    record {
+      order = order;
+      least = c.requires.least;
+      count = of_taken.count;
+      numbers = of_taken.numbers;
+      gates = of_taken.made;
+    }))
     c.of_gates.ensures

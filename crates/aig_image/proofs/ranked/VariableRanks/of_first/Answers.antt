@@ -11,5 +11,6 @@ returns-then-have_latches-clause-ranks c =
 
 pub returns-then-have_latches-clause-all : goal.returns-then-have_latches-clause-all
 returns-then-have_latches-clause-all c =
-    rw (← c.as_slice.ensures, ← c.as_slice-2.ensures) (first_have (HasRank c.args.self.now.ranks) c.as_slice.result.now c.as_slice-2.result.now
+    rw (← c.as_slice.ensures, ← c.as_slice-2.ensures) (first_have (HasRank c.args.self.now.ranks)
+    c.as_slice.result.now c.as_slice-2.result.now
     (c.in_ok-have_inputs.ensures.all c.if-have_inputs.true) (c.in_ok-have_latches.ensures.all c.if-have_latches.true))

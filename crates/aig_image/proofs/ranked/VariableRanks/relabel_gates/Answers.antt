@@ -26,7 +26,8 @@ loop-at-preserved c =
           c.index-gates-at.is);
       all = λ t.
           let stands =
-          stands_ahead old c.loop-at.gates f at gate c.loop-at-test.true c.loop-at.invariant.gates c.index-gates-at.is in
+          stands_ahead old c.loop-at.gates f at gate c.loop-at-test.true c.loop-at.invariant.gates
+          c.index-gates-at.is in
           let named = ap (λ (g : Gate). g.var) (c.gate.view_is ∙ c.relabel-gate.ensures) in
           let within : Bool = leb c.gate.inside.0.0.0 c.count.result in
           let fits = leb-true c.gate.inside.0.0.0 c.count.result (and_right c.loop-at.all within t) in
