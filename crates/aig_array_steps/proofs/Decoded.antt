@@ -1,27 +1,23 @@
 -- Which sections are those of a circuit whose variables are numbered in order.
-use Rattle.std.proofs.Common.{◌≡◌, ◌⊎◌, ◌+◌, ◌*◌, ◌/◌, ◌<◌, ◌≤◌, ◌++◌, ◌∷◌, ◌∙◌, ℕ, suc, List, [], length, map, take}
+use Rattle.std.proofs.Common.{◌≡◌, ◌+◌, ◌≤◌, ◌++◌, ◌∙◌, ℕ, List, length, map, take}
 use Rattle.std.proofs.Common.{drop}
-use Rattle.std.proofs.Common.{refl, ap, arith, sym, subst, true, length-append, flat_map, ⊎_elim}
-use Rattle.std.specs.List.{AllByRecursion, concat, range_with_len}
-use Rattle.std.proofs.lemmas.Grind.{common_steps}
+use Rattle.std.proofs.Common.{refl, ap, arith, sym, true, length-append, flat_map}
+use Rattle.std.specs.List.{AllByRecursion, concat}
 use Rattle.std.proofs.lemmas.Bool.Decides.{nat_tests}
 use Rattle.std.proofs.lemmas.List.{append_assoc, length-drop, length-map, length-take, take-append-drop}
 use Rattle.std.proofs.lemmas.List.Elements.{All-from_recursion, recursion_from_All}
 use Rattle.aig_arrays.specs.Decoded.{are_in_range}
 use Rattle.aig_arrays.specs.Words.{section_length, section_words}
 use Rattle.aig_arrays.specs.declared.counts.Counts.{Counts}
-use Rattle.aig_checked.proofs.Numbered.{all_numbered, by_numbered, distinct, each_in_range, known}
-use Rattle.aig_checked.proofs.Numbered.{numbered_variables_are}
-use Rattle.aig_checked.specs.BinaryOrder.{AreNumberedGates, IsNumberedInOrder}
+use Rattle.aig_checked.proofs.Numbered.{all_numbered, by_numbered, all_up_to, numbered_well_formed}
+use Rattle.aig_checked.specs.BinaryOrder.{IsNumberedInOrder}
 use Rattle.aig_checked.specs.Parts.Numbered.{AreSectionsNumbered}
 use Rattle.aig_checked.proofs.Numbered.{HasLiteralsUpTo}
-use Rattle.aig_circuit.proofs.Checking.{all_weaker, back, front, in_range, joined, joined_all, well_formed_in_form}
+use Rattle.aig_circuit.proofs.Checking.{back, front, in_range, joined, well_formed_in_form}
 use Rattle.aig_circuit.specs.Form.{IsInForm, IsLiteralUpTo}
-use Rattle.aig_circuit.specs.Literal.{literal_of, variable_of}
-use Rattle.aig_circuit.specs.Wellformed.{AreDistinct, HasGoodSymbols, IsKnown, IsRank, IsVariableUpTo, IsWellFormed}
-use Rattle.aig_circuit.specs.Wellformed.{IsWithinLimits, largest_index, literal_lists, operands, used_literals}
+use Rattle.aig_circuit.specs.Literal.{variable_of}
+use Rattle.aig_circuit.specs.Wellformed.{IsWithinLimits, largest_index, literal_lists, operands}
 use Rattle.aig_circuit.specs.declared.circuit.Circuit.{Circuit}
-use Rattle.aig_circuit.specs.declared.circuit.Gate.{Gate}
 use Rattle.aig_circuit.specs.declared.circuit.Latch.{Latch}
 use Rattle.aig_rows.specs.Rows.{gate_row, latch_row}
 use Rattle.aig_array_steps.proofs.BySection.{AreTheSame, one_cut, section_words_are, words_by_section}
@@ -32,60 +28,6 @@ use Rattle.aig_array_steps.specs.Parts.Words.{AreAsLong, AreOrdered}
 use Rattle.aig_array_steps.specs.Parts.Words.{AreSections, SectionWords, all_words, circuit_in, gate_in}
 use Rattle.aig_array_steps.specs.Parts.Words.{highest_literal, latch_in}
 use Rattle.aig_array_steps.specs.Step.{HasSections, IsDecoded, IsStepOf, IsStepped, TellsNumbered}
-
--- A circuit whose variables are numbered in order is well formed, where its counts, its symbols and its literals are
--- right.
-abbrev IsOverLower : Gate → Type 0
-IsOverLower g = (g.left < literal_of g.var) × (g.right < literal_of g.var)
-
-all_over_lower : (v : ℕ) (gs : List Gate) → AreNumberedGates v gs → AllByRecursion IsOverLower gs
-all_over_lower v [] o = tt
-all_over_lower v (g ∷ gs) o = ((omega (arith, o.1), omega (arith, o.2)), all_over_lower (suc v) gs o.3)
-
-lower : (v left right w : ℕ) → left < 2 * v → right < 2 * v → (w ≡ left / 2) ⊎ ((w ≡ right / 2) ⊎ ⊥) → w < v
-lower v left right w l r h =
-    ⊎_elim (λ (e : w ≡ left / 2). omega arith)
-    (λ (i : (w ≡ right / 2) ⊎ ⊥). ⊎_elim (λ (e : w ≡ right / 2). omega arith) (λ (n : ⊥). absurd n) i) h
-
-variable_ranks : (v : ℕ) (gs : List Gate) → AreNumberedGates v gs → IsRank (λ w. w) gs
-variable_ranks v gs o = grind (arith, common_steps, all_over_lower, lower)
-
-operands_up_to : (v m : ℕ) (gs : List Gate) → AreNumberedGates v gs → v + length gs ≤ m + 1
-    → AllByRecursion (IsLiteralUpTo m) (flat_map operands gs)
-operands_up_to v m [] o fits = tt
-operands_up_to v m (g ∷ gs) o fits =
-    let var : g.var ≡ v = o.0 in
-    let left : g.left < 2 * g.var = o.1 in
-    let right : g.right < 2 * g.var = o.2 in
-    let long : v + suc (length gs) ≤ m + 1 = fits in
-    (omega arith, (omega arith, operands_up_to (suc v) m gs o.3 (omega arith)))
-
-all_up_to : (c : Circuit) → IsNumberedInOrder c → HasLiteralsUpTo c
-    → AllByRecursion (IsLiteralUpTo c.max_var) (used_literals c)
-all_up_to c o literals =
-    let all : c.max_var ≡ length c.inputs + length c.latches + length c.gates = o.all in
-    joined (IsLiteralUpTo c.max_var) (map (λ (l : Latch). l.next) c.latches ++ concat (literal_lists c))
-    (flat_map operands c.gates)
-    (joined (IsLiteralUpTo c.max_var) (map (λ (l : Latch). l.next) c.latches) (concat (literal_lists c)) literals.0
-    (joined_all (IsLiteralUpTo c.max_var) (literal_lists c) literals.1))
-    (operands_up_to (1 + length c.inputs + length c.latches) c.max_var c.gates o.gates (omega arith))
-
-well_formed : (c : Circuit) → IsNumberedInOrder c → HasLiteralsUpTo c → IsWithinLimits c → HasGoodSymbols c
-    → IsWellFormed c
-well_formed c o literals limits symbols =
-    let m : ℕ = c.max_var in
-    let vars = numbered_variables_are c o in
-    record {
-      limits = limits;
-      in_range = subst (λ (vs : List ℕ). AllByRecursion (IsVariableUpTo m) vs) (sym vars)
-          (each_in_range (IsVariableUpTo m) 1 m (λ x low high. (low, omega arith)));
-      once = subst AreDistinct (sym vars) (distinct 1 m);
-      known = subst (λ (vs : List ℕ). AllByRecursion (IsKnown vs) (used_literals c)) (sym vars)
-          (all_weaker (IsLiteralUpTo m) (IsKnown (range_with_len 1 m)) (known m) (used_literals c)
-          (all_up_to c o literals));
-      symbols = symbols;
-      ranked = (λ v. v, variable_ranks (1 + length c.inputs + length c.latches) c.gates o.gates);
-    }
 
 -- what it is for counts to be in range
 record AreWithin (n : Counts) : Type 0 where
@@ -220,7 +162,9 @@ module _ (n : Counts) (s : SectionWords) (long : AreAsLong n s) (o : AreOrdered 
   tells : (words : List ℕ) → HasSections n words → take (section_length n) words ≡ all_words s
       → TellsNumbered n words c
   tells words has words_are = record {
-    well_formed = well_formed c numbered up_to (limits has.0) (record { positions = tt; apart = tt; lines = tt });
+    well_formed =
+        numbered_well_formed c numbered (all_up_to c numbered up_to) (limits has.0)
+        (record { positions = tt; apart = tt; lines = tt });
     numbered = numbered;
     bare = (refl, refl);
     counts = cc (

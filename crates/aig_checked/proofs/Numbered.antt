@@ -226,7 +226,7 @@ abbrev pub HasLiteralsUpTo : Circuit → Type 0
 HasLiteralsUpTo c = AllByRecursion (IsLiteralUpTo c.max_var) (map (λ (l : Latch). l.next) c.latches)
     × AllByRecursion (AllByRecursion (IsLiteralUpTo c.max_var)) (literal_lists c)
 
-all_up_to : (c : Circuit) → IsNumberedInOrder c → HasLiteralsUpTo c
+pub all_up_to : (c : Circuit) → IsNumberedInOrder c → HasLiteralsUpTo c
     → AllByRecursion (IsLiteralUpTo c.max_var) (used_literals c)
 all_up_to c o literals =
     let all : c.max_var ≡ length c.inputs + length c.latches + length c.gates = o.all in
