@@ -33,7 +33,7 @@ from dataclasses import dataclass, replace
 from pathlib import Path
 from typing import Any, Dict, Iterable, Iterator, List, NamedTuple, Optional, Sequence, Set, Tuple
 
-VERSION = "1.6.1"
+VERSION = "1.6.2"
 PROGRAM = "aiger-check"
 
 HELP = """\

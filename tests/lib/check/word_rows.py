@@ -70,7 +70,7 @@ def help_(words, room):
 
 def version(words, room):
     said = room.run(*words, changes={"PATH": "/nowhere", "AIGER": None})
-    checked.need((said.status, said.out, said.err) == (0, "aiger-check 1.6.1\n", ""), "another version", said)
+    checked.need((said.status, said.out, said.err) == (0, "aiger-check 1.6.2\n", ""), "another version", said)
 
 
 def alike(which, room):
