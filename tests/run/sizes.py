@@ -47,9 +47,11 @@ COMMENTS, VALUES = 100_000_000, 50_000_000
 LITERALS, LEMMAS, ROWS, HELD = 1_000_000, 1_000_000, 200_000, 40
 # gates of each circuit that is compared, and bytes for that: 35 for each gate, and the program's; and names of each kind
 COMPARED, COMPARING, NAMED = 1_000_000, 75_000_000, 200_000
-# pairs of lines by which a hundred thousand words are let go; lemmas or definitions, and how often their time is taken;
-# rounds of lines that are deleted, and kilobytes for that, where all of them would take more than twice as many
-MOVED, CLAUSES, RUNS_OF_TIME, STEADY, LITTLE = 60_000, 50_000, 7, 250_000, 24_000
+# pairs of lines by which a hundred thousand words are let go; rounds of lines that are deleted, and kilobytes for that,
+# where all of them would take more than twice as many
+MOVED, STEADY, LITTLE = 60_000, 250_000, 24_000
+# lemmas or definitions, how many times as many there are in a longer refutation, and how often the time of both is taken
+CLAUSES, LONGER, RUNS_OF_TIME = 25_000, 16, 5
 REFUTES = "aigunroll --frames 1 model --refutation -"
 # bytes of a file that are held at a time
 EDGE = 65_536
@@ -384,17 +386,18 @@ def moved_refutations(room):
 
 
 def growing_refutations(room):
-    """Lemmas, or definitions of new variables, that are all there at once and then deleted. For four times as many it may
-    take eight times as long. By what is deleted the last line would follow."""
+    """Lemmas, or definitions of new variables, that are all there at once and then deleted. For sixteen times as many it may
+    take 64 times as long: 256 would be their square, and caches make it half more than sixteen. By what is deleted the last
+    line would follow. Both take turns, so that what else the machine does is borne by both."""
     for kind in (long_refutations.lemmas, long_refutations.definitions):
-        times = []
-        for count in (CLAUSES, 4 * CLAUSES):
-            lines = kind(count)
-            write("model", contradiction(count + 4))
-            write("proof", long_refutations.spelled(lines))
-            told = f"line {len(lines)}: does not follow"
-            times.append(min(room.seconds(REFUTES, "proof", told) for _ in range(RUNS_OF_TIME)))
-        room.judge(f"the time for {kind.__name__}", times[1] <= 8 * times[0], times)
+        tasks = []
+        for count in (CLAUSES, LONGER * CLAUSES):
+            lines, model, proof = kind(count), f"model{count}", f"proof{count}"
+            write(model, contradiction(count + 4))
+            write(proof, long_refutations.spelled(lines))
+            tasks.append((REFUTES.replace("model", model), proof, f"line {len(lines)}: does not follow"))
+        few, many = map(min, zip(*([room.seconds(*it) for it in tasks] for _ in range(RUNS_OF_TIME))))
+        room.judge(f"the time for {kind.__name__}", many <= LONGER**1.5 * few, (few, many))
 
 
 def steady_refutations(room):
