@@ -15,8 +15,6 @@ mod form;
 pub mod laws;
 mod listing;
 mod literal;
-mod out_of_memory;
-mod stops;
 mod symbols;
 mod value;
 
@@ -24,6 +22,6 @@ pub use crate::circuit::{Circuit, Gate, Justice, Kind, LARGEST, Latch, Reset, Sy
 pub use crate::entry::{Entry, Uses};
 pub use crate::listing::Listing;
 pub use crate::literal::{Lit, Var};
-pub use crate::out_of_memory::OutOfMemory;
 pub use crate::symbols::{BorrowedSymbol, EachSymbol, Symbols};
 pub use crate::value::Val;
+pub use aig_memory::OutOfMemory;

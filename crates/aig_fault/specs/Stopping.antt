@@ -1,6 +1,7 @@
 -- Why a call made nothing, in words, and by which error of a device (this project's profile).
 use Rattle.std.specs.Prelude.{ℕ, List, ⊤}
-use Rattle.aig_io.specs.Messages.{cannot_read_text, cannot_write_text, out_of_memory_text}
+use Rattle.aig_memory.specs.Text.{out_of_memory_text}
+use Rattle.aig_io.specs.Messages.{cannot_read_text, cannot_write_text}
 use Rattle.aig_io.specs.declared.transfer.ReadError.{ReadError}
 use Rattle.aig_io.specs.declared.transfer.ReadError.TheVariants as errors
 use Rattle.aig_fault.specs.declared.fault.Fault.{Fault}

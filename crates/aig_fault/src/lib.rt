@@ -9,6 +9,7 @@ mod fault;
 mod kind;
 mod message;
 mod stopped;
+mod stops;
 mod words;
 
 pub use crate::fault::{Fault, Place};

@@ -1,12 +1,10 @@
--- The words in which it is reported that a device failed, or that memory was refused (this project's profile).
+-- The words in which it is reported that a device failed (this project's profile).
 use Rattle.std.specs.Prelude.{ℕ, List, codes}
+use Rattle.aig_memory.specs.Text.{out_of_memory_text}
 use Rattle.aig_io.specs.declared.transfer.ReadError.{ReadError}
 use Rattle.aig_io.specs.declared.transfer.ReadError.TheVariants as errors
 
--- what is said where memory is refused, and where a source or a sink fails
-abbrev pub out_of_memory_text : List ℕ
-out_of_memory_text = codes "out of memory"
-
+-- what is said where a source or a sink fails
 abbrev pub cannot_read_text : List ℕ
 cannot_read_text = codes "cannot read"
 

@@ -11,7 +11,7 @@ use Rattle.aig_fault.specs.Stopping.{stopped_text}
 use Rattle.aig_fault.specs.declared.stopped.Stopped.{Stopped}
 use Rattle.aig_fault.specs.declared.stopped.Stopped.TheVariants.{OutOfMemory, ReadFailed, Refused, WriteFailed}
 use Rattle.aig_io.specs.Devices.{History, TookBeginning, took}
-use Rattle.aig_io.specs.Messages.{out_of_memory_text}
+use Rattle.aig_memory.specs.Text.{out_of_memory_text}
 
 -- a file by its name, and a stream by `-`
 abbrev pub shown : Option (List ℕ) → List ℕ

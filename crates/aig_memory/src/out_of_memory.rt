@@ -1,6 +1,6 @@
 //! Running out of memory.
 ghost use Rattle.std.specs.Prelude.{Some};
-ghost use Rattle.aig_io.specs.Messages.{out_of_memory_text};
+ghost use Rattle.aig_memory.specs.Text.{out_of_memory_text};
 
 use std::alloc::{AllocError, AllocFailed};
 use std::error::Error;

@@ -2,8 +2,8 @@
 ghost use Rattle.std.specs.Prelude.{◌≡◌};
 ghost use Rattle.aig_fault.specs.declared.stopped.Stopped.TheVariants as stops;
 
-use crate::out_of_memory::OutOfMemory;
-use aig_fault::Stopped;
+use crate::stopped::Stopped;
+use aig_memory::OutOfMemory;
 
 impl From<OutOfMemory> for Stopped {
     ghost from_gives = { λ _ stopped. stopped ≡ stops.OutOfMemory };
