@@ -45,6 +45,15 @@ by_places number first [] above = refl
 by_places number first (g ∷ gates) above =
     ap₂ (λ (n : ℕ) ns. n ∷ ns) (omega (arith, above.0)) (by_places number first gates above.1)
 
+-- the variables of inputs and latches
+first_length : (c : Circuit) → length (first_variables c) ≡ length c.inputs + length c.latches
+first_length c =
+    omega (
+      arith,
+      length-append c.inputs (map (λ (l : Latch). l.var) c.latches),
+      length-map c.latches (λ (l : Latch). l.var),
+    )
+
 module _ (c : Circuit) (order : List ℕ) (good : IsWellFormed c) (least : IsLeastReadyOrder c order) where
   abbrev vs : List ℕ
   vs = in_new_order c order
@@ -53,18 +62,13 @@ module _ (c : Circuit) (order : List ℕ) (good : IsWellFormed c) (least : IsLea
   number = renumbered vs
 
   abbrev first : List ℕ
-  first = c.inputs ++ map (λ (l : Latch). l.var) c.latches
+  first = first_variables c
 
   abbrev start : ℕ
   start = 1 + length c.inputs + length c.latches
 
   many : 1 + length first ≡ start
-  many =
-      omega (
-        arith,
-        length-append c.inputs (map (λ (l : Latch). l.var) c.latches),
-        length-map c.latches (λ (l : Latch). l.var),
-      )
+  many = omega (arith, first_length c)
 
   first_numbers : map number first ≡ range_with_len 1 (length c.inputs + length c.latches)
   first_numbers =
@@ -183,14 +187,6 @@ noted_at_front c image r old new good of_it is =
     (noted_numbers c of_it.order good of_it.least (number_of r.numbers) of_it.numbers.numbers)
 
 -- an order is of all gates, which fit beside what is before them
-first_length : (c : Circuit) → length (first_variables c) ≡ length c.inputs + length c.latches
-first_length c =
-    omega (
-      arith,
-      length-append c.inputs (map (λ (l : Latch). l.var) c.latches),
-      length-map c.latches (λ (l : Latch). l.var),
-    )
-
 pub order_fits : (c : Circuit) (order : List ℕ) → IsWellFormed c → IsLeastReadyOrder c order
     → length (first_variables c) + length order ≤ largest_index
 order_fits c order good least =

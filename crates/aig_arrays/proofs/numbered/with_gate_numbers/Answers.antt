@@ -20,6 +20,6 @@ put_given-requires c =
 pub returns-clause-ok : goal.returns-clause-ok
 returns-clause-ok c =
     gates_at_front c.args.checked c.in_ok-image.image c.args.gates.now c.put_first_numbers.new.numbers
-    c.args.numbers.now c.put_given.new.numbers c.count_before_gates-before.result c.circuit.ensures.well_formed c.requires.are
-    (search rules) c.requires.room c.put_first_numbers.ensures
+    c.args.numbers.now c.put_given.new.numbers c.count_before_gates-before.result c.circuit.ensures.well_formed
+    c.requires.are (search rules) c.requires.room c.put_first_numbers.ensures
     (rw c.circuit.ensures.value at c.count_before_gates-before.ensures) c.put_given.ensures
