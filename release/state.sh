@@ -89,12 +89,12 @@ unpack_released() {
 # write_pc PREFIX LIBRARIES: the file for pkg-config of the library in these folders
 write_pc() { sed "s|^prefix=.*|prefix=$1|; s|^libdir=.*|libdir=$2|" "$top/release/aigtools.pc"; }
 
-# write_check MODULES: the program aiger-check, for a folder beside which this one has aiger_check.py and aigtools.py
+# write_check MODULES: the program aiger-check, for a folder beside which this one has aiger_check/ and aigtools.py
 write_check() {
     cat << CHECK
 #!/bin/sh
-# Runs aiger_check.py of ../$1, with the program aiger beside this one, and leaves no other file there.
+# Runs aiger_check of ../$1, with the program aiger beside this one, and leaves no other file there.
 here=\$(dirname "\$(readlink -f "\$0")")
-AIGER=\${AIGER:-\$here/aiger} exec python3 -B "\$here/../$1/aiger_check.py" "\$@"
+AIGER=\${AIGER:-\$here/aiger} exec python3 -B "\$here/../$1/aiger_check" "\$@"
 CHECK
 }

@@ -6,7 +6,7 @@ interrupt gives a wrong line or leaves anything.
     tests/run/check.py PROGRAM [NAME]         all rows, or those that have this in their names
     tests/run/check.py PROGRAM --part K N     every Nth row from number K on
 
-The variable CHECK names another aiger_check.py than that of this folder's repository. Rows that need Yosys, ABC or a
+The variable CHECK names another folder aiger_check than that of this repository. Rows that need Yosys, ABC or a
 solver count as skipped where it is not installed.
 """
 import concurrent.futures

@@ -106,17 +106,17 @@ not_in_manual() {
 designs_at() { ( cd "$1" && unset AIGER && "$2" --quiet --time 10 --top queue ./*.sv | sed '$d; s|(\./|(|' ); }
 
 # --- release/install ---
-install_files='bin/aiger
+install_files="bin/aiger
 bin/aiger-check
 include/aigtools.h
 lib/libaigtools.a
 lib/libaigtools.so
 lib/libaigtools.so.1
 lib/pkgconfig/aigtools.pc
-lib/python3/dist-packages/aiger_check.py
+$(cd "$top/python" && find aiger_check -name '*.py' | LC_ALL=C sort | sed 's|^|lib/python3/dist-packages/|')
 lib/python3/dist-packages/aigtools.py
 share/man/man1/aiger-check.1
-share/man/man1/aiger.1'
+share/man/man1/aiger.1"
 files_below() { (cd "$1" && find . ! -type d -printf '%P\n' | LC_ALL=C sort); }
 staged=$work/staged
 check 'install below a folder' "$tree/release/install" /opt/aig --destdir "$staged"
@@ -188,7 +188,7 @@ package_files="./usr/bin/aiger
 ./usr/share/doc/aiger/copyright
 ./usr/share/man/man1/aiger.1.gz
 ./usr/bin/aiger-check
-./usr/lib/python3/dist-packages/aiger_check.py
+$(cd "$top/python" && find aiger_check -name '*.py' | LC_ALL=C sort | sed 's|^|./usr/lib/python3/dist-packages/|')
 ./usr/share/doc/aiger-check/CHANGELOG.md.gz
 ./usr/share/doc/aiger-check/TOOLS.md.gz
 ./usr/share/doc/aiger-check/changelog.gz

@@ -45,7 +45,8 @@ def of_header(path):
 def places(program):
     """Each place where the version is written, and what stands there."""
     yield "aiger --version", found(r"^aiger (\S+)\n\Z", said([program, "--version"]))
-    yield "python/aiger_check.py", found(r'^VERSION = "(.*)"$', read("python/aiger_check.py"))
+    package = "python/aiger_check/__init__.py"
+    yield package, found(r'^VERSION = "(.*)"$', read(package))
     for path in sorted((TOP / "include").glob("*.h")):
         yield f"include/{path.name}", of_header(path)
 

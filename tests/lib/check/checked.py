@@ -19,7 +19,7 @@ from lib import liveness
 from lib.check import reached
 
 TOP = Path(__file__).resolve().parent.parent.parent.parent
-CHECK = os.environ.get("CHECK", str(TOP / "python" / "aiger_check.py"))
+CHECK = os.environ.get("CHECK", str(TOP / "python" / "aiger_check"))
 FRAMES = 50
 # what a machine under load may take
 LONGEST = 300

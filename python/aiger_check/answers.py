@@ -1,0 +1,137 @@
+"""What is asked of a design, and what is said of it."""
+
+import enum
+from dataclasses import dataclass
+from pathlib import Path
+from typing import Dict, NamedTuple, Optional, Tuple
+
+from aiger_check.faults import visible
+
+
+class Answer(enum.Enum):
+    """What is said of an assertion."""
+
+    NEVER = "never"
+    NONE_WITHIN = "none within"
+    REACHED = "reached"
+    UNKNOWN = "unknown"
+
+
+class Words(NamedTuple):
+    """What answers are called where something is said of a design."""
+
+    never: str
+    within: str
+    reached: str
+    unit: str = ""
+
+
+@dataclass(frozen=True)
+class Assertion:
+    """An assertion, which is a bad state of the model."""
+
+    name: str
+    place: str
+    bad: int
+    cell: str = ""
+
+    words = Words("never", "none within", "reached")
+    #: what breaks it
+    run = "run"
+
+    def __str__(self) -> str:
+        return f"{visible(self.name)} ({visible(self.place)})"
+
+    @property
+    def option(self) -> Tuple[str, int]:
+        """The words for it where aiger is asked of the model."""
+        return "--bad", self.bad
+
+    @property
+    def file(self) -> str:
+        """What its files are called, before that is made safe."""
+        return self.name
+
+    def shown(self) -> Dict[str, str]:
+        """What else --json says of it."""
+        return {"source": self.place}
+
+    def said(self, verdict: "Verdict") -> str:
+        """The answer in words."""
+        if verdict.answer is Answer.REACHED:
+            kept = f", {visible(str(verdict.kept))}" if verdict.kept else ""
+            return f"{self.words.reached} at {verdict.steps}{kept}"
+        if verdict.answer is Answer.NONE_WITHIN:
+            return f"{self.words.within} {counted(verdict.steps, self.words.unit)}"
+        return self.called(verdict.answer) + (f": {visible(verdict.reason)}" if verdict.reason else "")
+
+    def called(self, answer: Answer) -> str:
+        """The word for an answer, without its number."""
+        words = {Answer.NEVER: self.words.never, Answer.NONE_WITHIN: self.words.within}
+        return {**words, Answer.REACHED: self.words.reached}.get(answer, answer.value)
+
+
+def counted(count: Optional[int], unit: str) -> str:
+    """A number, with the word for what it counts if there is one."""
+    return f"{count} {unit}{'' if count == 1 else 's'}" if unit else str(count)
+
+
+@dataclass(frozen=True)
+class Liveness(Assertion):
+    """An assertion that something comes again and again, which is a justice property of the model: the run that breaks
+    it has no end. It comes back to a state, and then goes round for ever: a lasso."""
+
+    justice: int = 0
+
+    words = Words("holds", "no lasso within", "lasso")
+    run = "lasso"
+
+    @property
+    def option(self) -> Tuple[str, int]:
+        return "--justice", self.justice
+
+    def shown(self) -> Dict[str, str]:
+        return {**super().shown(), "kind": "liveness"}
+
+
+class Pair(Assertion):
+    """Two outputs or bad states, one of each design, which are to be equal: a bad state of the miter."""
+
+    words = Words("equal", "equal for", "differs", "step")
+
+    def __str__(self) -> str:
+        return visible(self.name)
+
+
+class Assumption(Assertion):
+    """A constraint of the second design, which the first one is to keep: a bad state of the miter."""
+
+    words = Words("holds", "holds for", "fails", "step")
+
+    def __str__(self) -> str:
+        return f"assumption {visible(self.name)} of {visible(self.place)}"
+
+    @property
+    def file(self) -> str:
+        return f"assumption-{self.name}"
+
+
+@dataclass
+class Verdict:
+    """An answer, with what shows it: files of the folder in which it was found."""
+
+    answer: Answer
+    steps: Optional[int] = None
+    reason: Optional[str] = None
+    witness: Optional[Path] = None
+    refutation: Optional[Path] = None
+    invariant: Optional[Path] = None
+    kept: Optional[Path] = None
+    #: whether the refutation is one for all bad states at once
+    of_all: bool = False
+    #: whether it is one of simplified clauses
+    simplified: bool = False
+
+    def claim(self) -> str:
+        """What aiger says where it shows this."""
+        return f"none within {self.steps}" if self.answer is Answer.NONE_WITHIN else self.answer.value

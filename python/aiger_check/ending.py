@@ -1,0 +1,84 @@
+"""How a run ends: by itself, or by a signal."""
+
+import argparse
+import os
+import shutil
+import signal
+import tempfile
+import time
+from concurrent.futures import Future, ThreadPoolExecutor, wait
+from pathlib import Path
+from typing import Any, Optional
+
+from aiger_check import PROGRAM
+from aiger_check.run import Run
+from aiger_check.tools.processes import Children, SIGNALS
+
+
+class Ended(BaseException):
+    """A signal asked the run to end."""
+
+    def __init__(self, number: int) -> None:
+        super().__init__(number)
+        self.number = number
+
+
+def end_by(number: int, _: Any) -> None:
+    raise Ended(number)
+
+
+class Asked:
+    """The signal that asked the run to end, if one did. It is only noted, so that it breaks nothing off."""
+
+    def __init__(self) -> None:
+        self.number: Optional[int] = None
+
+    def note(self, number: int, _: Any) -> None:
+        self.number = self.number or number
+
+
+def awaited(running: Future, asked: Asked) -> int:
+    """Waits bit by bit, and looks in between whether a signal came."""
+    while not wait([running], timeout=0.1).done:
+        if asked.number:
+            raise Ended(asked.number)
+    return running.result()
+
+
+def remove(folder: Path) -> None:
+    """Removes a folder. A program that was killed may still write as it goes, so it is tried again for a while."""
+    for _ in range(100):
+        shutil.rmtree(folder, ignore_errors=True)
+        if not folder.exists():
+            return
+        time.sleep(0.02)
+
+
+def work(given: argparse.Namespace) -> int:
+    """Runs in a thread of its own, so that a signal ends nothing but the wait for it, and leaves nothing."""
+    children, asked = Children(), Asked()
+    signal.pthread_sigmask(signal.SIG_BLOCK, SIGNALS)
+    for number in SIGNALS:
+        if signal.getsignal(number) is end_by:
+            signal.signal(number, asked.note)
+    folder = Path(tempfile.mkdtemp(prefix=f"{PROGRAM}-")).resolve()
+    with ThreadPoolExecutor(1) as alone:
+        try:
+            running = alone.submit(Run(given, folder, children).status)
+            signal.pthread_sigmask(signal.SIG_UNBLOCK, SIGNALS)
+            return awaited(running, asked)
+        finally:
+            children.stop()
+            alone.shutdown()
+            remove(folder)
+            # as the interpreter ends it lets signals end it, whatever the status is to be
+            signal.pthread_sigmask(signal.SIG_BLOCK, SIGNALS)
+
+
+def open_descriptors() -> None:
+    """Opens the null device for what is closed of the first three, so that no other file takes its place."""
+    while True:
+        descriptor = os.open(os.devnull, os.O_RDWR)
+        if descriptor > 2:
+            os.close(descriptor)
+            return

@@ -1,0 +1,18 @@
+"""What ends a run without an answer, and how texts are shown."""
+
+
+class Trouble(Exception):
+    """What ends the run with status 2, in words for the user."""
+
+
+class Stopped(Exception):
+    """The run was asked to end."""
+
+
+def visible(text: str) -> str:
+    """The text on one line: what cannot be printed is escaped."""
+    return "".join(c if c.isprintable() else c.encode("unicode_escape").decode() for c in text)
+
+
+class Usage(Exception):
+    """The command line is refused."""

@@ -1,0 +1,196 @@
+"""From Verilog to an AIGER model."""
+
+import re
+import secrets
+from typing import Any, Dict, List, Optional, Sequence, Set
+
+from aiger_check.answers import Assertion, Liveness
+from aiger_check.faults import Trouble, visible
+from aiger_check.front.clocks import Clocks
+from aiger_check.front.properties import LEFT_OUT, PROPERTIES, Property, UNNAMED, properties
+from aiger_check.front.yosys import Yosys, bare, quoted, top_of
+from aiger_check.model.circuit import Model
+
+
+class Front:
+    """Writes a Verilog design as an AIGER model by Yosys, and tells which bad state is which assertion."""
+
+    #: Without -keepdc Yosys might choose first values of uninitialised registers.
+    FLAT = (
+        "setattr -mod -unset keep_hierarchy",
+        "flatten",
+        "opt_expr -keepdc",
+        "opt_clean",
+        "check",
+        "delete -output",
+        "tribuf -logic",
+        "opt -noff -keepdc",
+        "memory_collect",
+        "opt -noff -keepdc -fast",
+    )
+    ONE_CLOCK = ("memory_map -keepdc", "async2sync")
+    GLOBAL_CLOCK = ("memory_map -keepdc", "clk2fflogic", "memory_map -formal")
+    GATES = (
+        "techmap",
+        "opt -noff -keepdc -fast",
+        "dffunmap",
+        "simplemap",
+        "setundef -undriven -anyseq",
+        "opt_clean",
+        "aigmap",
+        "opt_clean",
+    )
+
+    def __init__(self, yosys: Yosys, top: str, keeps_outputs: bool = False) -> None:
+        self.yosys, self.top, self.sources, self.keeps_outputs = yosys, top, yosys.sources, keeps_outputs
+        self.notes: List[str] = []
+        #: why the steps are not those of one clock, or that clock
+        self.reason: Optional[str] = None
+        self.clock: Optional[str] = None
+        self.replays = False
+
+    def translate(self) -> List[Assertion]:
+        """Writes model.aig into the folder of the sources, and gives its assertions."""
+        self.flatten()
+        self.write(self.reason)
+        return self.assertions()
+
+    def flatten(self) -> None:
+        """Reads the files, makes one module of all, and looks at its clocks."""
+        self.read()
+        self.refuse_conflicts(self.yosys.do("check"))
+        commands = (it for it in self.FLAT if not (self.keeps_outputs and it == "delete -output"))
+        self.refuse_conflicts(self.yosys.do(*commands))
+        flat = self.yosys.netlist("flat")
+        module = flat[top_of(flat)]
+        clocks = Clocks(module)
+        self.reason, self.asynchronous = clocks.reason(), clocks.asynchronous
+        self.clock = None if self.reason else clocks.port()
+        self.clocks = clocks.inputs()
+        kinds = {cell["type"] for cell in module["cells"].values()}
+        self.replays = self.clock is not None and "$initstate" not in kinds
+
+    def write(self, reason: Optional[str]) -> None:
+        """Writes model.aig, whose steps are those of a global clock where there is a reason for it."""
+        yosys, alias = self.yosys, self.sources.alias
+        if reason:
+            self.notes.append(f"{reason}: a step is one of a global clock, by Yosys's clk2fflogic")
+        elif self.asynchronous:
+            self.notes.append("asynchronous sets and resets change with the clock alone, by Yosys's async2sync")
+        yosys.do(*(self.GLOBAL_CLOCK if reason else self.ONE_CLOCK))
+        yosys.do("setundef -undriven -anyseq", "opt -noff -keepdc -fast", f"write_rtlil {alias}/prepared.il")
+        yosys.do(*self.GATES)
+        self.refuse_loops(yosys.do("check"))
+        yosys.do(f"write_aiger -symbols -map {alias}/model.map {alias}/model.aig")
+
+    def read(self) -> None:
+        """Reads the files, and looks at the properties before they are flattened."""
+        include = [f"-I{folder}" for folder in self.sources.include]
+        self.yosys.do(
+            " ".join(["read_verilog -sv -formal", *include, *self.sources.files]),
+            f"hierarchy -check -top {quoted(self.top)}",
+            "proc",
+            f"rename -enumerate -pattern {UNNAMED}% {' '.join(f't:{kind}' for kind in PROPERTIES)}",
+            # Yosys would merge what is equal
+            "setattr -set keep 1 t:$assert t:$assume t:$live t:$fair",
+        )
+        modules = self.yosys.netlist("read")
+        self.properties = list(properties(modules, top_of(modules), self.sources))
+        left_out = self.left_out({it.kind for it in self.properties})
+        for it in self.properties:
+            if it.kind in left_out:
+                named = visible(f"{self.top}.{it.name} ({self.place(it)})")
+                self.notes.append(f"{named} is left out: it is {LEFT_OUT[it.kind]}")
+        self.yosys.do(f"delete {' '.join(f't:{kind}' for kind in left_out)}")
+
+    def left_out(self, kinds: Set[str]) -> Sequence[str]:
+        """The kinds of properties of which nothing is said, where these are there: fairness is for liveness alone."""
+        return ("$cover",) if "$live" in kinds else ("$cover", "$fair")
+
+    def refuse_conflicts(self, said: Sequence[str]) -> None:
+        for line in said:
+            match = re.search(r"multiple conflicting drivers for (.*):", line)
+            if match:
+                raise Trouble(f"{visible(match[1].replace('.' + chr(92), '.'))} has several drivers")
+
+    def refuse_loops(self, said: Sequence[str]) -> None:
+        self.refuse_conflicts(said)
+        if any("found logic loop" in line for line in said):
+            wires = sorted({match[1] for match in (re.match(r"\s+wire \\(.*)", line) for line in said) if match})
+            raise Trouble(visible(f"there is a loop of gates without a register: {', '.join(wires) or self.top}"))
+
+    def place(self, property: Property) -> str:
+        return f"{self.sources.users_name(property.file)}:{property.line}"
+
+    def assertions(self) -> List[Assertion]:
+        """The assertions in the order of the source, each with its bad state or its justice property."""
+        bad, live = self.positions("$assert", "$live")
+        asked = [it for it in self.properties if it.kind in ("$assert", "$live")]
+        if sorted([*bad, *live]) != sorted(it.cell for it in asked):
+            raise Trouble("which property of the model is which assertion cannot be told")
+        made = []
+        for it in self.sorted(asked):
+            named = f"{self.top}.{it.name}", self.place(it)
+            if it.kind == "$live":
+                made.append(Liveness(*named, 0, it.cell, live[it.cell]))
+            else:
+                made.append(Assertion(*named, bad[it.cell], it.cell))
+        return made
+
+    def sorted(self, asked: List[Property]) -> List[Property]:
+        """Properties in the order of the source. The sort is stable: instances stay as they stand in the design."""
+        return sorted(asked, key=lambda it: (self.sources.order(it.file), it.line, it.column))
+
+    def positions(self, *kinds: str) -> List[Dict[str, int]]:
+        """Of each kind of cell the property or the constraint that it is, by the cell's name: in a second model of the
+        same netlist the value of each is an input by a name of its own, so nothing depends on Yosys's order."""
+        modules = self.yosys.netlist("final")
+        top = top_of(modules)
+        self.ports = modules[top]["ports"]
+        cells = [(name, it["type"]) for name, it in modules[top]["cells"].items() if it["type"] in kinds]
+        if not cells:
+            return [{} for _ in kinds]
+        value = f"aiger_check_{secrets.token_hex(4)}_"
+        commands = [f"cd {quoted(top)}"]
+        for at, (name, _) in enumerate(cells):
+            commands.append(f"add -input {value}{at} 1")
+            commands += [f"connect -nomap -port {quoted(name)} {port}" for port in (f"A {value}{at}", "EN 1'1")]
+        self.yosys.do(*commands, f"write_aiger -symbols {self.sources.alias}/told.aig")
+        told, model = (Model(self.sources.folder / name) for name in ("told.aig", "model.aig"))
+        found = []
+        for kind in kinds:
+            wanted = {f"{value}{at}".encode(): bare(name) for at, (name, its) in enumerate(cells) if its == kind}
+            which = told_loops(told) if kind == "$live" else told_inputs(told.circuit, kind)
+            if sorted(which) != sorted(wanted) or len(which) != len(told_literals(model.circuit, kind)):
+                raise Trouble(f"which {CALLED[kind]} is which cannot be told")
+            found.append({wanted[name]: position for position, name in enumerate(which)})
+        return found
+
+
+CALLED = {"$assert": "bad state", "$assume": "constraint", "$live": "justice property"}
+
+
+def told_literals(circuit: Any, kind: str) -> Sequence[int]:
+    """The literals that are 1 where the cells of a kind are violated."""
+    if kind == "$live":
+        return circuit.justice_literals
+    return circuit.bad if kind == "$assert" else [literal ^ 1 for literal in circuit.constraints]
+
+
+def told_loops(model: Model) -> List[bytes]:
+    """Of each justice property the one input with a name on which it depends, over any number of steps, or nothing."""
+    names = {it.position: it.name for it in model.circuit.symbols if it.kind == "i"}
+    found = []
+    for literal in told_literals(model.circuit, "$live"):
+        needed = model.cone([literal])
+        its = [names[at] for at, it in enumerate(model.circuit.inputs) if needed[it >> 1] and at in names]
+        found.append(its[0] if len(its) == 1 else b"")
+    return found
+
+
+def told_inputs(circuit: Any, kind: str) -> List[bytes]:
+    """Of each of these the name of the input that is its negation, or nothing."""
+    gates = {gate.literal: {gate.left, gate.right} - {1} for gate in circuit.gates}
+    names = {circuit.inputs[it.position]: it.name for it in circuit.symbols if it.kind == "i"}
+    operands = (gates.get(literal, {literal}) for literal in told_literals(circuit, kind))
+    return [names.get(min(it) ^ 1, b"") if len(it) == 1 else b"" for it in operands]

@@ -1,0 +1,93 @@
+"""A Yosys that runs."""
+
+import contextlib
+import json
+import os
+import re
+import secrets
+import subprocess
+from typing import Any, Dict, List, Sequence
+
+from aiger_check.faults import Stopped, Trouble, visible
+from aiger_check.front.sources import Sources
+from aiger_check.tools.processes import Children
+
+
+class Yosys:
+    """A Yosys that runs, and is told what to do bit by bit."""
+
+    def __init__(self, program: str, children: Children, sources: Sources) -> None:
+        self.children, self.sources = children, sources
+        self.said: List[str] = []
+        self.child = children.start(
+            [program, "-q", "-s", "-"],
+            stdin=subprocess.PIPE,
+            stdout=subprocess.DEVNULL,
+            stderr=subprocess.PIPE,
+            pass_fds=(sources.descriptor,),
+            # Yosys would take ABC for the path of its own ABC
+            env={name: value for name, value in os.environ.items() if name != "ABC"},
+        )
+
+    def __enter__(self) -> "Yosys":
+        return self
+
+    def __exit__(self, *_: Any) -> None:
+        self.children.end(self.child)
+        for pipe in (self.child.stdin, self.child.stderr):
+            with contextlib.suppress(OSError):
+                pipe.close()
+
+    def do(self, *commands: str) -> List[str]:
+        """Gives commands, and waits until they are done. What Yosys says of them is returned."""
+        mark = f"done-{secrets.token_hex(8)}"
+        text = "\n".join([*commands, f"log -stderr -nolog {mark}", ""])
+        with contextlib.suppress(BrokenPipeError):
+            self.child.stdin.write(text.encode(errors="surrogateescape"))
+            self.child.stdin.flush()
+        said: List[str] = []
+        for line in self.child.stderr:
+            words = line.decode(errors="replace").rstrip("\n")
+            if words == mark:
+                self.said += said
+                return said
+            said.append(words)
+        if self.children.stopped:
+            raise Stopped
+        raise Trouble(visible(self.failure(said)))
+
+    def failure(self, said: Sequence[str]) -> str:
+        """Why Yosys ended."""
+        for line in said:
+            match = re.match(r"(?:(.*?):(\d+): )?ERROR: (.*)", line)
+            if match:
+                place = f"{self.sources.users_name(match[1])}:{match[2]}: " if match[1] else ""
+                return place + self.sources.with_users_names(match[3])
+        self.child.wait()
+        last = f": {said[-1]}" if said else ""
+        return f"Yosys ended with status {self.child.returncode}{last}"
+
+    def warnings(self) -> List[str]:
+        """What Yosys warned of, with the user's names."""
+        kept = (line.partition("Warning: ")[2] for line in self.said if "logic loop" not in line)
+        return [visible(self.sources.with_users_names(line)) for line in kept if line]
+
+    def netlist(self, name: str) -> Dict[str, Any]:
+        """The modules of the design as it is now."""
+        self.do(f"write_json {self.sources.alias}/{name}.json")
+        with open(self.sources.folder / f"{name}.json", encoding="utf-8", errors="replace") as file:
+            return json.load(file)["modules"]
+
+
+def bare(name: str) -> str:
+    """A name of Yosys without the backslash that it has where it could be one of Yosys's own."""
+    return name[1:] if name.startswith("\\") else name
+
+
+def quoted(name: str) -> str:
+    """A name of a netlist as a word of a command."""
+    return name if name[:1] in "\\$" else f"\\{name}"
+
+
+def top_of(modules: Dict[str, Any]) -> str:
+    return next(name for name, module in modules.items() if int(module["attributes"].get("top", "0"), 2))

@@ -1,0 +1,98 @@
+"""The text of --help."""
+
+HELP = """\
+Check each assertion of a design: is it kept for ever, for some steps, or
+broken? Or compare two designs: are their outputs equal?
+
+Usage: aiger-check [OPTION].. --top NAME FILE.sv..    Verilog or SystemVerilog
+       aiger-check [OPTION].. MODEL                   an AIGER file
+       aiger-check --equal [OPTION].. OLD NEW         two of either kind
+
+Options:
+      --equal              Compare two designs. Each is one file; several of
+                           Verilog have commas between
+      --by-name            Pair two AIGER files by their symbols, and not by
+                           their places
+      --top <NAME>         The top module of the Verilog files; with --equal
+                           twice if that of NEW has another name. Of one file
+                           with --top twice the two modules are compared
+  -D <NAME[=VALUE]>        Define a macro; may be given many times
+  -I <DIR>                 Look for included files there; many times too
+      --frames <K>         Search runs of at most K steps (default: 50)
+      --time <SECONDS>     Limit of ABC's pdr for one assertion (default: 30)
+      --limit <SECONDS>    Limit of the SAT solver for one assertion
+                           (default: 300)
+      --jobs <N>           How many assertions side by side (default: one for
+                           each core)
+  -s, --solver <SOLVER>    cadical (the default), kissat, cryptominisat5,
+                           minisat or picosat, or the path of one
+      --keep <DIR>         Keep witnesses, waveforms, the model and what proves
+                           the answers there
+      --json               Write one JSON object in the place of lines
+      --quiet              No progress and no notes
+  -h, --help               Print help
+  -V, --version            Print version
+
+The answer for an assertion is one of these.
+  never             no run, of any length, breaks it
+  none within K     no run of at most K steps breaks it
+  reached at N      a run breaks it at step N, the least, counted from 0; with
+                    --keep its witness follows
+  unknown           neither was shown; the reason follows
+
+For liveness, as of assert property (s_eventually e), it is one of these.
+  holds               no run breaks it: e comes again and again
+  no lasso within K   no lasso of fewer than K steps breaks it
+  lasso at S          a run breaks it that goes round for ever from step S on,
+                      counted from 0; with --keep its witness follows
+  unknown             neither was shown; the reason follows
+assume property (s_eventually e) is fairness, which liveness may build on.
+
+The assertions of an AIGER file are its bad states and its justice properties,
+by symbol, or as b0, b1, .., j0, j1, ..
+
+With --equal a pair of outputs, or of bad states, has one of these answers.
+  equal               in every step, while the assumptions of OLD are kept
+  equal for K steps   in the first K steps of each run
+  differs at N        not in step N of a run, the least, counted from 0; with
+                      --keep its stimulus is there
+  unknown             neither was shown; the reason follows
+A line for each assumption of NEW follows: that OLD keeps it holds, holds for K
+steps, fails at N or is unknown.
+
+Verilog designs need the same inputs and outputs, which are paired by name; so
+are assertions that both have. Registers without initial value start alike.
+
+What is trusted: that Yosys translates the Verilog as it is meant is not proved.
+All behind it is: each answer is one that aiger, a proved program, gave of the
+model that Yosys wrote. What ABC and the solver say is checked.
+
+With --keep a script NAME.check.sh checks a never, a none within K or an answer
+for liveness again, by aiger alone.
+
+Of a design with one clock, which rises, a step is one of that clock. Else it is
+one of a global clock, and a note says so. An assertion in a clocked block
+counts in the step after.
+
+minisat and picosat write no refutation that is read here, so with these there
+is no never and no none within K.
+
+The variables AIGER, YOSYS, ABC and SOLVER name other programs than aiger,
+yosys, berkeley-abc and cadical.
+
+Exit status:
+  0  each answer is never or none within K; holds, no lasso within K; equal,
+     equal for K steps, holds
+  1  an assertion is broken: reached at N, lasso at S; a pair differs; an
+     assumption fails
+  2  anything else: an answer is unknown, there is no assertion or pair, a tool
+     or a file is missing, or the command line was refused
+  130, 143  ended by an interrupt, or by a signal to end
+
+Examples:
+  aiger-check --top queue queue.sv arbiter.sv
+  aiger-check --top queue -D DEPTH=8 -I include --keep out queue.sv
+  aiger-check --frames 100 model.aig
+  aiger-check --equal old.aig new.aig
+  aiger-check --equal --top queue old.sv new.sv,fifo.sv
+"""

@@ -1,0 +1,122 @@
+"""What is kept of answers."""
+
+import hashlib
+import os
+import re
+import secrets
+from pathlib import Path
+from typing import Any, List, Set
+
+from aiger_check import PROGRAM
+from aiger_check.answers import Assertion, Verdict
+from aiger_check.faults import Trouble, visible
+from aiger_check.tools.aiger import Aiger, aiger_failure
+
+#: what the files are called that show the answers of all pairs at once
+TOGETHER = "together"
+
+
+class Keeper:
+    """Puts what shows the answers into the user's folder, each file at once."""
+
+    #: what the model's file is called, and of what a script speaks
+    called, shown = "model", "the model with this digest"
+
+    def __init__(self, folder: Path, model: Path, aiger: Aiger) -> None:
+        self.folder, self.path, self.aiger = folder, model, aiger
+        self.names: Set[str] = set()
+        self.has_all = False
+        #: of each kept model the line that says its digest
+        self.digests: List[str] = []
+        folder.mkdir(parents=True, exist_ok=True)
+        self.model = self.put_model(self.called, model)
+
+    def put_model(self, name: str, path: Path) -> str:
+        """Keeps a model by a name that has its digest."""
+        data = path.read_bytes()
+        digest = hashlib.sha256(data).hexdigest()
+        kept = f"{name}-{digest[:16]}.aig"
+        self.put(kept, data)
+        self.digests.append(f"{digest}  {kept}")
+        return kept
+
+    def put(self, name: str, data: bytes, mode: int = 0o666) -> Path:
+        """Writes a file beside its place, and renames it into that."""
+        place, fresh = self.folder / name, self.folder / f".{PROGRAM}-{secrets.token_hex(8)}"
+        try:
+            try:
+                with open(os.open(fresh, os.O_WRONLY | os.O_CREAT | os.O_EXCL, mode), "wb") as file:
+                    file.write(data)
+                os.replace(fresh, place)
+            finally:
+                fresh.unlink(missing_ok=True)
+        except OSError as why:
+            raise Trouble(f"{visible(str(place))}: {why.strerror}") from why
+        return place
+
+    def name(self, assertion: Assertion) -> str:
+        """A name for the files of an assertion, which no other has."""
+        base = re.sub(r"[^A-Za-z0-9_.+-]", "_", assertion.file).lstrip(".-")[:100] or "assertion"
+        name, count = base, 1
+        while name.lower() in self.names:
+            count += 1
+            name = f"{base}-{count}"
+        self.names.add(name.lower())
+        return name
+
+    def keep(self, assertion: Assertion, verdict: Verdict) -> None:
+        name = self.name(assertion)
+        if verdict.witness:
+            self.put_run(name, assertion, verdict)
+            verdict.kept = self.put(f"{name}.aiw", verdict.witness.read_bytes())
+        if verdict.refutation:
+            proof = self.put_proof(TOGETHER if verdict.of_all else name, verdict)
+            asks = self.asks(self.options(proof, assertion, verdict))
+            self.put_script(name, assertion, verdict, [*asks, f'[ "$answer" = "{verdict.claim()}" ]'])
+
+    def put_run(self, name: str, assertion: Assertion, verdict: Verdict) -> None:
+        """Keeps what shows the run of a witness."""
+        self.put_waves(name, self.path, verdict.witness)
+
+    def put_waves(self, name: str, model: Path, witness: Path) -> None:
+        waves = self.traced("--witness", "--vcd", model, witness, output=witness.with_suffix(".vcd"))
+        self.put(f"{name}.vcd", waves)
+
+    def traced(self, *words: Any, output: Path) -> bytes:
+        """What aigsim says."""
+        told = self.aiger.run("aigsim", *words, folder=output.parent, output=output)
+        if told.status != 0:
+            raise Trouble(aiger_failure(told))
+        return output.read_bytes()
+
+    def put_proof(self, name: str, verdict: Verdict) -> str:
+        """Keeps what shows an answer; what shows all answers is kept once."""
+        if not (verdict.of_all and self.has_all):
+            self.put(f"{name}.drat", verdict.refutation.read_bytes())
+            if verdict.invariant:
+                self.put(f"{name}.pla", verdict.invariant.read_bytes())
+        self.has_all = self.has_all or verdict.of_all
+        return name
+
+    def put_script(self, name: str, assertion: Assertion, verdict: Verdict, asks: List[str]) -> None:
+        """Keeps what checks the answer again, by aiger alone."""
+        checks = [f'echo "{line}" | sha256sum --check --quiet || exit 1' for line in self.digests]
+        lines = [
+            "#!/bin/sh",
+            f"# {assertion}: {assertion.said(verdict)}",
+            f"# Ends with 0 exactly if aiger says so again, of {self.shown}.",
+            'CDPATH= cd -- "$(dirname -- "$0")" || exit 2',
+            *checks,
+            *asks,
+        ]
+        self.put(f"{name}.check.sh", "\n".join([*lines, ""]).encode(errors="replace"), 0o777)
+
+    def options(self, proof: str, assertion: Assertion, verdict: Verdict) -> str:
+        """The words by which aigunroll is asked again."""
+        how = f"--invariant {proof}.pla" if verdict.invariant else f"--frames {verdict.steps}"
+        of = "" if verdict.of_all else "{} {} ".format(*assertion.option)
+        return f"{how} {of}{'--simplify ' * verdict.simplified}--refutation {proof}.drat"
+
+    def asks(self, options: str) -> List[str]:
+        """The lines that get an answer of the model."""
+        return [f'answer=$("${{AIGER:-aiger}}" aigunroll {options} {self.model}) || exit 1']
