@@ -14,6 +14,7 @@ from pathlib import Path
 from typing import Any, Dict, List, Optional, Set, Tuple
 
 from aiger_check.answers import Answer, Assertion, Assumption, Liveness, Pair, Verdict, counted
+from aiger_check.doubts import Doubts
 from aiger_check.equality.sides import Side, Sides, in_order_of
 from aiger_check.faults import Trouble, Usage, visible
 from aiger_check.front.ports import Ports, TwoPorts
@@ -47,6 +48,7 @@ class Run:
         #: the model with its justice properties, if it has some
         self.live: Optional[Model] = None
         self.of_all: Optional[Verdict] = None
+        self.doubts = Doubts()
         self.verdicts: List[Tuple[Assertion, Verdict]] = []
 
     def note(self, words: str) -> None:
@@ -120,7 +122,7 @@ class Run:
             if shown is not None:
                 words = "fails in Yosys's replay too" if shown else "does not fail in Yosys's replay"
                 search.notes.append(f"{search.assertion} {words}")
-        return verdict
+        return self.doubts.applied(search.assertion, verdict)
 
     def tell(self, search: Search, verdict: Verdict, keeper: Optional[Keeper]) -> None:
         for words in search.notes:
