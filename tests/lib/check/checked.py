@@ -30,6 +30,9 @@ LIVE_KINDS = ["holds", "no lasso within", "lasso", "unknown"]
 SUM = re.compile(r"(\d+) (liveness )?assertions?(?:: (.*))?")
 KEPT = re.compile(r"(model|live)-[0-9a-f]+\.aig|.+\.(aiw|vcd|drat|pla|check\.sh)")
 EXACT, BOUNDED, SAFE = "exact", "bounded", "safe"
+# with what a run ends: what is asked is kept, broken, refused as a command line, kept by nothing, unknown; or no answer
+# comes, since a tool fails, or a file is missing or refused
+KEPT, BROKEN, USAGE, VACUOUS, UNKNOWN, TROUBLE = 0, 1, 2, 3, 2, 2
 
 
 class Wrong(Exception):
