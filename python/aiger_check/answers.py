@@ -14,6 +14,7 @@ class Answer(enum.Enum):
     NEVER = "never"
     NONE_WITHIN = "none within"
     REACHED = "reached"
+    VACUOUS = "vacuous"
     UNKNOWN = "unknown"
 
 

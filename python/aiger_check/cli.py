@@ -11,6 +11,7 @@ from aiger_check.ending import Ended, end_by, open_descriptors, work
 from aiger_check.faults import Trouble, Usage, visible
 from aiger_check.help import HELP
 from aiger_check.report import say, show
+from aiger_check.statuses import Status
 from aiger_check.tools.processes import SIGNALS
 
 
@@ -25,10 +26,11 @@ def main(arguments: Sequence[str]) -> int:
         given = parse_arguments(arguments)
         if given.help or given.version:
             show(HELP.rstrip("\n") if given.help else f"{PROGRAM} {VERSION}")
-            return 0
+            return Status.KEPT
         return work(check_arguments(given))
     except Usage as why:
         say(f"{why}\nTry '{PROGRAM} --help'.")
+        return Status.USAGE
     except Trouble as why:
         say(str(why))
     except Ended as why:
@@ -39,4 +41,4 @@ def main(arguments: Sequence[str]) -> int:
         say("out of memory")
     except Exception as why:  # whatever it is, status 1 would say that an assertion is broken
         say(f"internal error: {type(why).__name__}: {visible(str(why))}")
-    return 2
+    return Status.TROUBLE

@@ -2,7 +2,7 @@
 
 
 class Trouble(Exception):
-    """What ends the run with status 2, in words for the user."""
+    """What ends the run without an answer, in words for the user."""
 
 
 class Stopped(Exception):

@@ -83,11 +83,14 @@ yosys, berkeley-abc and cadical.
 Exit status:
   0  each answer is never or none within K; holds, no lasso within K; equal,
      equal for K steps, holds
-  1  an assertion is broken: reached at N, lasso at S; a pair differs; an
-     assumption fails
-  2  anything else: an answer is unknown, there is no assertion or pair, a tool
-     or a file is missing, or the command line was refused
-  130, 143  ended by an interrupt, or by a signal to end
+  1  an assertion is broken, whatever the others are: reached at N, lasso at S;
+     a pair differs; an assumption fails
+  2  the command line was refused
+  3  an answer is vacuous
+  4  an answer is unknown
+  16 there is no answer: no assertion or pair, a tool fails or is missing, or a
+     file is missing or refused
+  128 + N  ended by signal N: 130 by an interrupt, 143 by one to end
 
 Examples:
   aiger-check --top queue queue.sv arbiter.sv

@@ -30,6 +30,7 @@ from aiger_check.search.lassos import Lassos
 from aiger_check.search.limits import Limits, Tools
 from aiger_check.search.single import Search
 from aiger_check.search.together import Together
+from aiger_check.statuses import Status, status_of
 from aiger_check.tools.abc import Abc
 from aiger_check.tools.aiger import Aiger, aigtools
 from aiger_check.tools.processes import Children, SIGNALS, path_of
@@ -57,7 +58,7 @@ class Run:
             self.progress.clear()
             say(words)
 
-    def status(self) -> int:
+    def status(self) -> Status:
         """Checks all assertions, and gives the status of the program."""
         # what is blocked here would be in the programs that are started
         signal.pthread_sigmask(signal.SIG_UNBLOCK, SIGNALS)
@@ -76,10 +77,7 @@ class Run:
                 self.children.stop()
                 raise
         show(json.dumps(self.records()) if self.given.json else self.summary())
-        answers = {verdict.answer for _, verdict in self.verdicts}
-        if Answer.REACHED in answers:
-            return 1
-        return 2 if not answers or Answer.UNKNOWN in answers else 0
+        return status_of(verdict.answer for _, verdict in self.verdicts)
 
     def asked(self, aiger: Aiger) -> Tuple[Model, List[Assertion]]:
         """The model, and what is to be said of its bad states, and of justice properties."""
@@ -292,7 +290,7 @@ class Run:
         return self.of_bad(path), found
 
     def must_say(self, words: str) -> None:
-        """What is told even with --quiet, since the status is 2."""
+        """What is told even with --quiet, since there is nothing to answer."""
         say(words)
 
     def note_contradiction(self, model: Model, tools: Tools) -> None:

@@ -130,7 +130,7 @@ ln -s "$staged/opt/aig/bin/aiger-check" "$work/linked"
 checks_at 'a prefix' "$staged/opt/aig/bin/aiger-check"
 checks_at 'a prefix, by a link' "$work/linked"
 check 'its options stand in the manual page' same '' not_in_manual "$work/linked"
-check 'another aiger for it' fails 2 'aiger-check: ' env AIGER=false "$work/linked" "$work/model.aag"
+check 'another aiger for it' fails 16 'aiger-check: ' env AIGER=false "$work/linked" "$work/model.aag"
 check 'the destination by =' "$tree/release/install" --destdir="$work/by name" /opt/aig
 check 'its files' same "$install_files" files_below "$work/by name/opt/aig"
 check 'install to a prefix alone' fails 0 "LD_LIBRARY_PATH=$work/prefix/lib" "$tree/release/install" "$work/prefix"

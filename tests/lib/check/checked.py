@@ -28,11 +28,13 @@ LINE = re.compile(rf"(?P<name>.*) \((?P<source>.*?)\): (?P<answer>{ANSWERS})(?P<
 KINDS = ["never", "none within", "reached", "unknown"]
 LIVE_KINDS = ["holds", "no lasso within", "lasso", "unknown"]
 SUM = re.compile(r"(\d+) (liveness )?assertions?(?:: (.*))?")
-KEPT = re.compile(r"(model|live)-[0-9a-f]+\.aig|.+\.(aiw|vcd|drat|pla|check\.sh)")
+KEPT_FILE = re.compile(r"(model|live)-[0-9a-f]+\.aig|.+\.(aiw|vcd|drat|pla|check\.sh)")
 EXACT, BOUNDED, SAFE = "exact", "bounded", "safe"
-# with what a run ends: what is asked is kept, broken, refused as a command line, kept by nothing, unknown; or no answer
-# comes, since a tool fails, or a file is missing or refused
-KEPT, BROKEN, USAGE, VACUOUS, UNKNOWN, TROUBLE = 0, 1, 2, 3, 2, 2
+# why something is unknown where the time for the whole is over
+LATE = "no time left"
+# with what a run ends: what is asked is kept, broken, refused as a command line, kept by nothing, unknown, or not all of
+# it was answered in time; or no answer comes, since a tool fails, or a file is missing or refused
+KEPT, BROKEN, USAGE, VACUOUS, UNKNOWN, TIMEOUT, TROUBLE = 0, 1, 2, 3, 4, 8, 16
 
 
 class Wrong(Exception):
@@ -206,10 +208,16 @@ def answers_of(said):
 def status_of(found, frames):
     """How a run with these answers must end."""
     if any(it.answer in ("reached", "lasso") for it in found):
-        return 1
+        return BROKEN
+    if any(it.reason == LATE for it in found):
+        return TIMEOUT
     bounds = ("none within", "no lasso within")
-    holds = (it.answer in ("never", "holds") or it.answer in bounds and it.steps >= frames for it in found)
-    return 0 if found and all(holds) else 2
+    holds = ("never", "holds", "vacuous")
+    if not all(it.answer in holds or it.answer in bounds and it.steps >= frames for it in found):
+        return UNKNOWN
+    if any(it.answer == "vacuous" for it in found):
+        return VACUOUS
+    return KEPT if found else TROUBLE
 
 
 def is_right_of_live(truth, it, way, frames):
@@ -252,7 +260,7 @@ def judge(said, truths, way=EXACT, frames=FRAMES):
     return found
 
 
-def refused(said, *words, status=2):
+def refused(said, *words, status=TROUBLE):
     """That a run says what is wrong, and no answer that anything holds or fails."""
     need(said.status == status, f"status {status} is due", said)
     need(re.search("^aiger-check: .", said.err, re.MULTILINE), "it does not say why", said)
@@ -306,7 +314,7 @@ def judge_lasso(room_, kept, it, said):
 def judge_kept(room_, kept, found, said):
     """What is kept of these answers: each witness is confirmed, and each script succeeds."""
     names = sorted(os.listdir(kept))
-    need(all(map(KEPT.fullmatch, names)), f"kept {names}", said)
+    need(all(map(KEPT_FILE.fullmatch, names)), f"kept {names}", said)
     broken = [it for it in found if it.answer in ("reached", "lasso")]
     need(len({it.witness for it in broken}) == len(broken), "one witness for two", said)
     for it in broken:

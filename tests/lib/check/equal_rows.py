@@ -100,7 +100,7 @@ def of_json(said):
 
 def status_of(found, frames):
     pairs = [it for it in found if not is_assumed(it)]
-    return checked.status_of(found, frames) if pairs else 2
+    return checked.status_of(found, frames) if pairs else checked.TROUBLE
 
 
 def judge(said, wanted, way=checked.EXACT, frames=checked.FRAMES):
@@ -299,7 +299,8 @@ COUNTS = {
 def no_pair(words, first, second, patterns, room):
     put(room, first, second)
     said = room.run("--equal", *words, "old", "new", changes=honest(room))
-    checked.need(said.status == 2 or "no output" in said.err and said.status == 1, "another status", said)
+    may_be = (checked.TROUBLE, checked.BROKEN) if "no output" in said.err else (checked.TROUBLE,)
+    checked.need(said.status in may_be, "another status", said)
     checked.need("equal" not in said.out.replace("0 pairs", ""), "an answer", said)
     for pattern in patterns:
         checked.need(re.search(f"aiger-check: .*{pattern}", said.err), f"{pattern!r} is not said", said)
@@ -309,8 +310,6 @@ USAGE = {
     "one model": (["--equal", "old"], ["two designs"]),
     "three models": (["--equal", "old", "new", "old"], ["two designs"]),
     "no model": (["--equal"], ["no file"]),
-    "a missing model": (["--equal", "old", "none"], ["none"]),
-    "a folder for a model": (["--equal", "folder", "new"], ["folder"]),
     "--by-name alone": (["--by-name", "old"], ["--by-name"]),
     "a top for models": (["--equal", "--top", "m", "old", "new"], ["--top"]),
     "a model and a design": (["--equal", "--top", "m", "old", "m.sv"], ["not a Verilog file"]),
@@ -319,18 +318,22 @@ USAGE = {
     "three tops": (["--equal", "--top", "m", "--top", "n", "--top", "m", "m.sv"], ["two designs"]),
     "three designs": (["--equal", "--top", "m", "m.sv", "m.sv", "m.sv"], ["two designs"]),
     "two tops without --equal": (["--top", "m", "--top", "n", "m.sv"], ["--top is given twice"]),
+    "an odd top": (["--equal", "--top", "m", "--top", "n;shell", "m.sv"], ["not the name of a module"]),
+}
+MISSING = {
+    "a missing model": (["--equal", "old", "none"], ["none"]),
+    "a folder for a model": (["--equal", "folder", "new"], ["folder"]),
     "a missing design": (["--equal", "--top", "m", "m.sv", "none.sv"], [r"none\.sv"]),
     "a part of a design that is missing": (["--equal", "--top", "m", "m.sv", "m.sv,none.sv"], [r"none\.sv"]),
-    "an odd top": (["--equal", "--top", "m", "--top", "n;shell", "m.sv"], ["not the name of a module"]),
 }
 
 
-def usage(words, patterns, room):
+def usage(status, words, patterns, room):
     put(room, AND, AND)
     (room.here / "folder").mkdir()
     (room.here / "m.sv").write_text("module m(output a); assign a = 1; endmodule\n", encoding="ascii")
     said = room.run(*words, changes=honest(room))
-    checked.refused(said, *patterns)
+    checked.refused(said, *patterns, status=status)
     checked.need(not said.out, "an answer", said)
 
 
@@ -915,8 +918,9 @@ def rows():
         yield f"equal by name: {called}", each(no_pair, ["--by-name"], first, second, patterns)
     for called, (first, second, patterns) in COUNTS.items():
         yield f"equal: {called}", each(no_pair, [], first, second, patterns)
-    for called, of in USAGE.items():
-        yield f"equal, usage: {called}", each(usage, *of)
+    for status, of in ((checked.USAGE, USAGE), (checked.TROUBLE, MISSING)):
+        for called, (words, patterns) in of.items():
+            yield f"equal, usage: {called}", each(usage, status, words, patterns)
     for at, said in enumerate(stand_ins.SOLVER_LIES):
         yield f"equal: the solver gives {said}", each(lying, "SOLVER", said, [*LIED_OF][at % 3])
     for at, said in enumerate(stand_ins.ABC_LIES):

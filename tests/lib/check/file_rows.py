@@ -33,7 +33,7 @@ def limited(size, room):
         "--frames", "4", "model.aag", changes=model_rows.honest(room),
         preexec_fn=lambda: resource.setrlimit(resource.RLIMIT_FSIZE, (size, size)),
     )
-    if said.status == 2 and not said.out:
+    if said.status == checked.TROUBLE and not said.out:
         checked.need("aiger-check: " in said.err, "it is not said", said)
     else:
         checked.judge(said, truths, checked.SAFE, 4)
@@ -45,7 +45,7 @@ def limited_design(size, room):
     said = room.run(
         "--top", "counter", "counter.sv", preexec_fn=lambda: resource.setrlimit(resource.RLIMIT_FSIZE, (size, size))
     )
-    if said.status == 2 and not said.out:
+    if said.status == checked.TROUBLE and not said.out:
         checked.need("aiger-check: " in said.err, "it is not said", said)
     else:
         checked.judge(said, design_rows.truths(designs.one("counter")), checked.SAFE)
@@ -76,7 +76,7 @@ def small_disk(size, keeps, room):
     if is_whole:
         checked.need(said.status == checked.status_of(found, 8), "another status", said)
     else:
-        checked.need(said.status == 2 and "aiger-check: " in said.err, "it is not said", said)
+        checked.need(said.status == checked.TROUBLE and "aiger-check: " in said.err, "it is not said", said)
 
 
 def full(stream, words, room):
@@ -85,9 +85,9 @@ def full(stream, words, room):
     with open("/dev/full", "wb") as device:
         said = room.run(*words, "model.aag", changes=model_rows.honest(room), **{stream: device})
     if stream == "stdout":
-        checked.need(said.status == 2 and "aiger-check: " in said.err, "it is not said", said)
+        checked.need(said.status == checked.TROUBLE and "aiger-check: " in said.err, "it is not said", said)
     else:
-        checked.need(said.status in (0, 2), "another status", said)
+        checked.need(said.status in (checked.KEPT, checked.TROUBLE), "another status", said)
 
 
 def closed(streams, room):
@@ -97,7 +97,8 @@ def closed(streams, room):
     words = ["bash", "-c", '"$@" ' + streams, "-", *words]
     settings = room.settings(model_rows.honest(room))
     ran = subprocess.run(words, cwd=room.here, env=settings, capture_output=True, check=False)
-    checked.need(ran.returncode == (2 if ">&-" in streams.replace("2>&-", "") else 0), "another status", ran)
+    due = checked.TROUBLE if ">&-" in streams.replace("2>&-", "") else checked.KEPT
+    checked.need(ran.returncode == due, "another status", ran)
     checked.need(not any(room.temporary.iterdir()), "something is left", ran)
     checked.need(b"Traceback" not in ran.stderr, "a traceback", ran)
 
@@ -108,7 +109,7 @@ def unwritable(make, room):
     (room.here / "file").write_text("a file\n", encoding="ascii")
     folder = make(room)
     said = room.run("--keep", folder, "model.aag", changes=model_rows.honest(room))
-    checked.need(said.status == 2, "status 2 is due", said)
+    checked.need(said.status == checked.TROUBLE, f"status {checked.TROUBLE} is due", said)
     is_said = any(it.startswith("aiger-check: ") and Path(folder).name in it for it in said.err.splitlines())
     checked.need(is_said, "it is not said", said)
 

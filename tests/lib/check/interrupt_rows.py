@@ -74,7 +74,7 @@ def at_some_moment(part, room):
     said = room.end(run, tuple(words), before)
     kept = room.here / "kept"
     names = os.listdir(kept) if kept.exists() else []
-    checked.need(all(map(checked.KEPT.fullmatch, names)), f"kept {names}", said)
+    checked.need(all(map(checked.KEPT_FILE.fullmatch, names)), f"kept {names}", said)
     for name in names:
         if name.endswith(".check.sh"):
             checked.need(checked.succeeds(str(kept / name), room, room.folder), f"{name} fails", said)
@@ -90,7 +90,7 @@ def ended_reader(room):
     os.close(reading)
     with os.fdopen(writing, "wb") as stream:
         said = room.run("model.aag", changes=changes, stdout=stream)
-    checked.need(said.status not in (0, 1), "a status that tells an answer", said)
+    checked.need(said.status == checked.TROUBLE, f"status {checked.TROUBLE} is due", said)
 
 
 def ignored(room):

@@ -200,7 +200,8 @@ def too_far(room):
     (room.here / "model.aag").write_text(beside_counter(18), encoding="ascii")
     said = room.run("--frames", "3", "model.aag", changes=changes)
     (found,) = checked.answers_of(said)
-    checked.need(found.answer == "unknown" and "steps" in found.reason and said.status == 2, "another answer", said)
+    is_told = found.answer == "unknown" and "steps" in found.reason
+    checked.need(is_told and said.status == checked.UNKNOWN, "another answer", said)
 
 
 def changed(how, room):

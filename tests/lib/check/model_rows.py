@@ -154,17 +154,17 @@ def outputs_alone(text, room):
     changes = honest(room)
     (room.here / "model.aag").write_text(text, encoding="ascii")
     said = room.run("model.aag", changes=changes)
-    checked.need((said.status, said.out) == (2, "0 assertions\n"), "another answer", said)
+    checked.need((said.status, said.out) == (checked.TROUBLE, "0 assertions\n"), "another answer", said)
     checked.need("outputs-as-bad" in said.err, "the way out is not named", said)
     said = room.run("--json", "model.aag", changes=changes)
-    checked.need(said.status == 2 and checked.of_json(said) == [], "another object", said)
+    checked.need(said.status == checked.TROUBLE and checked.of_json(said) == [], "another object", said)
 
 
 def no_bad_state(room):
     changes = honest(room)
     (room.here / "model.aag").write_text("aag 1 1 0 0 0\n2\n", encoding="ascii")
     said = room.run("model.aag", changes=changes)
-    checked.need((said.status, said.out) == (2, "0 assertions\n"), "another answer", said)
+    checked.need((said.status, said.out) == (checked.TROUBLE, "0 assertions\n"), "another answer", said)
     checked.need(re.search("aiger-check: .*(assertion|bad state)", said.err), "it is not said", said)
 
 
@@ -199,7 +199,7 @@ def by_stream(room):
         writer.stdin.close()
         said = room.run("pipe", changes=changes)
         writer.kill()
-    if said.status == 2:
+    if said.status == checked.TROUBLE:
         checked.refused(said)
     else:
         checked.judge(said, named(text, steps, "pipe"))

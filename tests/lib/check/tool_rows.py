@@ -239,7 +239,7 @@ def no_program(name, file, room):
     (room.folder / "broken").chmod(0o755)
     changes = {**model_rows.honest(room), name: str(room.folder / file)}
     said = room.run("--frames", "8", "model.aag", changes=changes)
-    if said.status == 2:
+    if said.status in (checked.UNKNOWN, checked.TROUBLE):
         checked.need("aiger-check: " in said.err or "unknown" in said.out, "it is not said", said)
     if said.out:
         checked.judge(said, truths, checked.SAFE, 8)

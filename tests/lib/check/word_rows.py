@@ -26,17 +26,19 @@ USAGE = {
     "an unknown solver": (["-s", "glucose", "model.aag"], ["glucose", "cadical"]),
     "a solver without a name": (["model.aag", "-s"], ["solver|-s"]),
     "a path of an unknown solver": (["--solver", "/usr/bin/true", "model.aag"], ["true", "cadical"]),
-    "a model that is missing": (["none.aag"], [r"none\.aag"]),
-    "a folder for a model": (["folder"], ["folder"]),
     "two models": (["model.aag", "model.aag"], ["aiger-check: "]),
     "a model beside a design": (["--top", "m", "model.aag", "m.sv"], ["aiger-check: "]),
     "a design without a top": (["m.sv"], ["top"]),
     "a top without a name": (["m.sv", "--top"], ["top"]),
     "an empty top": (["--top", "", "m.sv"], ["top|module"]),
-    "an empty name of a file": ([""], ["aiger-check: "]),
     "an empty word that is defined": (["-D", "", "--top", "m", "m.sv"], ["-D"]),
     "a folder to keep without a name": (["model.aag", "--keep"], ["keep"]),
     "an empty folder to keep": (["--keep", "", "model.aag"], ["keep"]),
+}
+MISSING = {
+    "a model that is missing": (["none.aag"], [r"none\.aag"]),
+    "a folder for a model": (["folder"], ["folder"]),
+    "an empty name of a file": ([""], ["aiger-check: "]),
 }
 
 
@@ -48,9 +50,9 @@ def put(room, which=LATE):
     return model_rows.named(text, steps, "model.aag")
 
 
-def usage(words, patterns, room):
+def usage(status, words, patterns, room):
     put(room)
-    checked.refused(room.run(*words, changes=model_rows.honest(room)), *patterns)
+    checked.refused(room.run(*words, changes=model_rows.honest(room)), *patterns, status=status)
 
 
 OPTIONS = "--equal --by-name --top -D -I --frames --time --limit --jobs --solver -s --keep --json --quiet --help "
@@ -152,8 +154,9 @@ def by_path(room):
 
 def rows():
     each = functools.partial
-    for called, (words, patterns) in USAGE.items():
-        yield f"usage: {called}", each(usage, words, patterns)
+    for status, of in ((checked.USAGE, USAGE), (checked.TROUBLE, MISSING)):
+        for called, (words, patterns) in of.items():
+            yield f"usage: {called}", each(usage, status, words, patterns)
     for words in (["--help"], ["-h"], ["--help", "model.aag"]):
         yield f"help by {words}", each(help_, words)
     yield "version", each(version, ["--version"])
