@@ -124,6 +124,3 @@ def check_verilog_arguments(given: argparse.Namespace, names: List[str]) -> None
     for define in given.defines:
         if not re.fullmatch(r"[A-Za-z_][A-Za-z0-9_$]*(=[^\n\r]*)?", define):
             raise Usage(f"not NAME or NAME=VALUE: -D {visible(define)}")
-    for name in names:
-        with open(name, "rb") as file:
-            file.read(1)

@@ -21,7 +21,7 @@ from aiger_check.front.ports import Ports, TwoPorts
 from aiger_check.front.replay import Replay
 from aiger_check.front.sources import Sources
 from aiger_check.front.translation import Front
-from aiger_check.front.yosys import Yosys
+from aiger_check.front.yosys import LIMIT, Yosys
 from aiger_check.keep.keeper import Keeper, TOGETHER
 from aiger_check.keep.others import KeeperOfLassos, KeeperOfTwo
 from aiger_check.model.circuit import Model, named_by_symbols, without_justice
@@ -199,9 +199,11 @@ class Run:
     def started(self, stack: contextlib.ExitStack, program: str, files: List[str], place: Path) -> Yosys:
         """A Yosys for these files, which ends with the stack."""
         place.mkdir()
-        sources = Sources(files, self.given.include, self.given.defines, place)
+        given = self.given
+        sources = Sources(files, given.include, given.defines, place, getattr(given, "parameters", []))
         stack.callback(sources.close)
-        return stack.enter_context(Yosys(program, self.children, sources))
+        limit = getattr(given, "yosys_limit", LIMIT)
+        return stack.enter_context(Yosys(program, self.children, sources, limit))
 
     def note_all(self, front: Front) -> None:
         for words in (*(f"Yosys: {line}" for line in front.yosys.warnings()), *front.notes):

@@ -1,70 +1,139 @@
-"""The user's files as Yosys sees them."""
+"""The user's files as they are read."""
 
 import os
 import re
+from dataclasses import dataclass
 from pathlib import Path
-from typing import Dict, List, Sequence, Tuple
+from typing import Dict, Iterable, List, Sequence, Set, Tuple
 
-PLAIN = re.compile(r"[A-Za-z0-9_.+][A-Za-z0-9_.+-]*")
+from aiger_check.faults import Trouble, visible
+from aiger_check.front.directives import Changes
+from aiger_check.front.files import content, is_there, text_of
+
+#: below the folder of a copy, so that names of other files may lead upwards
+BELOW = "1/2/3/4/5/6"
+
+
+@dataclass
+class Copy:
+    """A file of the user's: its name, the folder of that which was given and includes it, where it is copied to below
+    the folder of all, and what stands in it."""
+
+    name: str
+    above: str
+    place: str
+    text: str = ""
 
 
 class Sources:
-    """The user's files as Yosys sees them: below one folder, by plain names, so that no name needs quotes.
+    """The user's files, copied to one folder by plain names, so that nothing else is read, and no name needs quotes.
 
-    The folder is that of a descriptor, as the path of a temporary folder may be odd too.
+    What a file includes stands beside it; or else beside the file that was given, in the folders of -I, or where the
+    program was started. So do the files of which words of memories are read. The folder is that of a descriptor, as
+    the path of a temporary folder may be odd too.
+
+    For who reads the files besides Yosys: `copied` are the files that were given, in their order; `folder` is where
+    one has to look for those that they include; `defines` are pairs of a name and a value. Of a path `users_name` and
+    `lines` tell what the user calls it and wrote there.
     """
 
-    def __init__(self, files: Sequence[str], include: Sequence[str], defines: Sequence[str], folder: Path) -> None:
-        self.folder = folder
+    def __init__(
+        self, files: Sequence[str], include: Sequence[str], defines: Sequence[str], folder: Path, words: Sequence[str] = ()
+    ) -> None:
+        self.folder, self.searched = folder, [it or "." for it in include]
         self.descriptor = os.open(folder, os.O_RDONLY | os.O_DIRECTORY)
         self.alias = f"/proc/self/fd/{self.descriptor}"
         self.given = list(files)
-        self.folders: Dict[str, str] = {}
-        self.names: Dict[str, str] = {}
-        self.files = [self.plain(at, name) for at, name in enumerate(files)]
-        self.include = [self.link(f"include{at}", name) for at, name in enumerate(include)]
-        if defines:
-            self.files.insert(0, self.define(defines))
+        self.defines = [(name, value) for name, _, value in (define.partition("=") for define in defines)]
+        self.copies: List[Copy] = []
+        self.headers: Dict[Tuple[str, str], Copy] = {}
+        self.missing: Dict[str, str] = {}
+        self.strings: Set[str] = set()
+        self.reads_words = False
+        self.first = [self.copy(name, os.path.dirname(name)) for name in files]
+        for copy in self.copies:
+            # what it includes is added behind it
+            self.take(copy)
+        self.at_place = {copy.place: copy for copy in self.copies}
+        self.copy_words([*words, *(value for _, value in self.defines)])
 
     def close(self) -> None:
         os.close(self.descriptor)
 
-    def define(self, defines: Sequence[str]) -> str:
-        """A file of macros, since a value may have what a command of Yosys cannot."""
-        path = f"{self.alias}/defines.vh"
-        lines = [f"`define {name} {value}\n" for name, _, value in (define.partition("=") for define in defines)]
-        (self.folder / "defines.vh").write_bytes("".join(lines).encode(errors="surrogateescape"))
-        self.names[path] = "-D"
-        return path
+    @property
+    def copied(self) -> List[Path]:
+        return [self.folder / copy.place for copy in self.first]
 
-    def link(self, name: str, folder: str) -> str:
-        """A plain path of the user's folder."""
-        (self.folder / name).symlink_to(os.path.abspath(folder or "."))
-        self.folders[f"{self.alias}/{name}"] = folder
-        return f"{self.alias}/{name}"
+    @property
+    def files(self) -> List[str]:
+        """The files that were given, as Yosys names them."""
+        return [f"{self.alias}/{copy.place}" for copy in self.first]
 
-    def plain(self, at: int, name: str) -> str:
-        """A plain path of the user's file, in a folder where those are that it includes."""
-        folder, base = os.path.split(name)
-        place = self.link(f"folder{at}", folder)
-        if PLAIN.fullmatch(base):
-            path = f"{place}/{base}"
-        else:
-            path = f"{self.alias}/file{at}.sv"
-            (self.folder / f"file{at}.sv").symlink_to(os.path.abspath(name))
-        self.names[path] = name
+    def copy(self, name: str, above: str) -> Copy:
+        made = Copy(name, above, f"copy{len(self.copies)}/{BELOW}/aiger_check.sv")
+        self.copies.append(made)
+        return made
+
+    def take(self, copy: Copy) -> None:
+        """Copies a file, with other names for what it includes."""
+        copy.text = text_of(copy.name)
+        changes = Changes(copy.text, copy.name, lambda name, line: self.included(copy, name, line))
+        self.strings |= changes.strings
+        self.reads_words = self.reads_words or changes.reads_words
+        self.put(copy.place, changes.text.encode("latin-1"))
+
+    def put(self, place: str, text: bytes) -> None:
+        path = self.folder / place
+        os.makedirs(path.parent, exist_ok=True)
+        path.write_bytes(text)
+
+    def candidates(self, copy: Copy, name: str) -> Iterable[str]:
+        """What may be meant where a file names another one."""
+        folders = [os.path.dirname(copy.name), copy.above, *self.searched, ""]
+        return (found for found in (os.path.join(it, name) for it in folders) if is_there(found))
+
+    def included(self, copy: Copy, name: str, line: int) -> str:
+        """The place of a file that is included."""
+        found = next(iter(self.candidates(copy, name)), None)
+        if found is None:
+            place = f"missing{len(self.missing)}"
+            self.missing[place] = f"{visible(copy.name)}:{line}: there is no file {visible(name)} to include"
+            return place
+        if (found, copy.above) not in self.headers:
+            self.headers[found, copy.above] = self.copy(found, copy.above)
+        return self.headers[found, copy.above].place
+
+    def copy_words(self, texts: Sequence[str]) -> None:
+        """Copies files of words of memories: any string may be the name of one."""
+        if not self.reads_words:
+            return
+        strings = self.strings.union(*(re.findall(r'"([^"\\]*)"', text) for text in texts))
+        names = sorted(it for it in strings if 0 < len(it) < 256 and it.isprintable())
+        for copy, name in ((copy, name) for copy in self.copies for name in names):
+            found = next(iter(self.candidates(copy, name)), None)
+            place = os.path.normpath(os.path.join(os.path.dirname(copy.place), name))
+            if found is None:
+                continue
+            if not place.startswith(copy.place.partition("/")[0] + "/") and not os.path.isabs(name):
+                raise Trouble(f"{visible(name)}: too many .. in the name of a file of words")
+            words = content(found)
+            if not os.path.isabs(name):
+                self.put(place, words)
+
+    def place_of(self, path: str) -> str:
+        """The place of a copy below the folder of all."""
+        for folder in (self.alias, str(self.folder)):
+            if path.startswith(f"{folder}/"):
+                return path[len(folder) + 1 :]
         return path
 
     def users_name(self, path: str) -> str:
-        if path in self.names:
-            return self.names[path]
-        for place, folder in self.folders.items():
-            if path.startswith(f"{place}/"):
-                return os.path.join(folder, path[len(place) + 1 :])
-        return path
+        copy = self.at_place.get(self.place_of(path))
+        return copy.name if copy else path
 
     def with_users_names(self, text: str) -> str:
-        return re.sub(rf"{re.escape(self.alias)}/[^\s:'`\"]+", lambda match: self.users_name(match[0]), text)
+        named = re.sub(rf"{re.escape(self.alias)}/[^\s:'`\"]+", lambda match: self.users_name(match[0]), text)
+        return re.sub(r"Can't open include file `(missing\d+)'!?", lambda match: self.missing[match[1]], named)
 
     def order(self, path: str) -> Tuple[int, str]:
         """Where a file stands among those that were given; others follow."""
@@ -72,9 +141,6 @@ class Sources:
         return (self.given.index(name) if name in self.given else len(self.given), name)
 
     def lines(self, path: str) -> List[str]:
-        """The lines of a file, of which Yosys told."""
-        place = self.folder / path[len(self.alias) + 1 :] if path.startswith(f"{self.alias}/") else Path(path)
-        try:
-            return place.read_text(errors="replace").split("\n")
-        except OSError:
-            return []
+        """The lines of a file that was copied, as the user wrote them."""
+        copy = self.at_place.get(self.place_of(path))
+        return copy.text.split("\n") if copy else []

@@ -7,6 +7,7 @@ from typing import Any, Dict, List, Optional, Sequence, Set
 from aiger_check.answers import Assertion, Liveness
 from aiger_check.faults import Trouble, visible
 from aiger_check.front.clocks import Clocks
+from aiger_check.front.defines import commands
 from aiger_check.front.properties import LEFT_OUT, PROPERTIES, Property, UNNAMED, properties
 from aiger_check.front.yosys import Yosys, bare, quoted, top_of
 from aiger_check.model.circuit import Model
@@ -85,9 +86,10 @@ class Front:
 
     def read(self) -> None:
         """Reads the files, and looks at the properties before they are flattened."""
-        include = [f"-I{folder}" for folder in self.sources.include]
+        sources = self.sources
         self.yosys.do(
-            " ".join(["read_verilog -sv -formal", *include, *self.sources.files]),
+            *commands(sources.defines, sources.folder, sources.alias),
+            *(f"read_verilog -sv -formal -nodpi -I{sources.alias} {file}" for file in sources.files),
             f"hierarchy -check -top {quoted(self.top)}",
             "proc",
             f"rename -enumerate -pattern {UNNAMED}% {' '.join(f't:{kind}' for kind in PROPERTIES)}",

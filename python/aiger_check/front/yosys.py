@@ -5,7 +5,9 @@ import json
 import os
 import re
 import secrets
+import signal
 import subprocess
+import threading
 from typing import Any, Dict, List, Sequence
 
 from aiger_check.faults import Stopped, Trouble, visible
@@ -13,28 +15,47 @@ from aiger_check.front.sources import Sources
 from aiger_check.tools.processes import Children
 
 
+#: seconds that a Yosys may take for a design
+LIMIT = 600.0
+
+
 class Yosys:
     """A Yosys that runs, and is told what to do bit by bit."""
 
-    def __init__(self, program: str, children: Children, sources: Sources) -> None:
-        self.children, self.sources = children, sources
+    def __init__(self, program: str, children: Children, sources: Sources, limit: float = LIMIT) -> None:
+        self.children, self.sources, self.limit = children, sources, limit
         self.said: List[str] = []
+        # where nothing is that it might read
+        (sources.folder / "empty").mkdir()
         self.child = children.start(
             [program, "-q", "-s", "-"],
             stdin=subprocess.PIPE,
             stdout=subprocess.DEVNULL,
             stderr=subprocess.PIPE,
+            cwd=sources.folder / "empty",
             pass_fds=(sources.descriptor,),
             # Yosys would take ABC for the path of its own ABC
             env={name: value for name, value in os.environ.items() if name != "ABC"},
         )
+        self.input, self.errors = self.child.stdin, self.child.stderr
+        self.late = False
+        self.clock = threading.Timer(limit, self.end_late)
+        self.clock.daemon = True
+        self.clock.start()
+
+    def end_late(self) -> None:
+        """Ends it when its time is over: what it says then has an end too."""
+        self.late = True
+        with contextlib.suppress(ProcessLookupError, PermissionError):
+            os.killpg(self.child.pid, signal.SIGKILL)
 
     def __enter__(self) -> "Yosys":
         return self
 
     def __exit__(self, *_: Any) -> None:
+        self.clock.cancel()
         self.children.end(self.child)
-        for pipe in (self.child.stdin, self.child.stderr):
+        for pipe in (self.input, self.errors):
             with contextlib.suppress(OSError):
                 pipe.close()
 
@@ -43,10 +64,10 @@ class Yosys:
         mark = f"done-{secrets.token_hex(8)}"
         text = "\n".join([*commands, f"log -stderr -nolog {mark}", ""])
         with contextlib.suppress(BrokenPipeError):
-            self.child.stdin.write(text.encode(errors="surrogateescape"))
-            self.child.stdin.flush()
+            self.input.write(text.encode(errors="surrogateescape"))
+            self.input.flush()
         said: List[str] = []
-        for line in self.child.stderr:
+        for line in self.errors:
             words = line.decode(errors="replace").rstrip("\n")
             if words == mark:
                 self.said += said
@@ -54,6 +75,8 @@ class Yosys:
             said.append(words)
         if self.children.stopped:
             raise Stopped
+        if self.late:
+            raise Trouble(f"Yosys did not end in {self.limit:g} s")
         raise Trouble(visible(self.failure(said)))
 
     def failure(self, said: Sequence[str]) -> str:
