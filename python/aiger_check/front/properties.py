@@ -1,9 +1,9 @@
 """The properties of a design, and where they stand."""
 
 import re
-from typing import Any, Dict, Iterator, List, NamedTuple, Tuple
+from typing import Any, Dict, Iterator, List, NamedTuple, Optional, Tuple
 
-from aiger_check.front.sources import Sources
+from aiger_check.front.words import Source, Word
 from aiger_check.front.yosys import bare
 
 
@@ -29,7 +29,26 @@ LEFT_OUT = {"$cover": "a cover", "$live": "liveness", "$fair": "fairness"}
 SPELLED = {"$live": "assert", "$fair": "assume"}
 
 
-def properties(modules: Dict[str, Any], top: str, sources: Sources) -> Iterator[Property]:
+class Range(NamedTuple):
+    """From where to where something stands in a file, as Yosys says."""
+
+    file: str
+    first: Tuple[int, int]
+    last: Tuple[int, int]
+
+    def has(self, word: Word) -> bool:
+        return self.file == word.file and self.first <= (word.line, word.column) < self.last
+
+
+def range_of(cell: Dict[str, Any]) -> Optional[Range]:
+    source = cell.get("attributes", {}).get("src", "").split("|")[0]
+    match = re.fullmatch(r"(.*):(\d+)\.(\d+)-(\d+)\.(\d+)", source)
+    if not match:
+        return None
+    return Range(match[1], (int(match[2]), int(match[3])), (int(match[4]), int(match[5])))
+
+
+def properties(modules: Dict[str, Any], top: str, source: Source) -> Iterator[Property]:
     """All properties of a design before it is flattened, instance by instance."""
     waiting: List[Tuple[str, Tuple[str, ...]]] = [(top, ())]
     while waiting:
@@ -40,26 +59,48 @@ def properties(modules: Dict[str, Any], top: str, sources: Sources) -> Iterator[
             if kind in PROPERTIES:
                 labelled = not name.startswith((UNNAMED, "$"))
                 shown = ".".join(here if labelled else (*path, SPELLED.get(kind, kind[1:])))
-                yield Property(here, kind, shown, *place_of(cell, labelled, sources))
+                yield Property(here, kind, shown, *place_of(cell, labelled, source))
             elif kind in modules:
                 inside.append((kind, here))
         waiting.extend(reversed(inside))
 
 
-KEYWORD = re.compile(r"\b(assert|assume|cover|restrict)\b")
-
-
-def place_of(cell: Dict[str, Any], labelled: bool, sources: Sources) -> Tuple[str, int, int]:
+def place_of(cell: Dict[str, Any], labelled: bool, source: Source) -> Tuple[str, int, int]:
     """File, line and column of a property. Without a label Yosys has it begin where the statement before it ends."""
-    source = cell.get("attributes", {}).get("src", "").split("|")[0]
-    match = re.fullmatch(r"(.*):(\d+)\.(\d+)-(\d+)\.(\d+)", source)
-    if not match:
-        return source, 0, 0
-    file, first, column, last = match[1], int(match[2]), int(match[3]), int(match[4])
-    if labelled or first == last:
-        return file, first, column
-    lines = sources.lines(file)[first - 1 : last]
-    for at, line in enumerate(lines):
-        if KEYWORD.search((line if at else line[column - 1 :]).partition("//")[0]):
-            return file, first + at, 0 if at else column
-    return file, last, 0
+    its = range_of(cell)
+    if not its:
+        return cell.get("attributes", {}).get("src", ""), 0, 0
+    word = None if labelled else next((it for it in source.properties.get(its.file, []) if its.has(it)), None)
+    return (its.file, *its.first) if word is None else (its.file, word.line, word.column)
+
+
+class Lost:
+    """What of the source has no answer: modules that stand nowhere below the top, and what is in no branch taken."""
+
+    def __init__(self, modules: Dict[str, Any], source: Source) -> None:
+        self.source = source
+        self.used = {bare(module["attributes"].get("hdlname", name)) for name, module in modules.items()}
+        self.ranges: Dict[str, List[Range]] = {}
+        for module in modules.values():
+            for cell in module["cells"].values():
+                its = range_of(cell) if cell["type"] in PROPERTIES else None
+                if its:
+                    self.ranges.setdefault(its.file, []).append(its)
+
+    def is_answered(self, word: Word) -> bool:
+        return any(it.has(word) for it in self.ranges.get(word.file, []))
+
+    def notes(self) -> Iterator[str]:
+        """What is said of these."""
+        elsewhere = set()
+        for part in self.source.parts:
+            asked = [word for word in part.words if word.text == "assert"]
+            if bare(part.name.text) not in self.used and asked:
+                elsewhere.update(asked)
+                count = f"{len(asked)} assertion{'s are' if len(asked) > 1 else ' is'}"
+                place = f"{bare(part.name.text)} ({self.source.place(part.name)})"
+                yield f"module {place} stands nowhere below the top: its {count} not checked"
+        asserted = (word for words in self.source.properties.values() for word in words if word.text == "assert")
+        for word in asserted:
+            if word not in elsewhere and not self.is_answered(word):
+                yield f"{self.source.place(word)}: no assertion comes of this: it is in a branch that is never taken"

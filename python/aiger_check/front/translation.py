@@ -8,7 +8,8 @@ from aiger_check.answers import Assertion, Liveness
 from aiger_check.faults import Trouble, visible
 from aiger_check.front.clocks import Clocks
 from aiger_check.front.defines import commands
-from aiger_check.front.properties import LEFT_OUT, PROPERTIES, Property, UNNAMED, properties
+from aiger_check.front.properties import LEFT_OUT, Lost, PROPERTIES, Property, UNNAMED, properties
+from aiger_check.front.words import Source
 from aiger_check.front.yosys import Yosys, bare, quoted, top_of
 from aiger_check.model.circuit import Model
 
@@ -86,10 +87,8 @@ class Front:
 
     def read(self) -> None:
         """Reads the files, and looks at the properties before they are flattened."""
-        sources = self.sources
+        source = self.read_source()
         self.yosys.do(
-            *commands(sources.defines, sources.folder, sources.alias),
-            *(f"read_verilog -sv -formal -nodpi -I{sources.alias} {file}" for file in sources.files),
             f"hierarchy -check -top {quoted(self.top)}",
             "proc",
             f"rename -enumerate -pattern {UNNAMED}% {' '.join(f't:{kind}' for kind in PROPERTIES)}",
@@ -97,13 +96,28 @@ class Front:
             "setattr -set keep 1 t:$assert t:$assume t:$live t:$fair",
         )
         modules = self.yosys.netlist("read")
-        self.properties = list(properties(modules, top_of(modules), self.sources))
+        self.properties = list(properties(modules, top_of(modules), source))
+        self.notes += map(visible, Lost(modules, source).notes())
         left_out = self.left_out({it.kind for it in self.properties})
         for it in self.properties:
             if it.kind in left_out:
                 named = visible(f"{self.top}.{it.name} ({self.place(it)})")
                 self.notes.append(f"{named} is left out: it is {LEFT_OUT[it.kind]}")
         self.yosys.do(f"delete {' '.join(f't:{kind}' for kind in left_out)}")
+
+    def read_source(self) -> Source:
+        """Reads the files. What Yosys parses and then forgets is refused."""
+        sources, options = self.sources, "-sv -formal -nodpi -ppdump"
+        self.yosys.do(*commands(sources.defines, sources.folder, sources.alias))
+        dumps = [f"read{at}.txt" for at in range(len(sources.files))]
+        for file, dump in zip(sources.files, dumps):
+            self.yosys.do(f"tee -o {sources.alias}/{dump} read_verilog {options} -I{sources.alias} {file}")
+        source = Source(sources, dumps)
+        bound = source.first("bind")
+        if bound:
+            instead = "put the instance into the module itself"
+            raise Trouble(visible(f"{source.place(bound)}: bind is not followed by Yosys: {instead}"))
+        return source
 
     def left_out(self, kinds: Set[str]) -> Sequence[str]:
         """The kinds of properties of which nothing is said, where these are there: fairness is for liveness alone."""
