@@ -30,11 +30,12 @@ from aiger_check.search.lassos import Lassos
 from aiger_check.search.limits import Limits, Tools
 from aiger_check.search.single import Search
 from aiger_check.search.together import Together
+from aiger_check.search.vacuity import Vacuity
 from aiger_check.statuses import Status, status_of
 from aiger_check.tools.abc import Abc
 from aiger_check.tools.aiger import Aiger, aigtools
 from aiger_check.tools.processes import Children, SIGNALS, path_of
-from aiger_check.tools.solvers import NO_REFUTATION, SOLVERS, Said, Solver, solver_kind
+from aiger_check.tools.solvers import NO_REFUTATION, SOLVERS, Solver, solver_kind
 
 
 class Run:
@@ -64,14 +65,16 @@ class Run:
         signal.pthread_sigmask(signal.SIG_UNBLOCK, SIGNALS)
         tools = self.tools()
         model, assertions = self.asked(tools.aiger)
-        self.note_contradiction(model, tools)
+        vacuity = Vacuity(model, self.live, tools, self.folder, self.progress)
         keepers = self.keepers(model, tools.aiger)
         searches = [self.search(assertion, model, tools, at) for at, assertion in enumerate(assertions)]
         if self.sides and assertions:
             self.ask_together(model, tools, searches)
         with ThreadPoolExecutor(self.given.jobs) as pool:
             try:
+                vacuity.start(pool)
                 for search, verdict in zip(searches, pool.map(self.answer, searches)):
+                    verdict = vacuity.applied(search.assertion, verdict)
                     self.tell(search, verdict, keepers.get(type(search.assertion)))
             except BaseException:
                 self.children.stop()
@@ -294,20 +297,6 @@ class Run:
     def must_say(self, words: str) -> None:
         """What is told even with --quiet, since there is nothing to answer."""
         say(words)
-
-    def note_contradiction(self, model: Model, tools: Tools) -> None:
-        """Tells if no first step keeps all constraints: then nothing is ever reached."""
-        circuit = model.circuit
-        is_asked = circuit.bad or self.live
-        if not circuit.constraints or not is_asked or not tools.solver or self.given.quiet:
-            return
-        parts = {name: getattr(circuit, name) for name in ("max_var", "inputs", "latches", "constraints", "gates")}
-        path, clauses = self.folder / "start.aig", self.folder / "start.cnf"
-        path.write_bytes(aigtools().Circuit(bad=[1], **parts).write())
-        told = tools.aiger.run("aigunroll", "--frames", 1, "--cnf", path, clauses, folder=self.folder)
-        if told.status == 0 and tools.solver.solve(clauses, tools.limits.time)[0] is Said.UNSATISFIABLE:
-            nothing = "shows a difference" if self.given.equal else "breaks anything"
-            self.note(f"the assumptions contradict one another in the first step, so no run {nothing}")
 
     def records(self) -> Dict[str, List[Dict[str, Any]]]:
         """What --json says."""

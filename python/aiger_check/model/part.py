@@ -1,7 +1,7 @@
 """What a property of a model depends on, as a model of its own."""
 
 from array import array
-from typing import Any, Dict, Iterable, List
+from typing import Any, Dict, Iterable, List, Sequence
 
 from aiger_check.model.circuit import Model
 from aiger_check.tools.aiger import aigtools
@@ -98,6 +98,14 @@ class Goals(Part):
                 line[column] = value
             made.append("".join(line))
         return made
+
+
+class Assumed(Goals):
+    """What the constraints of a model depend on, and fairness, where it counts: without another goal."""
+
+    def __init__(self, model: Model, fairness: Sequence[int]) -> None:
+        self.called = "j0"
+        self.take(model, [*fairness] or [1])
 
 
 class Closing(Part):

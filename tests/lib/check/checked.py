@@ -23,10 +23,10 @@ CHECK = os.environ.get("CHECK", str(TOP / "python" / "aiger_check"))
 FRAMES = 50
 # what a machine under load may take
 LONGEST = 300
-ANSWERS = "never|none within|reached at|holds|no lasso within|lasso at|unknown"
+ANSWERS = "never|none within|reached at|holds|no lasso within|lasso at|vacuous|unknown"
 LINE = re.compile(rf"(?P<name>.*) \((?P<source>.*?)\): (?P<answer>{ANSWERS})(?P<rest>.*)", re.DOTALL)
-KINDS = ["never", "none within", "reached", "unknown"]
-LIVE_KINDS = ["holds", "no lasso within", "lasso", "unknown"]
+KINDS = ["never", "none within", "reached", "vacuous", "unknown"]
+LIVE_KINDS = ["holds", "no lasso within", "lasso", "vacuous", "unknown"]
 SUM = re.compile(r"(\d+) (liveness )?assertions?(?:: (.*))?")
 KEPT_FILE = re.compile(r"(model|live)-[0-9a-f]+\.aig|.+\.(aiw|vcd|drat|pla|check\.sh)")
 EXACT, BOUNDED, SAFE = "exact", "bounded", "safe"
@@ -52,6 +52,8 @@ class Truth:
     step: int | None
     # of liveness alone: the step is then how many the least lasso has, where that is known
     has_lasso: bool | None = None
+    # for how many steps a run keeps what is assumed, or None where one does for ever; of liveness a fair one
+    kept: int | None = None
 
     def place(self):
         """Where it stands among what has its name."""
@@ -70,7 +72,7 @@ class Answer:
 
     def place(self):
         """Where it stands among what has its name."""
-        is_live = self.answer in LIVE_KINDS[:-1]
+        is_live = self.answer in LIVE_KINDS[:-2]
         return (self.name, is_live, self.answer not in ("reached", "lasso"), 0 if is_live else self.steps)
 
 
@@ -164,7 +166,7 @@ def of_line(line, said):
     elif answer in ("none within", "no lasso within"):
         need(re.fullmatch(r" [1-9]\d*", rest), f"the line {line!r}", said)
         more = {"steps": int(rest)}
-    elif answer == "unknown":
+    elif answer in ("unknown", "vacuous"):
         need(re.fullmatch(r": .+", rest), f"the line {line!r} without a reason", said)
         more = {"reason": rest[2:]}
     else:
@@ -220,12 +222,33 @@ def status_of(found, frames):
     return KEPT if found else TROUBLE
 
 
+def is_rightly_vacuous(truth, it, way):
+    """Whether it may be said that what is assumed cannot be kept, which is so beyond a step."""
+    if truth.step is not None or truth.has_lasso:
+        return False
+    told = re.search(r"cannot be kept beyond step (\d+)$", it.reason)
+    if told or "contradict" in it.reason:
+        return truth.kept == (int(told[1]) + 1 if told else 0)
+    if re.search("cannot be kept for ever", it.reason):
+        return truth.kept is not None
+    return truth.kept is not None or way == SAFE
+
+
 def is_right_of_live(truth, it, way, frames):
     """Whether an answer may be given of liveness."""
+    if it.answer == "vacuous":
+        return is_rightly_vacuous(truth, it, way)
+    if it.answer in ("holds", "no lasso within") and not is_said_of_runs(truth, it):
+        return False
     if it.answer == "no lasso within":
         may_be = not truth.has_lasso or truth.step is not None and it.steps <= truth.step
         return may_be and (way == SAFE or it.steps >= frames and (truth.has_lasso or way == BOUNDED))
     return it.answer == ("lasso" if truth.has_lasso else "holds") or it.answer == "unknown" and way == SAFE
+
+
+def is_said_of_runs(truth, it):
+    """Whether there are runs of which an answer that something is kept can speak."""
+    return truth.kept is None or it.steps is not None and it.steps <= truth.kept
 
 
 def is_right(truth, it, way, frames):
@@ -233,6 +256,10 @@ def is_right(truth, it, way, frames):
     if truth.has_lasso is not None:
         return is_right_of_live(truth, it, way, frames)
     step = truth.step
+    if it.answer == "vacuous":
+        return is_rightly_vacuous(truth, it, way)
+    if it.answer in ("never", "none within") and not is_said_of_runs(truth, it):
+        return False
     if it.answer == "unknown":
         return way == SAFE
     if it.answer == "never":
@@ -327,7 +354,7 @@ def judge_kept(room_, kept, found, said):
         need(ran.stdout == f"confirmed {it.steps}\n", f"{it} has a witness {ran}", said)
         need("$enddefinitions" in file.with_suffix(".vcd").read_text(encoding="latin-1"), f"{it} has no waveform", said)
     scripts = sorted(kept.glob("*.check.sh"))
-    shown = [it for it in found if it.answer not in ("reached", "unknown")]
+    shown = [it for it in found if it.answer not in ("reached", "vacuous", "unknown")]
     need(len(scripts) == len(shown), f"{names} for {len(shown)} certificates", said)
     for script in scripts:
         text = script.read_text(encoding="utf-8", errors="surrogateescape")

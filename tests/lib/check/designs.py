@@ -2,7 +2,8 @@
 
 Behind an assertion stands `//: NAME: ANSWER`, with `; ` between several. Where a design has several clocks an answer
 `reached` has no number: what a step is, is Yosys's choice, so that the number is its own. Nor has `lasso`: where the
-loop of the least one begins, is the solver's choice.
+loop of the least one begins, is the solver's choice. The number of `vacuous at N` is for how many steps a run can keep
+what is assumed.
 """
 import dataclasses
 import re
@@ -34,13 +35,14 @@ class Design:
 
 @dataclasses.dataclass(frozen=True)
 class Assertion:
-    """What is to be said of one: answer is never or reached, and step None where it is Yosys's choice; of liveness it
-    is holds or lasso."""
+    """What is to be said of one: answer is never, reached or vacuous, and step None where it is Yosys's choice; of
+    liveness it is holds or lasso."""
 
     name: str
     place: str
     answer: str
     step: int | None = None
+    kept: int | None = None
 
     @property
     def is_live(self):
@@ -83,7 +85,9 @@ def wanted(design):
             for words in said[1].split("; ") if said else []:
                 name, answer = words.split(": ")
                 answer, _, step = answer.partition(" at ")
-                found.append(Assertion(name, f"{file}:{number}", answer, int(step) if step else None))
+                at = int(step) if step else None
+                its = (None, at) if answer == "vacuous" else (at, None)
+                found.append(Assertion(name, f"{file}:{number}", answer, *its))
     return found
 
 

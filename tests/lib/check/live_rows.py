@@ -11,6 +11,7 @@ from lib.check.checked import Truth
 BY_CHANCE, BY_STAND_INS = 40, 12
 # latches and inputs of which a search through all states looks at
 SMALL = 12
+MANY = 1000000
 STUCK, BOTH, LATE = "a goal that never comes", "a lasso, and none", "a lasso of five steps"
 
 
@@ -88,10 +89,21 @@ def truths(made, source):
     """What is so of a model, by all its states."""
     names = dict(line.split(" ", 1) for line in made.symbols.splitlines() if line[:1] in ("b", "j"))
     steps, lassos = reached.steps(reached.plain(made)), [least(made, at) for at in range(len(made.justice))]
-    found = [Truth(names.get(f"b{at}", f"b{at}"), source, step) for at, step in enumerate(steps)]
+    kept = reached.kept(reached.plain(made))
+    found = [Truth(names.get(f"b{at}", f"b{at}"), source, step, kept=kept) for at, step in enumerate(steps)]
+    kept = kept_fairly(made, kept)
     return found + [
-        Truth(names.get(f"j{at}", f"j{at}"), source, it, it is not None) for at, it in enumerate(lassos)
+        Truth(names.get(f"j{at}", f"j{at}"), source, it, it is not None, kept) for at, it in enumerate(lassos)
     ]
+
+
+def kept_fairly(made, kept):
+    """For how many steps a run can keep the constraints, or None if one can for ever and is fair; very many steps if
+    some can for ever, and none is fair."""
+    any_fair = dataclasses.replace(made, justice=[made.fairness or [1]], fairness=[])
+    if kept is not None or liveness.has_fair_run(any_fair, 0):
+        return kept
+    return MANY
 
 
 def read(text):

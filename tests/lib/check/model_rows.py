@@ -57,7 +57,8 @@ def real(_):
 def named(text, steps, source):
     """What is so of a model by its text."""
     names = {int(at): name for at, name in re.findall(r"^b(\d+) (.*)$", text, re.MULTILINE)}
-    return [Truth(names.get(at, f"b{at}"), source, step) for at, step in enumerate(steps)]
+    kept = reached.kept(reached.plain(reached.read(text.encode())))
+    return [Truth(names.get(at, f"b{at}"), source, step, kept=kept) for at, step in enumerate(steps)]
 
 
 def binary(room, text):
@@ -83,7 +84,8 @@ def by_chance(at, has_tools, room):
     made = MODELS[at]
     changes, name = has_tools(room), ["model.aag", "model.aig"][at % 2]
     (room.here / name).write_bytes(images.image(made) if at % 2 else images.ascii_text(made))
-    truths = [Truth(f"b{bad}", name, step) for bad, step in enumerate(reached.steps(made))]
+    kept = reached.kept(made)
+    truths = [Truth(f"b{bad}", name, step, kept=kept) for bad, step in enumerate(reached.steps(made))]
     said = room.run("--json", "--jobs", "1", name, changes=changes)
     checked.judge(said, truths)
 

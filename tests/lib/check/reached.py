@@ -47,8 +47,8 @@ def all_models(count):
     return [circuit(random.Random(at)) for at in range(count)]
 
 
-def steps(made):
-    """Of each bad state the first step in which a run reaches it, or None."""
+def moves_of(made):
+    """What gives of a state the states that may follow, and the values of the bad states on the way."""
     order, moves = images.placed(made.gates), {}
     every = ["".join(it) for it in itertools.product("01", repeat=len(made.inputs))]
 
@@ -62,9 +62,27 @@ def steps(made):
                     moves[state].add((following, bad))
         return moves[state]
 
-    found = [None] * len(made.bad)
-    here = {"".join(it) for it in itertools.product(*("01" if it == "x" else it for it in made.resets))}
-    seen = set()
+    return moved
+
+
+def first_states(made):
+    return {"".join(it) for it in itertools.product(*("01" if it == "x" else it for it in made.resets))}
+
+
+def kept(made):
+    """For how many steps a run can keep all constraints, or None where one can for ever."""
+    moved, here = moves_of(made), first_states(made)
+    for step in range(2 ** len(made.latches) + 1):
+        here = {following for state in here for following, _ in moved(state)}
+        if not here:
+            return step
+    return None
+
+
+def steps(made):
+    """Of each bad state the first step in which a run reaches it, or None."""
+    moved, found = moves_of(made), [None] * len(made.bad)
+    here, seen = first_states(made), set()
     for step in itertools.count():
         for bad in {bad for state in here for _, bad in moved(state)}:
             found = [step if value == "1" and it is None else it for it, value in zip(found, bad)]

@@ -1,0 +1,175 @@
+"""Whether what is assumed can be kept: where no run keeps it, each assertion is kept by none."""
+
+import threading
+from concurrent.futures import Executor
+from dataclasses import replace
+from pathlib import Path
+from typing import Dict, List, Optional, Sequence
+
+from aiger_check.answers import Answer, Assertion, Liveness, Verdict
+from aiger_check.doubts import KEPT
+from aiger_check.model.circuit import Model, without_justice
+from aiger_check.model.kept import held, in_step, steps_of
+from aiger_check.model.part import Assumed
+from aiger_check.report import Progress
+from aiger_check.search.lassos import Lassos
+from aiger_check.search.limits import Tools
+from aiger_check.search.single import Search
+from aiger_check.tools.solvers import Said
+
+
+class Endless(Lassos):
+    """Looks for one run without end that keeps all constraints, and is fair."""
+
+    def verdict(self) -> Verdict:
+        self.left = min(self.left, self.tools.limits.time)
+        return Search.verdict(self)
+
+    def shortest(self, witness: Path) -> Verdict:
+        return Verdict(Answer.REACHED, steps=self.step(witness), witness=witness)
+
+    def none_within(self) -> Optional[Verdict]:
+        return None
+
+
+class Long(Search):
+    """Looks for a run of so many steps that keeps all constraints."""
+
+    def prepare(self) -> Optional[str]:
+        self.smaller = self.whole
+        return None
+
+    def widened(self, text: str) -> str:
+        return text
+
+    def run_of(self, count: int) -> Optional[Path]:
+        """The witness of such a run, if there is one."""
+        self.folder.mkdir()
+        self.prepare()
+        said, witness = self.within(count)
+        self.is_refuted = said is Said.UNSATISFIABLE and self.is_none_within(count)
+        return witness if witness and self.step(witness) == count - 1 else None
+
+
+class Keeping:
+    """What is known of the constraints of one model, with its fairness or without. Each question is asked once, of what
+    they depend on, and what is found is what aiger says of that: a run that it confirms, or that none is there."""
+
+    #: how long it may take to show that the same inputs keep the constraints for ever
+    HELD = 5.0
+
+    def __init__(self, model: Model, fairness: Sequence[int], tools: Tools, folder: Path, progress: Progress) -> None:
+        self.tools, self.folder, self.progress = tools, folder, progress
+        self.source, self.is_fair = model, bool(fairness)
+        self.fairness = fairness
+        self.lock = threading.Lock()
+        self.asked = False
+        #: why no answer that something is kept for ever, or within the bound, says anything
+        self.never: Optional[str] = None
+        self.within: Optional[str] = None
+
+    def reason(self, answer: Answer) -> Optional[str]:
+        """Why this answer says nothing, if so."""
+        with self.lock:
+            if not self.asked:
+                self.find()
+                self.asked = True
+        return self.never if answer is Answer.NEVER else self.within
+
+    def find(self) -> None:
+        self.folder.mkdir()
+        path = self.folder / "assumed.aig"
+        path.write_bytes(Assumed(self.source, self.fairness).circuit().write())
+        self.model = Model(path)
+        endless = Endless(
+            Liveness("assumptions", "", 0), self.model, self.tools, self.folder / "endless", self.progress
+        )
+        answer = endless.verdict().answer
+        if answer is Answer.REACHED:
+            return
+        self.never = self.within = self.end()
+        if not self.within and not self.is_held():
+            self.never = self.not_for_ever(answer is Answer.NEVER)
+
+    def not_for_ever(self, is_shown: bool) -> str:
+        steps, runs = self.tools.limits.frames, " by a fair run" if self.is_fair else ""
+        if is_shown:
+            return f"the assumptions cannot be kept for ever{runs}"
+        return f"that the assumptions can be kept for ever{runs} is not shown, for {steps} steps it is"
+
+    def end(self) -> Optional[str]:
+        """Why no run of as many steps as are searched keeps the constraints; nothing if one does."""
+        most = self.tools.limits.frames
+        long = self.run_of(most)
+        if self.run:
+            return None
+        least = 0
+        while long.is_refuted and least + 1 < most:
+            middle = (least + most) // 2
+            long = self.run_of(middle)
+            least, most = (middle, most) if self.run else (least, middle)
+            long.is_refuted = long.is_refuted or bool(self.run)
+        if not long.is_refuted:
+            return "that the assumptions can be kept is not shown"
+        if not least:
+            return "the assumptions contradict one another in the first step"
+        return f"the assumptions cannot be kept beyond step {least - 1}"
+
+    def run_of(self, count: int) -> Long:
+        """Looks for a run of so many steps."""
+        path = self.folder / f"step{count - 1}.aig"
+        path.write_bytes(in_step(without_justice(self.model.circuit), count - 1).write())
+        asked = Assertion("assumptions", "", 0)
+        long = Long(asked, Model(path), self.tools, self.folder / f"long{count}", self.progress)
+        self.run = long.run_of(count)
+        return long
+
+    def is_held(self) -> bool:
+        """Whether some inputs, the same in each step behind one of the run that was found, keep the constraints for
+        ever: no counter needs to come back for that."""
+        if self.is_fair or not self.run:
+            return False
+        circuit = without_justice(self.model.circuit)
+        width = len(circuit.latches)
+        # the run has a counter beside the latches
+        _, _, state, *lines = self.run.read_text().split("\n")
+        steps = steps_of(circuit, "\n".join(["1", "b0", state[:width], *lines]))
+        limits = replace(self.tools.limits, time=self.HELD, limit=self.HELD)
+        tried: List[Dict[str, str]] = []
+        for at in (0, 1, len(steps) - 1):
+            for inputs in (steps[at]["inputs"], "0" * len(circuit.inputs)) if at < len(steps) else ():
+                start = {"state": steps[at]["state"], "inputs": inputs}
+                if start not in tried and self.is_kept_from(start, len(tried), replace(self.tools, limits=limits)):
+                    return True
+                tried.append(start)
+        return False
+
+    def is_kept_from(self, start: Dict[str, str], at: int, tools: Tools) -> bool:
+        path = self.folder / f"held{at}.aig"
+        path.write_bytes(held(without_justice(self.model.circuit), **start).write())
+        search = Search(Assertion("assumptions", "", 0), Model(path), tools, self.folder / f"held{at}", self.progress)
+        return search.verdict().answer is Answer.NEVER
+
+
+class Vacuity:
+    """Which answers say nothing, since what is assumed cannot be kept."""
+
+    def __init__(self, model: Model, live: Optional[Model], tools: Tools, folder: Path, progress: Progress) -> None:
+        self.keepings: Dict[bool, Keeping] = {}
+        if model.circuit.constraints:
+            self.keepings[False] = Keeping(model, [], tools, folder / "assumed", progress)
+        if live and live.circuit.fairness:
+            self.keepings[True] = Keeping(live, live.circuit.fairness, tools, folder / "fair", progress)
+        elif live and False in self.keepings:
+            self.keepings[True] = self.keepings[False]
+
+    def start(self, pool: Executor) -> None:
+        """Asks beside the search."""
+        for keeping in dict.fromkeys(self.keepings.values()):
+            pool.submit(keeping.reason, Answer.NEVER)
+
+    def applied(self, assertion: Assertion, verdict: Verdict) -> Verdict:
+        """The verdict, or that it says nothing."""
+        keeping = self.keepings.get(isinstance(assertion, Liveness))
+        reason = keeping.reason(verdict.answer) if keeping and verdict.answer in KEPT else None
+        return Verdict(Answer.VACUOUS, reason=reason) if reason else verdict
