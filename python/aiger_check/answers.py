@@ -39,6 +39,9 @@ class Assertion:
     words = Words("never", "none within", "reached")
     #: what breaks it
     run = "run"
+    #: what one is called where they are counted, and in which list of an object it stands
+    unit = "assertion"
+    listed = "assertions"
 
     def __str__(self) -> str:
         return f"{visible(self.name)} ({visible(self.place)})"
@@ -69,7 +72,7 @@ class Assertion:
     def called(self, answer: Answer) -> str:
         """The word for an answer, without its number."""
         words = {Answer.NEVER: self.words.never, Answer.NONE_WITHIN: self.words.within}
-        return {**words, Answer.REACHED: self.words.reached}.get(answer, answer.value)
+        return {**words, Answer.REACHED: self.words.reached}.get(answer, str(answer.value))
 
 
 def counted(count: Optional[int], unit: str) -> str:
@@ -86,6 +89,7 @@ class Liveness(Assertion):
 
     words = Words("holds", "no lasso within", "lasso")
     run = "lasso"
+    unit = "liveness assertion"
 
     @property
     def option(self) -> Tuple[str, int]:
@@ -98,7 +102,12 @@ class Liveness(Assertion):
 class Pair(Assertion):
     """Two outputs or bad states, one of each design, which are to be equal: a bad state of the miter."""
 
+    def shown(self) -> Dict[str, str]:
+        return {}
+
     words = Words("equal", "equal for", "differs", "step")
+    unit = "pair"
+    listed = "pairs"
 
     def __str__(self) -> str:
         return visible(self.name)
@@ -107,7 +116,12 @@ class Pair(Assertion):
 class Assumption(Assertion):
     """A constraint of the second design, which the first one is to keep: a bad state of the miter."""
 
+    def shown(self) -> Dict[str, str]:
+        return {}
+
     words = Words("holds", "holds for", "fails", "step")
+    unit = "assumption"
+    listed = "assumptions"
 
     def __str__(self) -> str:
         return f"assumption {visible(self.name)} of {visible(self.place)}"
@@ -115,6 +129,10 @@ class Assumption(Assertion):
     @property
     def file(self) -> str:
         return f"assumption-{self.name}"
+
+
+#: in the order in which they are added up
+KINDS = (Assertion, Liveness, Pair, Assumption)
 
 
 @dataclass
@@ -135,4 +153,4 @@ class Verdict:
 
     def claim(self) -> str:
         """What aiger says where it shows this."""
-        return f"none within {self.steps}" if self.answer is Answer.NONE_WITHIN else self.answer.value
+        return f"none within {self.steps}" if self.answer is Answer.NONE_WITHIN else str(self.answer.value)

@@ -4,14 +4,14 @@ import argparse
 import os
 import re
 from dataclasses import dataclass
-from typing import Any, List, Sequence
+from typing import Any, List, NoReturn, Sequence
 
 from aiger_check import PROGRAM
 from aiger_check.faults import Usage, visible
 
 
 class Parser(argparse.ArgumentParser):
-    def error(self, message: str) -> None:
+    def error(self, message: str) -> NoReturn:
         raise Usage(visible(message))
 
 
@@ -36,6 +36,7 @@ def parse_arguments(arguments: Sequence[str]) -> argparse.Namespace:
     parser.add_argument("--by-name", action="store_true")
     parser.add_argument("--top", dest="tops", action="append", default=[])
     parser.add_argument("-D", dest="defines", action="append", default=[], metavar="NAME[=VALUE]")
+    parser.add_argument("-P", dest="parameters", action="append", default=[], metavar="NAME=VALUE")
     parser.add_argument("-I", dest="include", action="append", default=[], metavar="DIR")
     parser.add_argument("--frames", type=at_least(1), default=50)
     parser.add_argument("--time", type=seconds, default=30.0)

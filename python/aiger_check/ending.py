@@ -12,6 +12,7 @@ from typing import Any, Optional
 
 from aiger_check import PROGRAM
 from aiger_check.run import Run
+from aiger_check.statuses import Status
 from aiger_check.tools.processes import Children, SIGNALS
 
 
@@ -37,7 +38,7 @@ class Asked:
         self.number = self.number or number
 
 
-def awaited(running: Future, asked: Asked) -> int:
+def awaited(running: "Future[Status]", asked: Asked) -> Status:
     """Waits bit by bit, and looks in between whether a signal came."""
     while not wait([running], timeout=0.1).done:
         if asked.number:
@@ -54,7 +55,7 @@ def remove(folder: Path) -> None:
         time.sleep(0.02)
 
 
-def work(given: argparse.Namespace) -> int:
+def work(given: argparse.Namespace) -> Status:
     """Runs in a thread of its own, so that a signal ends nothing but the wait for it, and leaves nothing."""
     children, asked = Children(), Asked()
     signal.pthread_sigmask(signal.SIG_BLOCK, SIGNALS)

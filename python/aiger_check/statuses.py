@@ -1,9 +1,9 @@
 """With what status the program ends."""
 
 import enum
-from typing import Iterable
+from typing import Iterable, Tuple
 
-from aiger_check.answers import Answer
+from aiger_check.answers import Answer, Assertion, Verdict
 
 
 class Status(enum.IntEnum):
@@ -18,15 +18,18 @@ class Status(enum.IntEnum):
     TROUBLE = 16
 
 
-def status_of(answers: Iterable[Answer], is_late: bool = False) -> Status:
-    """What these answers come to: a broken assertion counts before all, what is unknown before what is vacuous."""
-    found = set(answers)
-    if Answer.REACHED in found:
-        return Status.BROKEN
-    if is_late:
-        return Status.TIMEOUT
-    if Answer.UNKNOWN in found:
-        return Status.UNKNOWN
-    if Answer.VACUOUS in found:
-        return Status.VACUOUS
-    return Status.KEPT if found else Status.TROUBLE
+#: what one answer comes to, where it is not that something is kept
+OF_ANSWER = {Answer.REACHED: Status.BROKEN, Answer.UNKNOWN: Status.UNKNOWN, Answer.VACUOUS: Status.VACUOUS}
+#: the first of these that there is makes the status of all
+FIRST = (Status.BROKEN, Status.TIMEOUT, Status.UNKNOWN, Status.VACUOUS, Status.KEPT)
+
+
+def status_of_one(assertion: Assertion, verdict: Verdict) -> Status:
+    """What one answer comes to."""
+    return OF_ANSWER.get(verdict.answer, Status.KEPT)
+
+
+def status_of(answered: Iterable[Tuple[Assertion, Verdict]]) -> Status:
+    """What all answers come to."""
+    found = {status_of_one(*it) for it in answered}
+    return next((it for it in FIRST if it in found), Status.TROUBLE)

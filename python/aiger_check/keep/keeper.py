@@ -67,16 +67,16 @@ class Keeper:
     def keep(self, assertion: Assertion, verdict: Verdict) -> None:
         name = self.name(assertion)
         if verdict.witness:
-            self.put_run(name, assertion, verdict)
+            self.put_run(name, assertion, verdict, verdict.witness)
             verdict.kept = self.put(f"{name}.aiw", verdict.witness.read_bytes())
         if verdict.refutation:
-            proof = self.put_proof(TOGETHER if verdict.of_all else name, verdict)
+            proof = self.put_proof(TOGETHER if verdict.of_all else name, verdict, verdict.refutation)
             asks = self.asks(self.options(proof, assertion, verdict))
             self.put_script(name, assertion, verdict, [*asks, f'[ "$answer" = "{verdict.claim()}" ]'])
 
-    def put_run(self, name: str, assertion: Assertion, verdict: Verdict) -> None:
+    def put_run(self, name: str, assertion: Assertion, verdict: Verdict, witness: Path) -> None:
         """Keeps what shows the run of a witness."""
-        self.put_waves(name, self.path, verdict.witness)
+        self.put_waves(name, self.path, witness)
 
     def put_waves(self, name: str, model: Path, witness: Path) -> None:
         waves = self.traced("--witness", "--vcd", model, witness, output=witness.with_suffix(".vcd"))
@@ -89,10 +89,10 @@ class Keeper:
             raise Trouble(aiger_failure(told))
         return output.read_bytes()
 
-    def put_proof(self, name: str, verdict: Verdict) -> str:
+    def put_proof(self, name: str, verdict: Verdict, refutation: Path) -> str:
         """Keeps what shows an answer; what shows all answers is kept once."""
         if not (verdict.of_all and self.has_all):
-            self.put(f"{name}.drat", verdict.refutation.read_bytes())
+            self.put(f"{name}.drat", refutation.read_bytes())
             if verdict.invariant:
                 self.put(f"{name}.pla", verdict.invariant.read_bytes())
         self.has_all = self.has_all or verdict.of_all

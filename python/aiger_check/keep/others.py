@@ -2,7 +2,7 @@
 
 import re
 from pathlib import Path
-from typing import Any, List, Set
+from typing import Any, Dict, List, Set
 
 from aiger_check.answers import Assertion, Verdict
 from aiger_check.equality.sides import Sides
@@ -32,9 +32,8 @@ class KeeperOfTwo(Keeper):
             f'  "$aiger" aigunroll {options} -) || exit 1',
         ]
 
-    def put_run(self, name: str, assertion: Assertion, verdict: Verdict) -> None:
+    def put_run(self, name: str, assertion: Assertion, verdict: Verdict, witness: Path) -> None:
         """Keeps the stimulus, and one waveform of both designs."""
-        witness = verdict.witness
         _, _, state, *steps = witness.read_text().split("\n")
         lines = [*steps[: steps.index(".")], ""]
         stimulus = witness.with_suffix(".stimulus")
@@ -57,8 +56,8 @@ class KeeperOfLassos(Keeper):
         super().__init__(folder, model.path, aiger)
         self.names = names
 
-    def put_run(self, name: str, assertion: Assertion, verdict: Verdict) -> None:
-        super().put_run(name, assertion, verdict)
+    def put_run(self, name: str, assertion: Assertion, verdict: Verdict, witness: Path) -> None:
+        super().put_run(name, assertion, verdict, witness)
         asks = f'answer=$("${{AIGER:-aiger}}" aigsim --witness {self.model} {name}.aiw) || exit 1'
         self.put_script(name, assertion, verdict, [asks, f'[ "$answer" = "confirmed {verdict.steps}" ]'])
 
@@ -75,7 +74,8 @@ CIRCUIT = ("max_var", "inputs", "outputs", "bad", "constraints", "gates", "symbo
 
 def waves_beside(first: bytes, second: bytes) -> bytes:
     """One dump of two that have the same times: each is a scope, and its codes begin with a letter of its own."""
-    heads, changes = [], {}
+    heads: List[bytes] = []
+    changes: Dict[int, List[bytes]] = {}
     for name, letter, dump in ((b"first", b"a", first), (b"second", b"b", second)):
         head, _, body = dump.partition(b"$enddefinitions $end\n")
         scoped = head[head.index(b"$scope") :].replace(b"$scope module aiger ", b"$scope module " + name + b" ", 1)

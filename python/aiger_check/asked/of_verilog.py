@@ -1,0 +1,42 @@
+"""Verilog that is given."""
+
+import contextlib
+from pathlib import Path
+from typing import List
+
+from aiger_check.asked.question import Question, question_of
+from aiger_check.front.replay import Replay
+from aiger_check.front.sources import Sources
+from aiger_check.front.translation import Front
+from aiger_check.front.yosys import LIMIT, Yosys
+from aiger_check.programs import Programs
+from aiger_check.session import Session
+
+
+def started(stack: contextlib.ExitStack, session: Session, program: str, files: List[str], place: Path) -> Yosys:
+    """A Yosys for these files, which ends with the stack."""
+    place.mkdir()
+    given = session.given
+    sources = Sources(files, given.include, given.defines, place, given.parameters)
+    stack.callback(sources.close)
+    return stack.enter_context(Yosys(program, session.children, sources, LIMIT))
+
+
+def note_all(session: Session, front: Front) -> None:
+    """Says what came up in the translation: all of it may change what an answer means."""
+    for words in (*(f"Yosys: {line}" for line in front.yosys.warnings()), *front.notes):
+        session.notes.warn(words)
+
+
+def of_verilog(session: Session, programs: Programs) -> Question:
+    """What is asked of the design that is given."""
+    program, place, top = programs.yosys(), session.folder / "verilog", session.given.tops[0]
+    with contextlib.ExitStack() as stack:
+        front = Front(started(stack, session, program, session.given.files, place), top)
+        assertions = front.translate()
+    note_all(session, front)
+    if not assertions:
+        session.notes.warn("there is no assertion")
+    question = question_of(place / "model.aig", assertions)
+    question.replay = Replay(program, session.children, place, top, front.clock, front.replays)
+    return question

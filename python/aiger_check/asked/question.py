@@ -1,0 +1,34 @@
+"""What is asked."""
+
+from dataclasses import dataclass
+from pathlib import Path
+from typing import List, Optional
+
+from aiger_check.answers import Assertion
+from aiger_check.equality.sides import Sides
+from aiger_check.front.replay import Replay
+from aiger_check.model.circuit import Model, without_justice
+
+
+@dataclass
+class Question:
+    """A model, and the assertions that are its bad states and justice properties."""
+
+    model: Model
+    assertions: List[Assertion]
+    #: the model with its justice properties, if it has some
+    live: Optional[Model] = None
+    #: of a miter the two designs
+    sides: Optional[Sides] = None
+    #: what replays a counterexample on the design
+    replay: Optional[Replay] = None
+
+
+def question_of(path: Path, assertions: List[Assertion]) -> Question:
+    """What is asked of a model. Bad states are those of one without justice and fairness: a run into one has an end."""
+    model = Model(path)
+    if not model.circuit.justice_sizes and not model.circuit.fairness:
+        return Question(model, assertions)
+    finite = path.with_name("finite.aig")
+    finite.write_bytes(without_justice(model.circuit).write())
+    return Question(Model(finite), assertions, model if model.circuit.justice_sizes else None)

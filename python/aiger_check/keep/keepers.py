@@ -1,0 +1,39 @@
+"""What keeps each answer."""
+
+from pathlib import Path
+from typing import Dict, Optional
+
+from aiger_check.answers import Assertion, Assumption, Liveness, Pair, Verdict
+from aiger_check.asked.question import Question
+from aiger_check.keep.keeper import Keeper
+from aiger_check.keep.others import KeeperOfLassos, KeeperOfTwo
+from aiger_check.tools.aiger import Aiger
+
+
+class Keepers:
+    """Keeps the answers of each kind, where a folder is given."""
+
+    def __init__(self, folder: Optional[str], question: Question, aiger: Aiger) -> None:
+        self.of_kind: Dict[type, Keeper] = {}
+        if folder is not None:
+            self.of_kind = keepers(Path(folder), question, aiger)
+
+    def keep(self, assertion: Assertion, verdict: Verdict) -> None:
+        keeper = self.of_kind.get(type(assertion))
+        if keeper:
+            keeper.keep(assertion, verdict)
+
+
+def keepers(folder: Path, question: Question, aiger: Aiger) -> Dict[type, Keeper]:
+    """What keeps the answers of each kind."""
+    model, live, sides = question.model, question.live, question.sides
+    if sides:
+        of_two = KeeperOfTwo(folder, model.path, aiger, sides)
+        return {Pair: of_two, Assumption: of_two}
+    found: Dict[type, Keeper] = {}
+    if model.circuit.bad or not live:
+        found[Assertion] = Keeper(folder, model.path, aiger)
+    if live:
+        names = found[Assertion].names if found else set()
+        found[Liveness] = KeeperOfLassos(folder, live, aiger, names)
+    return found

@@ -1,0 +1,60 @@
+"""The answers of a run, as they are added up and written as an object."""
+
+from typing import Any, Dict, List, NamedTuple, Tuple
+
+from aiger_check.answers import Answer, Assertion, KINDS, Verdict, counted
+from aiger_check.statuses import Status, status_of
+
+
+class Answered(NamedTuple):
+    """An assertion and its answer."""
+
+    assertion: Assertion
+    verdict: Verdict
+
+    def record(self) -> Dict[str, Any]:
+        """What --json says of it."""
+        assertion, verdict = self
+        told = {"name": assertion.name, **assertion.shown(), "answer": assertion.called(verdict.answer)}
+        witness = str(verdict.kept) if verdict.kept else None
+        rest = {"steps": verdict.steps, "witness": witness, "reason": verdict.reason}
+        return {**told, **{key: value for key, value in rest.items() if value is not None}}
+
+
+class Tally:
+    """All answers, in the order in which they are said."""
+
+    def __init__(self, frames: int, empty: Tuple[str, ...]) -> None:
+        #: the bound that was asked for, and which lists an object has even where they are empty
+        self.frames, self.empty = frames, empty
+        self.answered: List[Answered] = []
+
+    def add(self, assertion: Assertion, verdict: Verdict) -> None:
+        self.answered.append(Answered(assertion, verdict))
+
+    def status(self) -> Status:
+        """What they come to."""
+        return status_of(self.answered)
+
+    def records(self) -> Dict[str, Any]:
+        """What --json says."""
+        found: Dict[str, Any] = {name: [] for name in self.empty}
+        for it in self.answered:
+            found.setdefault(it.assertion.listed, []).append(it.record())
+        return found
+
+    def summary(self) -> str:
+        """How many there are of each kind, and how many of these have each answer."""
+        of_kind = {kind: [it for it in self.answered if type(it.assertion) is kind] for kind in KINDS}
+        sums = [self.sum_of(kind, its) for kind, its in of_kind.items() if its]
+        return "; ".join(sums) or counted(0, self.empty[0].rstrip("s"))
+
+    def sum_of(self, kind: type, its: List[Answered]) -> str:
+        counts = []
+        for answer in Answer:
+            count = sum(it.verdict.answer is answer for it in its)
+            if count:
+                asked = its[0].assertion
+                bound = f" {counted(self.frames, asked.words.unit)}" if answer is Answer.NONE_WITHIN else ""
+                counts.append(f"{count} {asked.called(answer)}{bound}")
+        return f"{counted(len(its), its[0].assertion.unit)}: {', '.join(counts)}"
