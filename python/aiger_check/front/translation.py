@@ -8,6 +8,7 @@ from aiger_check.answers import Assertion, Liveness
 from aiger_check.faults import Trouble, visible
 from aiger_check.front.clocks import Clocks
 from aiger_check.front.defines import commands
+from aiger_check.front.drivers import Drivers
 from aiger_check.front.properties import LEFT_OUT, Lost, PROPERTIES, Property, UNNAMED, properties
 from aiger_check.front.words import Source
 from aiger_check.front.yosys import Yosys, bare, quoted, top_of
@@ -90,12 +91,15 @@ class Front:
         source = self.read_source()
         self.yosys.do(
             f"hierarchy -check -top {quoted(self.top)}",
-            "proc",
+            # nets keep their names, by which it is told what drives them
+            "proc -noopt",
             f"rename -enumerate -pattern {UNNAMED}% {' '.join(f't:{kind}' for kind in PROPERTIES)}",
             # Yosys would merge what is equal
             "setattr -set keep 1 t:$assert t:$assume t:$live t:$fair",
         )
         modules = self.yosys.netlist("read")
+        self.refuse_drivers(modules)
+        self.yosys.do("opt_expr -keepdc")
         self.properties = list(properties(modules, top_of(modules), source))
         self.notes += map(visible, Lost(modules, source).notes())
         left_out = self.left_out({it.kind for it in self.properties})
@@ -122,6 +126,18 @@ class Front:
     def left_out(self, kinds: Set[str]) -> Sequence[str]:
         """The kinds of properties of which nothing is said, where these are there: fairness is for liveness alone."""
         return ("$cover",) if "$live" in kinds else ("$cover", "$fair")
+
+    def refuse_drivers(self, modules: Dict[str, Any]) -> None:
+        """Refuses what a constant and something else drive, of which Yosys says nothing."""
+        found = Drivers(modules, self.yosys.rtlil("read")).first()
+        if found:
+            place, name = found
+            raise Trouble(visible(f"{self.place_of(place)}{name} has several drivers: let one assignment drive it"))
+
+    def place_of(self, place: str) -> str:
+        """A place that Yosys tells, as words before a message."""
+        match = re.fullmatch(r"(.*?):(\d+)(?:\..*)?", place)
+        return f"{self.sources.users_name(match[1])}:{match[2]}: " if match else ""
 
     def refuse_conflicts(self, said: Sequence[str]) -> None:
         for line in said:

@@ -101,10 +101,20 @@ class Yosys:
         with open(self.sources.folder / f"{name}.json", encoding="utf-8", errors="replace") as file:
             return json.load(file)["modules"]
 
+    def rtlil(self, name: str) -> str:
+        """The design as it is now in Yosys's own language."""
+        self.do(f"write_rtlil {self.sources.alias}/{name}.il")
+        return (self.sources.folder / f"{name}.il").read_text(encoding="utf-8", errors="replace")
+
 
 def bare(name: str) -> str:
     """A name of Yosys without the backslash that it has where it could be one of Yosys's own."""
     return name[1:] if name.startswith("\\") else name
+
+
+def in_netlist(name: str) -> str:
+    """A name of RTLIL as a netlist in JSON has it."""
+    return name[1:] if re.match(r"\\[^\\$0-9]", name) else name
 
 
 def quoted(name: str) -> str:
