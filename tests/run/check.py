@@ -10,6 +10,7 @@ The variable CHECK names another folder aiger_check than that of this repository
 solver count as skipped where it is not installed.
 """
 import concurrent.futures
+import importlib
 import os
 import sys
 from pathlib import Path
@@ -17,12 +18,10 @@ from pathlib import Path
 sys.dont_write_bytecode = True
 sys.path[0] = str(Path(__file__).resolve().parent.parent)
 from lib import counts
-from lib.check import chance_rows, checked, design_rows, equal_rows, file_rows, interrupt_rows, live_rows, model_rows
-from lib.check import tool_rows, word_rows
+from lib.check import checked
 
-MODULES = (
-    design_rows, chance_rows, equal_rows, model_rows, live_rows, tool_rows, word_rows, file_rows, interrupt_rows
-)
+ROWS = sorted(Path(checked.__file__).parent.glob("*_rows.py"))
+MODULES = [importlib.import_module(f"lib.check.{it.stem}") for it in ROWS]
 
 
 def why_wrong(row, program):
