@@ -1,79 +1,126 @@
 """Nets with several drivers, of which Yosys tells where none is a constant."""
 
 import re
-from typing import Any, Dict, Iterator, List, Optional, Tuple
+from typing import Any, Dict, Iterator, List, Optional, Set, Tuple
 
 from aiger_check.front.yosys import bare, in_netlist
 
 SIGNAL = re.compile(r"(?P<name>[\\$]\S+)(?: \[(?P<last>\d+)(?::(?P<first>\d+))?\])?|(?P<constant>-?\d\S*|\")|[{}]")
-HEAD = re.compile(r"module (?P<module>\S+)|  cell (?P<kind>\S+) (?P<cell>\S+)|  wire (?P<wire>.*)")
-CONNECTION = re.compile(r"(?P<inner>  )?  connect (?P<rest>.*)")
+LINE = re.compile(
+    r"module (?P<module>\S+)|  wire (?P<wire>.*)|  cell \S+ (?P<cell>\S+)|  (?P<process>process) .*|  connect (?P<net>.*)"
+    r"|    connect (?P<port>\S+) (?P<ends>.*)|    sync (?P<sync>\S+).*|      update (?P<update>.*)"
+)
 
 
 class Net:
-    """The bits of a net, and how often each is driven."""
+    """The bits of a net, by how many each is driven, and which have a first value, which is no driver of a register."""
 
     def __init__(self, words: str) -> None:
         *options, self.name = words.split(" ")
         width = int(options[options.index("width") + 1]) if "width" in options else 1
-        self.counts = [int("input" in options)] * width
+        self.drivers = [int("input" in options)] * width
+        #: drivers that are no process
+        self.steady = list(self.drivers)
+        self.begun: Set[int] = set()
 
-    def drive(self, first: Optional[str], last: Optional[str]) -> None:
-        """Counts a driver of these bits, or of all."""
-        end = len(self.counts) - 1 if last is None else int(last)
-        begin = 0 if last is None else int(first or last)
-        for at in range(begin, end + 1):
-            self.counts[at] += 1
+    def bits(self, first: Optional[str], last: Optional[str]) -> range:
+        return range(len(self.drivers)) if last is None else range(int(first or last), int(last) + 1)
+
+    def is_several(self) -> bool:
+        return max(self.drivers, default=0) > 1 or any(self.steady[bit] for bit in self.begun)
+
+    def is_of_processes(self) -> bool:
+        """Whether processes alone drive it, as the variable of several loops, which counts where it is read."""
+        return not any(self.steady)
+
+
+def is_read(name: str, line: str) -> bool:
+    """Whether a line of RTLIL reads a net, but for a process that keeps its value."""
+    words = line.split()
+    if name not in words or words[0] == "wire":
+        return name in words and "output" in words
+    keeps = words[0] == "assign" and words[1].startswith(f"$0{name}")
+    return not keeps and (words[0] != "update" or name in words[2:])
 
 
 class Drivers:
-    """The drivers of all nets of a design in RTLIL, before it is flattened and after its processes are cells."""
+    """The drivers of all nets of a design in RTLIL, before its processes are cells."""
 
     def __init__(self, modules: Dict[str, Any], text: str) -> None:
-        self.modules, self.module, self.cell = modules, "", ""
+        self.modules, self.module, self.cell, self.sync = modules, "", "", ""
         self.nets: Dict[str, Net] = {}
+        #: what the process drives that is read
+        self.process: Set[Tuple[str, int]] = set()
         self.found: List[Tuple[str, str]] = []
+        #: the lines of the module that is read
+        self.lines: List[str] = []
         for line in text.split("\n"):
-            self.look_at(line)
+            match = LINE.fullmatch(line)
+            if match:
+                self.take(match.lastgroup or "", match)
+            self.lines.append(line)
         self.end()
 
-    def look_at(self, line: str) -> None:
-        connected = CONNECTION.fullmatch(line)
-        head = None if connected else HEAD.fullmatch(line)
-        if connected:
-            self.connect(connected["rest"], bool(connected["inner"]))
-        elif head and head["module"]:
+    def take(self, kind: str, line: Any) -> None:
+        """Takes a line of RTLIL."""
+        if kind == "module":
             self.end()
-            self.module = in_netlist(head["module"])
-        elif head and head["wire"]:
-            net = Net(head["wire"])
+            self.module = in_netlist(line["module"])
+        elif kind == "wire":
+            net = Net(line["wire"])
             self.nets[net.name] = net
-        elif head and head["cell"]:
-            self.cell = in_netlist(head["cell"])
+        elif kind == "cell":
+            self.cell = in_netlist(line["cell"])
+        elif kind == "process":
+            self.end_process()
+        elif kind == "sync":
+            self.sync = line["sync"]
+        elif kind == "update":
+            self.update(line["update"])
+        elif kind == "net":
+            self.connect(line["net"])
+        elif self.directions().get(in_netlist(line["port"])) == "output":
+            self.connect(line["ends"])
+
+    def directions(self) -> Any:
+        return self.modules[self.module]["cells"].get(self.cell, {}).get("port_directions", {})
 
     def end(self) -> None:
         """Takes what is driven twice in the module that ends."""
-        several = (name for name, net in self.nets.items() if name[0] == "\\" and max(net.counts, default=0) > 1)
-        self.found += [(self.module, in_netlist(name)) for name in several]
-        self.nets = {}
+        self.end_process()
+        for name, net in self.nets.items():
+            is_several = name[0] == "\\" and net.is_several()
+            if is_several and not (net.is_of_processes() and not any(is_read(name, it) for it in self.lines)):
+                self.found.append((self.module, in_netlist(name)))
+        self.nets, self.lines = {}, []
 
-    def connect(self, words: str, is_of_cell: bool) -> None:
-        """Counts what a connection of the module, or of a cell, drives."""
-        if is_of_cell:
-            port, _, words = words.partition(" ")
-            cell = self.modules[self.module]["cells"][self.cell]
-            if cell.get("port_directions", {}).get(in_netlist(port)) != "output":
-                return
-        for signal in self.signals(words):
+    def end_process(self) -> None:
+        for name, bit in self.process:
+            self.nets[name].drivers[bit] += 1
+        self.process = set()
+
+    def update(self, words: str) -> None:
+        """Takes what a process drives, or begins with."""
+        for name, bit in self.bits(words):
+            if self.sync == "init":
+                self.nets[name].begun.add(bit)
+            else:
+                self.process.add((name, bit))
+
+    def connect(self, words: str) -> None:
+        """Counts what a connection of the module, or of an output of a cell, drives."""
+        for name, bit in self.bits(words):
+            self.nets[name].drivers[bit] += 1
+            self.nets[name].steady[bit] += 1
+
+    def bits(self, words: str) -> Iterator[Tuple[str, int]]:
+        """The bits of the signal that comes first."""
+        for signal in SIGNAL.finditer(words):
             if signal["constant"]:
                 self.found.append((self.module, f"the constant at an output of {self.cell}"))
             elif signal["name"]:
-                self.nets[signal["name"]].drive(signal["first"], signal["last"])
-
-    def signals(self, words: str) -> Iterator[Any]:
-        """The parts of the signal that comes first."""
-        for signal in SIGNAL.finditer(words):
-            yield signal
+                name = signal["name"]
+                yield from ((name, bit) for bit in self.nets[name].bits(signal["first"], signal["last"]))
             if signal[0] == "}" or words[0] != "{":
                 return
 

@@ -38,7 +38,12 @@ class Sources:
     """
 
     def __init__(
-        self, files: Sequence[str], include: Sequence[str], defines: Sequence[str], folder: Path, words: Sequence[str] = ()
+        self,
+        files: Sequence[str],
+        include: Sequence[str],
+        defines: Sequence[str],
+        folder: Path,
+        words: Sequence[str] = (),
     ) -> None:
         self.folder, self.searched = folder, [it or "." for it in include]
         self.descriptor = os.open(folder, os.O_RDONLY | os.O_DIRECTORY)
@@ -50,6 +55,8 @@ class Sources:
         self.missing: Dict[str, str] = {}
         self.strings: Set[str] = set()
         self.reads_words = False
+        #: where a case promises that no two of its items match
+        self.parallel: List[str] = []
         self.first = [self.copy(name, os.path.dirname(name)) for name in files]
         for copy in self.copies:
             # what it includes is added behind it
@@ -80,6 +87,7 @@ class Sources:
         changes = Changes(copy.text, copy.name, lambda name, line: self.included(copy, name, line))
         self.strings |= changes.strings
         self.reads_words = self.reads_words or changes.reads_words
+        self.parallel += (f"{copy.name}:{line}" for line in changes.parallel)
         self.put(copy.place, changes.text.encode("latin-1"))
 
     def put(self, place: str, text: bytes) -> None:

@@ -6,10 +6,12 @@ from typing import Any, Dict, List, Optional, Sequence, Set
 
 from aiger_check.answers import Assertion, Liveness
 from aiger_check.faults import Trouble, visible
+from aiger_check.front import undefined
 from aiger_check.front.clocks import Clocks
 from aiger_check.front.defines import commands
 from aiger_check.front.drivers import Drivers
 from aiger_check.front.properties import LEFT_OUT, Lost, PROPERTIES, Property, UNNAMED, properties
+from aiger_check.front.undriven import refuse_undeclared, undriven
 from aiger_check.front.words import Source
 from aiger_check.front.yosys import Yosys, bare, quoted, top_of
 from aiger_check.model.circuit import Model
@@ -20,8 +22,6 @@ class Front:
 
     #: Without -keepdc Yosys might choose first values of uninitialised registers.
     FLAT = (
-        "setattr -mod -unset keep_hierarchy",
-        "flatten",
         "opt_expr -keepdc",
         "opt_clean",
         "check",
@@ -62,10 +62,15 @@ class Front:
         """Reads the files, makes one module of all, and looks at its clocks."""
         self.read()
         self.refuse_conflicts(self.yosys.do("check"))
+        refuse_undeclared(self.yosys.said, self.sources)
+        free = undefined.command(self.sources.folder, self.sources.alias)
+        self.yosys.do("setattr -mod -unset keep_hierarchy", "flatten", free)
         commands = (it for it in self.FLAT if not (self.keeps_outputs and it == "delete -output"))
-        self.refuse_conflicts(self.yosys.do(*commands))
+        said = self.yosys.do(*commands)
+        self.refuse_conflicts(said)
         flat = self.yosys.netlist("flat")
         module = flat[top_of(flat)]
+        self.notes += map(visible, undriven(self.yosys.said, self.top, module, self.sources))
         clocks = Clocks(module)
         self.reason, self.asynchronous = clocks.reason(), clocks.asynchronous
         self.clock = None if self.reason else clocks.port()
@@ -89,17 +94,16 @@ class Front:
     def read(self) -> None:
         """Reads the files, and looks at the properties before they are flattened."""
         source = self.read_source()
+        self.yosys.do(f"hierarchy -check -top {quoted(self.top)}")
+        before = self.yosys.rtlil("read")
         self.yosys.do(
-            f"hierarchy -check -top {quoted(self.top)}",
-            # nets keep their names, by which it is told what drives them
-            "proc -noopt",
+            "proc",
             f"rename -enumerate -pattern {UNNAMED}% {' '.join(f't:{kind}' for kind in PROPERTIES)}",
             # Yosys would merge what is equal
             "setattr -set keep 1 t:$assert t:$assume t:$live t:$fair",
         )
         modules = self.yosys.netlist("read")
-        self.refuse_drivers(modules)
-        self.yosys.do("opt_expr -keepdc")
+        self.refuse_drivers(Drivers(modules, before))
         self.properties = list(properties(modules, top_of(modules), source))
         self.notes += map(visible, Lost(modules, source).notes())
         left_out = self.left_out({it.kind for it in self.properties})
@@ -117,6 +121,9 @@ class Front:
         for file, dump in zip(sources.files, dumps):
             self.yosys.do(f"tee -o {sources.alias}/{dump} read_verilog {options} -I{sources.alias} {file}")
         source = Source(sources, dumps)
+        self.notes += (
+            f"{visible(place)}: of a case the first item that matches is taken" for place in sources.parallel
+        )
         bound = source.first("bind")
         if bound:
             instead = "put the instance into the module itself"
@@ -127,9 +134,9 @@ class Front:
         """The kinds of properties of which nothing is said, where these are there: fairness is for liveness alone."""
         return ("$cover",) if "$live" in kinds else ("$cover", "$fair")
 
-    def refuse_drivers(self, modules: Dict[str, Any]) -> None:
+    def refuse_drivers(self, drivers: Drivers) -> None:
         """Refuses what a constant and something else drive, of which Yosys says nothing."""
-        found = Drivers(modules, self.yosys.rtlil("read")).first()
+        found = drivers.first()
         if found:
             place, name = found
             raise Trouble(visible(f"{self.place_of(place)}{name} has several drivers: let one assignment drive it"))

@@ -15,6 +15,8 @@ from aiger_check.front.sources import Sources
 from aiger_check.tools.processes import Children
 
 
+#: warnings that are refusals or notes of their own
+TOLD = re.compile(r"logic loop|is used but has no driver\.$")
 #: seconds that a Yosys may take for a design
 LIMIT = 600.0
 
@@ -92,7 +94,7 @@ class Yosys:
 
     def warnings(self) -> List[str]:
         """What Yosys warned of, with the user's names."""
-        kept = (line.partition("Warning: ")[2] for line in self.said if "logic loop" not in line)
+        kept = (line.partition("Warning: ")[2] for line in self.said if not TOLD.search(line))
         return [visible(self.sources.with_users_names(line)) for line in kept if line]
 
     def netlist(self, name: str) -> Dict[str, Any]:

@@ -1,0 +1,51 @@
+"""Names that are not declared, and nets that nobody drives."""
+
+import re
+from typing import Any, Dict, Iterator, List, Sequence
+
+from aiger_check.faults import Trouble, visible
+from aiger_check.front.sources import Sources
+from aiger_check.front.yosys import bare
+
+UNDECLARED = re.compile(
+    r"(?:(?P<file>.*?):(?P<line>\d+): )?Warning: Identifier `\\(?P<name>.*)' is implicitly declared.*"
+)
+UNDRIVEN = re.compile(
+    r"Warning: Wire (?P<module>.*?)\.(?P<name>[\\$].*?)(?: \[(?P<bit>\d+)\])? is used but has no driver\."
+)
+
+
+def refuse_undeclared(said: Sequence[str], sources: Sources) -> None:
+    """Refuses a name that is not declared, of which Yosys makes a net of one bit that nobody drives."""
+    for line in said:
+        match = UNDECLARED.match(line)
+        if match:
+            place = f"{sources.users_name(match['file'])}:{match['line']}: " if match["file"] else ""
+            instead = "a name within an instance is not read" if "." in match["name"] else "declare it"
+            raise Trouble(visible(f"{place}{match['name']} is not declared here: {instead}"))
+
+
+def placed(name: str, its: Dict[str, Any], sources: Sources) -> str:
+    """A name with its place."""
+    source = re.match(r"(.*?):(\d+)\.", its.get("attributes", {}).get("src", ""))
+    return f"{name} ({sources.users_name(source[1])}:{source[2]})" if source else name
+
+
+def undriven(said: Sequence[str], top: str, module: Dict[str, Any], sources: Sources) -> Iterator[str]:
+    """A note of each net of the flat design that is read and not driven, and of each instance without a body: in the
+    model it may have any value in each step, so what is said never to be reached is so for all of them."""
+    bits: Dict[str, List[str]] = {}
+    for match in filter(None, map(UNDRIVEN.match, said)):
+        if match["module"] == top:
+            its = bits.setdefault(bare(match["name"]), [])
+            its += [bit for bit in [match["bit"]] if bit and bit not in its]
+    for name, its in bits.items():
+        net = module["netnames"].get(name, {})
+        which = "" if len(its) == len(net.get("bits", [])) else "".join(f"[{bit}]" for bit in sorted(its, key=int)[:1])
+        more = " and others of its bits" if which and len(its) > 1 else ""
+        called = placed(f"{top}.{name}{which}{more}", net, sources)
+        yield f"{called} is read and never driven: it may be anything in each step"
+    for name, cell in module["cells"].items():
+        if not cell["type"].startswith("$"):
+            called = placed(f"{top}.{name}", cell, sources)
+            yield f"{called} is of {cell['type']}, a module without a body: its outputs may be anything in each step"
