@@ -1,6 +1,6 @@
 """Models that ask whether constraints can be kept."""
 
-from typing import Any, Dict, List, Sequence
+from typing import Any, List
 
 from aiger_check.model.circuit import Gates
 from aiger_check.tools.aiger import aigtools
@@ -31,6 +31,15 @@ def in_step(circuit: Any, step: int) -> Any:
     )
 
 
+def with_held_inputs(circuit: Any, state: str) -> Any:
+    """A circuit that starts in a state, with latches in the place of its inputs: any value at first, and no other."""
+    latches = [(literal, literal, literal) for literal in circuit.inputs]
+    latches += [(latch.literal, latch.next, int(value)) for latch, value in zip(circuit.latches, state)]
+    return aigtools().Circuit(
+        max_var=circuit.max_var, latches=latches, constraints=circuit.constraints, gates=circuit.gates
+    )
+
+
 def held(circuit: Any, state: str, inputs: str) -> Any:
     """A circuit that starts in a state and has these inputs for ever; its one bad state is that a constraint fails."""
     gates, kept = Gates(circuit.max_var + 1), 1
@@ -43,12 +52,11 @@ def held(circuit: Any, state: str, inputs: str) -> Any:
     )
 
 
-def steps_of(circuit: Any, text: str) -> List[Dict[str, str]]:
-    """The state and the inputs in each step of a witness."""
+def states_of(circuit: Any, text: str) -> List[str]:
+    """The state in each step of a witness, of which the circuit may have the first latches alone."""
     _, _, state, *lines = text.split("\n")
-    given: Sequence[str] = lines[: lines.index(".")]
-    found, here = [], bytes(map(int, state))
-    for line in given:
-        found.append({"state": "".join(map(str, here)), "inputs": line})
+    found, here = [], bytes(map(int, state[: len(circuit.latches)]))
+    for line in lines[: lines.index(".")]:
+        found.append("".join(map(str, here)))
         here = circuit.step(bytes(map(int, line)), here).next
     return found

@@ -4,32 +4,39 @@ import threading
 from concurrent.futures import Executor
 from dataclasses import replace
 from pathlib import Path
-from typing import Dict, List, Optional, Sequence
+from typing import Any, Dict, Optional, Sequence
 
 from aiger_check.answers import Answer, Assertion, Liveness, Verdict
 from aiger_check.doubts import KEPT
 from aiger_check.model.circuit import Model, without_justice
-from aiger_check.model.kept import held, in_step, steps_of
+from aiger_check.model.kept import held, in_step, states_of, with_held_inputs
 from aiger_check.model.part import Assumed
 from aiger_check.report import Progress
 from aiger_check.search.lassos import Lassos
-from aiger_check.search.limits import Tools
+from aiger_check.search.limits import FEW, Tools, steps_up_to
 from aiger_check.search.single import Search
 from aiger_check.tools.solvers import Said
+
+
+ASKED = Assertion("assumptions", "", 0)
 
 
 class Endless(Lassos):
     """Looks for one run without end that keeps all constraints, and is fair."""
 
-    def verdict(self) -> Verdict:
+    def soon(self) -> bool:
+        """Whether there is one that goes round in few steps."""
+        self.folder.mkdir()
         self.left = min(self.left, self.tools.limits.time)
-        return Search.verdict(self)
+        return not self.prepare() and bool(self.bounded(steps_up_to(FEW)))
+
+    def later(self) -> Optional[Verdict]:
+        """Whether there is one of more steps, or none."""
+        most = steps_up_to(self.tools.limits.frames)
+        return self.by_abc() or self.bounded([count for count in most if count > FEW])
 
     def shortest(self, witness: Path) -> Verdict:
         return Verdict(Answer.REACHED, steps=self.step(witness), witness=witness)
-
-    def none_within(self) -> Optional[Verdict]:
-        return None
 
 
 class Long(Search):
@@ -55,8 +62,10 @@ class Keeping:
     """What is known of the constraints of one model, with its fairness or without. Each question is asked once, of what
     they depend on, and what is found is what aiger says of that: a run that it confirms, or that none is there."""
 
-    #: how long it may take to show that the same inputs keep the constraints for ever
+    #: how long it may take to show that inputs that do not change keep the constraints for ever, how often others are
+    #: tried, and of how many steps
     HELD = 5.0
+    ATTEMPTS, MOST = 5, 1000
 
     def __init__(self, model: Model, fairness: Sequence[int], tools: Tools, folder: Path, progress: Progress) -> None:
         self.tools, self.folder, self.progress = tools, folder, progress
@@ -84,12 +93,14 @@ class Keeping:
         endless = Endless(
             Liveness("assumptions", "", 0), self.model, self.tools, self.folder / "endless", self.progress
         )
-        answer = endless.verdict().answer
-        if answer is Answer.REACHED:
+        if endless.soon():
             return
         self.never = self.within = self.end()
-        if not self.within and not self.is_held():
-            self.never = self.not_for_ever(answer is Answer.NEVER)
+        if self.within or self.is_held():
+            return
+        later = endless.later()
+        if not later or later.answer is not Answer.REACHED:
+            self.never = self.not_for_ever(later is not None)
 
     def not_for_ever(self, is_shown: bool) -> str:
         steps, runs = self.tools.limits.frames, " by a fair run" if self.is_fair else ""
@@ -117,38 +128,46 @@ class Keeping:
 
     def run_of(self, count: int) -> Long:
         """Looks for a run of so many steps."""
-        path = self.folder / f"step{count - 1}.aig"
-        path.write_bytes(in_step(without_justice(self.model.circuit), count - 1).write())
-        asked = Assertion("assumptions", "", 0)
-        long = Long(asked, Model(path), self.tools, self.folder / f"long{count}", self.progress)
+        long = self.long(f"long{count}", without_justice(self.model.circuit), count)
         self.run = long.run_of(count)
         return long
 
+    def long(self, name: str, circuit: Any, count: int) -> Long:
+        path = self.folder / f"{name}.aig"
+        path.write_bytes(in_step(circuit, count - 1).write())
+        return Long(ASKED, Model(path), self.tools, self.folder / name, self.progress)
+
     def is_held(self) -> bool:
-        """Whether some inputs, the same in each step behind one of the run that was found, keep the constraints for
-        ever: no counter needs to come back for that."""
+        """Whether inputs that do not change, behind a step of the run that was found, keep the constraints for ever: no
+        counter needs to come back for that."""
         if self.is_fair or not self.run:
             return False
-        circuit = without_justice(self.model.circuit)
-        width = len(circuit.latches)
-        # the run has a counter beside the latches
-        _, _, state, *lines = self.run.read_text().split("\n")
-        steps = steps_of(circuit, "\n".join(["1", "b0", state[:width], *lines]))
-        limits = replace(self.tools.limits, time=self.HELD, limit=self.HELD)
-        tried: List[Dict[str, str]] = []
-        for at in (0, 1, len(steps) - 1):
-            for inputs in (steps[at]["inputs"], "0" * len(circuit.inputs)) if at < len(steps) else ():
-                start = {"state": steps[at]["state"], "inputs": inputs}
-                if start not in tried and self.is_kept_from(start, len(tried), replace(self.tools, limits=limits)):
-                    return True
-                tried.append(start)
+        states = states_of(without_justice(self.model.circuit), self.run.read_text())
+        starts = dict.fromkeys(states[at] for at in (0, 1, -1) if at < len(states))
+        return any(self.is_held_from(state, f"held{at}") for at, state in enumerate(starts))
+
+    def is_held_from(self, state: str, name: str) -> bool:
+        """Whether some do from this state on: those that do for some steps are tried, and then for more."""
+        circuit, steps = without_justice(self.model.circuit), self.tools.limits.frames
+        for attempt in range(self.ATTEMPTS):
+            run = self.long(f"{name}-{attempt}", with_held_inputs(circuit, state), steps).run_of(steps)
+            if not run:
+                return False
+            inputs = run.read_text().split("\n")[2][: len(circuit.inputs)]
+            verdict = self.kept_by(f"{name}-{attempt}-kept", held(circuit, state, inputs))
+            if verdict.answer is Answer.NEVER:
+                return True
+            steps = max(steps, (verdict.steps or 0) + 1) if verdict.answer is Answer.REACHED else 4 * steps
+            if steps > self.MOST:
+                return False
         return False
 
-    def is_kept_from(self, start: Dict[str, str], at: int, tools: Tools) -> bool:
-        path = self.folder / f"held{at}.aig"
-        path.write_bytes(held(without_justice(self.model.circuit), **start).write())
-        search = Search(Assertion("assumptions", "", 0), Model(path), tools, self.folder / f"held{at}", self.progress)
-        return search.verdict().answer is Answer.NEVER
+    def kept_by(self, name: str, circuit: Any) -> Verdict:
+        path = self.folder / f"{name}.aig"
+        path.write_bytes(circuit.write())
+        limits = replace(self.tools.limits, time=self.HELD, limit=self.HELD)
+        tools = replace(self.tools, limits=limits)
+        return Search(ASKED, Model(path), tools, self.folder / name, self.progress).verdict()
 
 
 class Vacuity:

@@ -13,8 +13,9 @@ def by_chance(at, has_clocks, room):
     made = verilog.design(random.Random(at), has_clocks)
     (room.here / "made.sv").write_text(made.text, encoding="ascii")
     lines = [number for number, line in enumerate(made.text.split("\n"), 1) if ": assert" in line]
+    kept = verilog.kept(made)
     truths = [
-        Truth(f"made.{name}", f"made.sv:{line}", step)
+        Truth(f"made.{name}", f"made.sv:{line}", step, kept=kept)
         for (name, _), line, step in zip(made.assertions, lines, verilog.steps(made))
     ]
     try:

@@ -18,7 +18,7 @@ from lib.check.model_rows import honest, real
 
 BY_CHANCE = 100
 WORDS = {"equal": "never", "equal for": "none within", "differs at": "reached", "holds": "never"}
-WORDS.update({"holds for": "none within", "fails at": "reached", "unknown": "unknown"})
+WORDS.update({"holds for": "none within", "fails at": "reached", "vacuous": "vacuous", "unknown": "unknown"})
 LINE = re.compile(rf"(?P<name>.*): (?P<answer>{'|'.join(sorted(WORDS, key=len, reverse=True))})(?P<rest>.*)", re.DOTALL)
 KEPT = re.compile(r"(first|second|miter)-[0-9a-f]+\.aig|together\.(drat|pla)|.+\.(aiw|vcd|stimulus|drat|pla|check\.sh)")
 
@@ -40,7 +40,7 @@ def of_line(line, said):
         spelled = re.fullmatch(r" (1 step|(?:[2-9]|[1-9]\d+) steps)", rest)
         checked.need(spelled, f"the line {line!r}", said)
         more = {"steps": int(spelled[1].split()[0])}
-    elif answer == "unknown":
+    elif answer in ("vacuous", "unknown"):
         checked.need(re.fullmatch(r": .+", rest), f"the line {line!r} without a reason", said)
         more = {"reason": rest[2:]}
     else:
@@ -69,7 +69,7 @@ def of_lines(said, frames):
     *lines, last = said.out.removesuffix("\n").split("\n")
     found = [of_line(it, said) for it in lines]
     parts = [[it for it in found if not is_assumed(it)], [it for it in found if is_assumed(it)]]
-    words = {"steps": frames, "unknown": "unknown"}
+    words = {"steps": frames, "vacuous": "vacuous", "unknown": "unknown"}
     pair = {"never": "equal", "none within": "equal for", "reached": "differs", **words}
     wanted = sum_of("pair", parts[0], pair)
     if parts[1]:
@@ -90,7 +90,7 @@ def of_json(said):
         for it, words_ in itertools.chain(
             ((it, words) for it in object_["pairs"]), ((it, assumed) for it in object_["assumptions"])
         ):
-            answer = WORDS[{**words_, "unknown": "unknown"}[it.pop("answer")]]
+            answer = WORDS[{**words_, "vacuous": "vacuous", "unknown": "unknown"}[it.pop("answer")]]
             prefix = "" if words_ is words else "assumption "
             found.append(checked.Answer(prefix + it.pop("name"), "", answer, **it))
         return found
@@ -103,14 +103,15 @@ def status_of(found, frames):
     return checked.status_of(found, frames) if pairs else checked.TROUBLE
 
 
-def judge(said, wanted, way=checked.EXACT, frames=checked.FRAMES):
-    """The answers of a run, by names and first steps, which must be right, and its status."""
+def judge(said, wanted, way=checked.EXACT, frames=checked.FRAMES, kept=None):
+    """The answers of a run, by names and first steps, which must be right, and its status; and for how many steps a run
+    keeps the constraints of the first."""
     is_object = "--json" in said.words
     found = of_json(said) if is_object else of_lines(said, frames)
     names = [name.partition(" of ")[0] if is_object and name.startswith("assumption ") else name for name, _ in wanted]
     checked.need([it.name for it in found] == names, f"the names {names} are due", said)
     for (name, step), it in zip(wanted, found):
-        checked.need(checked.is_right(Truth(name, "", step), it, way, frames), f"{name}, {step} has {it}", said)
+        checked.need(checked.is_right(Truth(name, "", step, kept=kept), it, way, frames), f"{name}, {step} has {it}", said)
     checked.need(said.status == status_of(found, frames), f"status {status_of(found, frames)} is due", said)
     return found
 
@@ -224,11 +225,12 @@ def of_pair(which, has_tools, room):
     put(room, first, second)
     room.may_write.add("kept")
     said = room.run("--equal", "--keep", "kept", "old", "new", changes=changes)
-    found = judge(said, wanted)
+    kept = reached.kept(reached.plain(reached.read(first.encode())))
+    found = judge(said, wanted, kept=kept)
     judge_kept(room, room.here / "kept", found, said)
     (room.here / "new.aig").write_bytes(model_rows.binary(room, second))
     named = [(name.replace(" of new", " of new.aig"), step) for name, step in wanted]
-    judge(room.run("--json", "--equal", "old", "new.aig", changes=changes), named)
+    judge(room.run("--json", "--equal", "old", "new.aig", changes=changes), named, kept=kept)
 
 
 def bounded(room):
@@ -901,7 +903,7 @@ def by_chance(at, room):
     words = ["--json"] if at % 2 else []
     said = room.run("--equal", *words, "--jobs", "1", "old", "new", changes=tools(room))
     try:
-        judge(said, wanted)
+        judge(said, wanted, kept=reached.kept(first))
     except checked.Wrong as why:
         raise checked.Wrong(f"{why}; of {images.ascii_text(first)} and {images.ascii_text(second)}") from why
 

@@ -2,6 +2,7 @@
 trying all states and inputs. With two clocks a step is one of the global clock, and a register takes what was asked for
 one step before."""
 import dataclasses
+import functools
 import itertools
 
 MASK = {1: 1, 2: 3}
@@ -164,27 +165,51 @@ def compiled(made):
     return eval(f"lambda {names}: (bool({made.assumed}), ({fails},), ({nexts},))")  # pylint: disable=eval-used
 
 
-def steps(made):
-    """Of each assertion the first step in which it fails, or None."""
+def moves_of(made):
+    """The first states, and what gives of a state the states that may follow, and which assertions may fail there."""
     look, has_clocks = compiled(made), made.clocks != ["clk"]
     every = list(itertools.product(*(range(MASK[width] + 1) for width in made.inputs.values())))
     levels = list(itertools.product((0, 1), repeat=len(made.clocks))) if has_clocks else [()]
     starts = [range(MASK[it.width] + 1) if it.start is None else [it.start] for it in made.registers]
-    # the values, those asked for and the clocks of the step before; at first no clock has an edge
-    here = {(values, None, None) for values in itertools.product(*starts)}
-    found, seen = [None] * len(made.assertions), set()
-    for step in itertools.count():
-        behind = set()
-        for (values, asked, before), level, given in itertools.product(here, levels, every):
+
+    @functools.lru_cache(None)
+    def moved(state):
+        behind, failing = set(), [False] * len(made.assertions)
+        values, asked, before = state
+        for level, given in itertools.product(levels, every):
             now = changed(made, values, asked, before, dict(zip(made.clocks, level))) if has_clocks else values
             holds, fails, nexts = look(*now, *given)
             if holds:
-                found = [step if it and known is None else known for it, known in zip(fails, found)]
+                failing = [one or bool(other) for one, other in zip(failing, fails)]
                 behind.add((now, nexts, level) if has_clocks else (nexts, None, None))
+        return behind, failing
+
+    # the values, those asked for and the clocks of the step before; at first no clock has an edge
+    return {(values, None, None) for values in itertools.product(*starts)}, moved
+
+
+def steps(made):
+    """Of each assertion the first step in which it fails, or None."""
+    here, moved = moves_of(made)
+    found, seen = [None] * len(made.assertions), set()
+    for step in itertools.count():
+        for _, failing in map(moved, here):
+            found = [step if it and known is None else known for it, known in zip(failing, found)]
         seen |= here
-        here = behind - seen
+        here = {it for state in here for it in moved(state)[0]} - seen
         if not here:
             return found
+
+
+def kept(made):
+    """For how many steps a run keeps the assumption, or None where one does for ever."""
+    here, moved = moves_of(made)
+    were = set()
+    for step in itertools.count():
+        if not here or here in were:
+            return None if here else step - 1
+        were.add(frozenset(here))
+        here = frozenset(it for state in here for it in moved(state)[0])
 
 
 def changed(made, values, asked, before, level):
