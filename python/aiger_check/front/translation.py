@@ -64,12 +64,13 @@ class Front:
         self.refuse_conflicts(self.yosys.do("check"))
         refuse_undeclared(self.yosys.said, self.sources)
         free = undefined.command(self.sources.folder, self.sources.alias)
-        self.yosys.do("setattr -mod -unset keep_hierarchy", "flatten", free)
+        # the second front end begins with what is flat and not made simpler
+        flat = f"write_rtlil {self.sources.alias}/flat.il"
+        self.yosys.do("setattr -mod -unset keep_hierarchy", "flatten", free, flat)
         commands = (it for it in self.FLAT if not (self.keeps_outputs and it == "delete -output"))
-        said = self.yosys.do(*commands)
-        self.refuse_conflicts(said)
-        flat = self.yosys.netlist("flat")
-        module = flat[top_of(flat)]
+        self.refuse_conflicts(self.yosys.do(*commands))
+        netlist = self.yosys.netlist("flat")
+        module = netlist[top_of(netlist)]
         self.notes += map(visible, undriven(self.yosys.said, self.top, module, self.sources))
         clocks = Clocks(module)
         self.reason, self.asynchronous = clocks.reason(), clocks.asynchronous
