@@ -22,13 +22,18 @@ def spelled(path: Sequence[str]) -> str:
 
 @dataclass
 class Start:
-    """A register, or a net that nobody drives, whose first value is given: bits from the right, and their latches."""
+    """A register, or a net that nobody drives, whose first value is given: of each bit from the right the latch that it
+    is, or the output that shows it."""
 
     path: Tuple[str, ...]
     width: int
     is_net: bool
     is_word: bool = False
     latches: Dict[int, int] = field(default_factory=dict)
+    outputs: Dict[int, int] = field(default_factory=dict)
+
+    def has(self, bit: int) -> bool:
+        return bit in self.latches or bit in self.outputs
 
 
 @dataclass
@@ -39,6 +44,8 @@ class Bench:
     probed: Probed
     #: the one clock, or nothing
     clock: str
+    #: or the bits of inputs that are clocks
+    clocks: Sequence[Place]
     is_global: bool
     starts: List[Start] = field(default_factory=list)
     #: memories' words whose waveforms are asked for by name, and nets that are driven from here
@@ -75,7 +82,10 @@ class Bench:
             f"$dumplimit({DUMP}); $dumpvars(0, dut); end",
             'if ($value$plusargs("rows=%s", name)) $readmemb(name, second_rows);',
             'if ($value$plusargs("starts=%s", name)) $readmemb(name, second_starts);',
-            "second_start = second_starts[0]; #1;",
+            "second_start = second_starts[0];",
+            # so that their first edges come later
+            *(f"second_row[{it}] = second_rows[0][{it}];" for it in self.clock_bits()),
+            "#1;",
             "if (count > 0) begin",
             *self.first_values(),
             "end",
@@ -101,11 +111,16 @@ class Bench:
             low += width
         return found
 
+    def clock_bits(self) -> List[int]:
+        """Where in a row the clocks are."""
+        lows = {name: low for name, low, _ in self.slices(False)}
+        return [lows[name] + at for name, at in self.clocks]
+
     def first_values(self) -> List[str]:
         lines, low = [], 0
         for it in self.starts:
             name, value = f"dut.{spelled(it.path)}", f"second_start[{low} +: {it.width}]"
-            mask = "".join("0" if at in it.latches else "1" for at in reversed(range(it.width)))
+            mask = "".join("0" if it.has(at) else "1" for at in reversed(range(it.width)))
             if "1" in mask:
                 value = f"(({name} & {it.width}'b{mask}) | {value})"
             # what has an enumeration's type takes no value but by force, and a word of a memory none by force
@@ -118,7 +133,7 @@ class Bench:
         """The first values as the testbench reads them."""
         bits: List[str] = []
         for it in self.starts:
-            bits += [str(run.starts[it.latches[at]]) if at in it.latches else "0" for at in range(it.width)]
+            bits += [first_value(it, at, run) for at in range(it.width)]
         return ("".join(reversed(bits)) or "0") + "\n"
 
     def rows(self, inputs: Sequence[bytes], others: Sequence[bytes] = ()) -> str:
@@ -131,3 +146,9 @@ class Bench:
             for values in (inputs[step], others[step]):
                 lines.append("".join("01x"[values[at]] if at is not None else "0" for at in reversed(order)) or "0")
         return "\n".join(lines) + "\n"
+
+
+def first_value(start: Start, bit: int, run: Drawn) -> str:
+    if bit in start.latches:
+        return str(run.starts[start.latches[bit]])
+    return "01x"[run.outputs[0][start.outputs[bit]]] if bit in start.outputs else "0"

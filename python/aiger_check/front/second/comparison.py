@@ -8,6 +8,7 @@ from typing import Any, Dict, List, Optional, Sequence, Set, Tuple
 
 from aiger_check.front.properties import Property
 from aiger_check.front.second.bench import EDGE, LOOK, PERIOD, Bench, Start
+from aiger_check.front.second.clocked import edges_of, is_of_first_step, named_nets, one_clock
 from aiger_check.front.second.compare import Finding, Signals, Worths, kind_of
 from aiger_check.front.second.compare import DIFFERS, LOST
 from aiger_check.front.second.draw import Chance, Drawn
@@ -35,8 +36,7 @@ class Design:
     given: Given
     top: str
     properties: Sequence[Property]
-    #: the one clock, if its steps are those of one
-    clock: str
+    #: whether its steps are those of a global clock
     is_global: bool
     is_asynchronous: bool
 
@@ -75,7 +75,7 @@ class Comparison:
 
     def compared(self) -> Compared:
         self.read()
-        self.probed = self.probes.model()
+        self.translate()
         self.prepare()
         for number in range(RUNS):
             if number and time.monotonic() > self.until - 1:
@@ -94,12 +94,24 @@ class Comparison:
         self.telling = Telling(quiet, self.mark)
         (self.folder / "design.sv").write_text(self.telling.telling(), errors="surrogateescape")
 
+    def translate(self) -> None:
+        """Has the second model written; and again where what no assertion depends on has other clocks."""
+        self.probed = self.probes.model(self.design.is_global)
+        self.edges = edges_of(self.probed)
+        clock = one_clock(self.probed, self.edges)
+        self.is_global = self.design.is_global or clock is None
+        self.clock = "" if self.is_global else clock or ""
+        if self.is_global and not self.design.is_global:
+            self.probed = self.probes.model(True)
+
     def prepare(self) -> None:
         """Compiles it with a testbench, once more where registers have to be set."""
-        design, gates = self.design, len(self.probed.circuit.gates)
+        gates = len(self.probed.circuit.gates)
         self.steps = max(FEWEST, min(STEPS, STEPS * GATES // max(1, gates)))
-        self.clocks = clocks_of(self.probed) if design.is_global else {}
-        self.bench = Bench(design.top, self.probed, design.clock, design.is_global)
+        # before its first edge a clock is low, and high where it but falls
+        self.clocks = {place: int(True not in its) for place, its in self.edges.items()}
+        moved = list(self.clocks) if self.is_global else []
+        self.bench = Bench(self.design.top, self.probed, self.clock, moved, self.is_global)
         self.build()
         self.simulator.simulate("+waves=names.vcd")
         self.variables = Waves(self.folder / "names.vcd").variables
@@ -120,17 +132,30 @@ class Comparison:
         """What has no first value in the model, and can be set in the simulation."""
         found: Dict[str, Start] = {}
         words = self.probed.circuit.latches.words
-        memories = {bare(name): memory for name, memory in self.probed.module.get("memories", {}).items()}
         for at, names in self.probed.unset.items():
-            is_free = words[3 * at + 1] == words[3 * at]
             for name, bit in names:
-                start = found.get(name) or self.start(name, is_free, memories)
+                start = found.get(name) or self.start(name, words[3 * at + 1] == words[3 * at])
                 if start and bit < start.width:
                     found[name] = start
                     start.latches[bit] = at
+        self.settable = {at for it in found.values() for at in it.latches.values()}
+        if self.is_global:
+            self.add_shown(found)
         return list(found.values())
 
-    def start(self, name: str, is_free: bool, memories: Dict[str, Any]) -> Optional[Start]:
+    def add_shown(self, found: Dict[str, Start]) -> None:
+        """With several clocks a register is no latch of the model: it starts as the model shows it."""
+        shown, are_all = is_of_first_step(self.probed, any(len(its) > 1 for its in self.edges.values()))
+        for (name, bit), output in shown.items():
+            start = found.get(name) or self.start(name, False)
+            if start and bit < start.width and bit not in start.latches:
+                found[name] = start
+                start.outputs[bit] = output
+        if are_all:
+            self.settable = set(self.probed.unset)
+
+    def start(self, name: str, is_free: bool) -> Optional[Start]:
+        memories = {bare(it): memory for it, memory in self.probed.module.get("memories", {}).items()}
         memory = memories.get(name.rpartition("[")[0])
         if memory:
             return Start(tuple(name.split(".")), int(memory["width"]), False, True)
@@ -142,12 +167,11 @@ class Comparison:
 
     def run(self, number: int) -> None:
         """Draws a run, and has it simulated."""
-        settable = {at for it in self.bench.starts for at in it.latches.values()}
-        chance = Chance(self.probed, settable, self.clocks, self.design.is_global, self.until)
+        chance = Chance(self.probed, self.settable, self.clocks, self.is_global, self.until)
         drawn = chance.drawn(number + 1, self.steps)
         if drawn:
             said = self.simulated(str(number), drawn.inputs, self.bench.start_row(drawn))
-            traces = Traces(self.telling.statements, said, len(drawn.inputs), self.design.is_global)
+            traces = Traces(self.telling.statements, said, len(drawn.inputs), self.is_global)
             self.runs.append(Run(drawn, self.folder / f"waves{number}.vcd", traces.all()))
 
     def simulated(self, name: str, inputs: Sequence[bytes], starts: str, *plus: str) -> Any:
@@ -164,15 +188,11 @@ class Comparison:
         found = Compared(min(len(it.drawn.inputs) for it in self.runs))
         found.findings = list(signals.findings.values())
         found.signals, found.unknown = len(signals.compared), signals.unknown
-        found.other_names = sorted(set(self.probed.widths) - signals.compared - self.clock_names())
+        inputs = {place[0] for place in self.probed.inputs if place}
+        clocks = named_nets(self.probed, self.clock) if self.clock else []
+        found.other_names = sorted(set(self.probed.widths) - signals.compared - inputs - set(clocks))
         self.judge_assertions(found)
         return found
-
-    def clock_names(self) -> Set[str]:
-        """The names of the clock, which rises within each step."""
-        nets = {bare(name): net["bits"] for name, net in self.probed.module["netnames"].items()}
-        bits = nets.get(self.design.clock)
-        return {name for name, its in nets.items() if bits and its == bits}
 
     def judge_assertions(self, found: Compared) -> None:
         told = {where for run in self.runs for where in run.traces}
@@ -193,7 +213,7 @@ class Comparison:
 
     def behind(self, where: Where) -> int:
         """By how many steps the model tells it later."""
-        return int(self.telling.statements[where[0]].is_clocked and not self.design.is_global)
+        return int(self.telling.statements[where[0]].is_clocked and not self.is_global)
 
     def is_alike(self, where: Where, cell: str) -> bool:
         return not any(it.kind == DIFFERS for it in self.of_pair(where, cell))
@@ -208,24 +228,3 @@ class Comparison:
                 if kind and kind not in found:
                     found[kind] = Finding(kind, "", cell, step, number, design, "01x"[model])
         return list(found.values())
-
-
-def clocks_of(probed: Probed) -> Dict[Place, int]:
-    """The bits of inputs that are clocks, with the value that each has before its first edge."""
-    module, edges = probed.module, {}  # type: Dict[str, Any], Dict[Any, Set[bool]]
-    for cell in module["cells"].values():
-        if cell["type"] in ("$ff", "$initstate"):
-            raise Unable("the global clock is used")
-        polarity = cell["parameters"].get("CLK_POLARITY")
-        if polarity is not None and "CLK" in cell["connections"] and cell["type"] != "$memrd":
-            for bit in cell["connections"]["CLK"]:
-                edges.setdefault(bit, set()).add(polarity[-1:] == "1")
-    found: Dict[Place, int] = {}
-    for name, port in module["ports"].items():
-        for at, bit in enumerate(port["bits"] if port["direction"] == "input" else []):
-            if bit in edges:
-                found[name, at] = int(True not in edges[bit])
-    bits = {module["ports"][name]["bits"][at] for name, at in found}
-    if set(edges) - bits:
-        raise Unable("a clock that is no input is not simulated")
-    return found

@@ -3,11 +3,13 @@
 import random
 import time
 from dataclasses import dataclass, field
-from typing import Any, Dict, List, Optional, Sequence, Set
+from typing import Any, Dict, List, Optional, Set
 
 from aiger_check.front.second.probes import Place, Probed
 
 X = 2
+#: a run of more steps is not drawn again from its first state
+FEW = 8
 
 
 @dataclass
@@ -36,42 +38,56 @@ class Chance:
     until: float
 
     #: of so many draws one has to keep the assumptions
-    DRAWS = 40
+    DRAWS = 30
+    #: and so many first states are tried
+    TRIES = 8
 
     def drawn(self, seed: int, steps: int) -> Optional[Drawn]:
         """A run, which may be shorter where the assumptions cannot be kept, or none."""
-        rng = random.Random(seed)
-        for _ in range(self.DRAWS):
+        rng, best = random.Random(seed), Drawn({})
+        for _ in range(self.TRIES):
             starts = {at: rng.randrange(2) for at in sorted(self.probed.unset)}
-            run = Drawn(starts)
-            self.go_on(run, steps, rng)
-            if run.inputs:
-                self.open(run)
-                return run
-        return None
+            run = self.go_on(Drawn(starts), steps, rng)
+            best = max(best, run, key=lambda it: len(it.inputs))
+            if len(best.inputs) > min(FEW, steps - 1):
+                break
+        self.open(best)
+        return best if best.inputs else None
 
-    def go_on(self, run: Drawn, steps: int, rng: random.Random) -> None:
-        """Draws step by step. Where none is found that keeps the assumptions, the one before is drawn again."""
-        states = [self.first(run.starts)]
-        left = 8 * steps + 200
+    def go_on(self, run: Drawn, steps: int, rng: random.Random) -> Drawn:
+        """Draws step by step; gives the longest run. Where no step is found that keeps the assumptions, those before are
+        drawn again."""
+        states, best = [self.first(run.starts)], Drawn(run.starts)
+        left = steps + 50
         while len(run.inputs) < steps and left > 0 and time.monotonic() < self.until:
             before = run.inputs[-1] if run.inputs else None
+            found = None
             for _ in range(self.DRAWS):
-                left -= 1
                 inputs = self.inputs(rng, before)
                 step = self.probed.circuit.step(inputs, states[-1])
-                if 0 not in step.constraints:
-                    run.inputs.append(inputs)
-                    run.outputs.append(step.outputs)
-                    states.append(step.next)
+                found = step if self.is_kept(step) else None
+                if found:
                     break
+                left -= 1
+            if found:
+                run.inputs.append(inputs)
+                run.outputs.append(found.outputs)
+                states.append(found.next)
+            elif not run.inputs:
+                break
             else:
-                if not run.inputs:
-                    return
-                for _ in range(min(2, len(run.inputs))):
-                    run.inputs.pop()
-                    run.outputs.pop()
-                    states.pop()
+                best = max(best, Drawn(run.starts, run.inputs[:], run.outputs[:]), key=lambda it: len(it.inputs))
+                back = max(0, len(run.inputs) - 2)
+                del run.inputs[back:], run.outputs[back:], states[back + 1 :]
+        return max(best, run, key=lambda it: len(it.inputs))
+
+    def is_kept(self, step: Any) -> bool:
+        """Whether a step breaks no assumption, also none that is of the step after, whatever comes then."""
+        if not step.constraints:
+            return True
+        circuit = self.probed.circuit
+        anything = bytes([X] * len(circuit.inputs))
+        return 0 not in step.constraints and 0 not in circuit.step(anything, step.next).constraints
 
     def first(self, starts: Dict[int, int]) -> bytes:
         state = bytearray(self.probed.circuit.first_state())

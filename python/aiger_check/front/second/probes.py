@@ -4,7 +4,7 @@ import json
 import re
 from dataclasses import dataclass, field
 from pathlib import Path
-from typing import Any, Dict, List, Optional, Tuple
+from typing import Any, Dict, List, Optional, Sequence, Tuple
 
 from aiger_check.front.second.faults import Unable
 from aiger_check.front.translation import Front
@@ -48,20 +48,21 @@ class Probed:
 class Probes:
     """Writes the second model from the flat design that the front end kept."""
 
-    def __init__(self, program: str, children: Children, folder: Path, is_global: bool) -> None:
-        self.program, self.children, self.folder, self.is_global = program, children, folder, is_global
+    def __init__(self, program: str, children: Children, folder: Path) -> None:
+        self.program, self.children, self.folder = program, children, folder
         self.ports = 0
         #: of each property's cell its kind, and the names of the two outputs that show it
         self.shown: Dict[str, Tuple[str, str, str]] = {}
         #: the inputs that stand for what may be anything in each step
         self.driven: List[str] = []
 
-    def model(self) -> Probed:
+    def model(self, is_global: bool) -> Probed:
+        """The model, whose steps are those of a global clock, or of the one clock that there is."""
         text = (self.folder / "flat.il").read_text(errors="surrogateescape")
         text = re.sub(r"  cell \$(assert|assume) (\S+)\n(.*?)\n  end\n", self.probe, text, flags=re.S)
         text = re.sub(r"  cell \$anyseq (\S+)\n(.*?)\n  end\n", self.opened, text, flags=re.S)
         (self.folder / "probed.il").write_text(text, errors="surrogateescape")
-        self.run()
+        self.run(Front.GLOBAL_CLOCK if is_global else Front.ONE_CLOCK)
         with open(self.folder / "named.json", encoding="utf-8", errors="replace") as file:
             modules = json.load(file)["modules"]
         circuit = aigtools().read((self.folder / "probed.aig").read_bytes())
@@ -92,10 +93,9 @@ class Probes:
         self.ports += 1
         return f"{PORT}{self.ports}"
 
-    def run(self) -> None:
+    def run(self, clocks: Sequence[str]) -> None:
         """Runs the commands of the translation, but keeps each name."""
         flat = [it for it in Front.FLAT[2:] if it not in ("delete -output", "check")]
-        clocks = Front.GLOBAL_CLOCK if self.is_global else Front.ONE_CLOCK
         script = [
             "read_rtlil probed.il",
             "write_json named.json",

@@ -11,6 +11,11 @@ from aiger_check.front.second.faults import Unable
 #: what is read of a file
 MOST = 1 << 24
 INCLUDE = re.compile(r'^(\s*)`include\s+"([^"\n]*)"')
+#: a line that is no text of the design
+DIRECTIVE = re.compile(
+    r"\s*`(include|define|undef|undefineall|ifdef|ifndef|elsif|else|endif|line|timescale|default_nettype|resetall|celldefine"
+    r"|endcelldefine|pragma|begin_keywords|end_keywords|unconnected_drive|nounconnected_drive)\b"
+)
 #: what changes how a line of Verilog goes on in the next
 PARTS = re.compile(r'//[^\n]*|/\*|\*/|"(?:\\.|[^"\\\n])*"', re.S)
 
@@ -64,7 +69,8 @@ class Texts:
             include = None if within or goes_on else INCLUDE.match(line)
             if include:
                 line = self.with_copy(line, include, beside)
-            made.append(line if within or goes_on else f"/*second {number} {at}*/{line}")
+            is_text = not (within or goes_on or DIRECTIVE.match(line))
+            made.append(f"/*second {number} {at}*/{line}" if is_text else line)
             goes_on = line.rstrip("\r").endswith("\\")
             within = is_within(line, within)
         return "\n".join(made)

@@ -5,7 +5,7 @@ from dataclasses import dataclass
 from typing import List, NamedTuple, Optional
 
 from aiger_check.front.second.faults import Unable
-from aiger_check.front.second.statements import Found, Walk
+from aiger_check.front.second.statements import Found, Process, Walk
 from aiger_check.front.second.tokens import MARK, Edits, Places, tokens_of
 
 #: words of properties that are more than a value in a step
@@ -59,10 +59,15 @@ class Telling:
             return self.edits.put(start, end, ";" if found.process else "")
         condition = self.text[tokens[opened].start : tokens[closed].end]
         words = {it.text for it in tokens[opened:closed]}
-        if words & TEMPORAL or re.search(r"\|\s*[-=]>", condition):
+        # what an initial block looks at under a condition is looked at too late
+        is_later = bool(found.process) and found.process.word == "initial" and self.has_branches(found.process)
+        if is_later or words & TEMPORAL or re.search(r"\|\s*[-=]>", condition):
             self.temporal += 1
             return self.edits.put(start, end, "begin end" if found.process else "")
         self.edits.put(start, end, self.statement(found, MARK.sub("", condition)))
+
+    def has_branches(self, process: Process) -> bool:
+        return any(it.text in ("if", "case", "for", "while") for it in self.tokens[process.first : process.last])
 
     def statement(self, found: Found, condition: str) -> str:
         process, number = found.process, len(self.statements)
@@ -75,9 +80,19 @@ class Telling:
         text = f'$display("{self.mark} {number} %0d %b %m", second_tb.at, !(!{condition}));'
         if not process:
             return f"always @(second_tb.sample) {text}"
-        if is_initial:
-            return f"fork begin @(second_tb.sample); {text} end join_none"
+        if is_initial and process:
+            # at the end of the first step, when all has its first value
+            self.beside(process, f"initial begin @(second_tb.sample); {text} end")
+            return "begin end"
         return text
+
+    def beside(self, process: Process, item: str) -> None:
+        """Puts an item before a process, in the same scope."""
+        start, end = self.tokens[process.first].start, self.tokens[min(process.last, len(self.tokens) - 1)].end
+        if process.is_alone:
+            self.edits.put(start, start, "begin ")
+            self.edits.put(end, end, " end")
+        self.edits.put(start, start, f"{item} ")
 
     def begin(self, number: int) -> None:
         """A process tells that it begins again, as then what it told before is no more so."""

@@ -13,7 +13,7 @@ SCOPE = "second_tb.dut"
 
 def inside(scope: str) -> str:
     """A scope of the simulation as one of the design."""
-    return scope[len(SCOPE) :].lstrip(".").replace("\\", "").replace(" .", ".").strip()
+    return scope[len(SCOPE) + 1 :].replace("\\", "").replace(" .", ".").strip()
 
 
 class Traces:
