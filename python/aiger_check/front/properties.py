@@ -18,6 +18,11 @@ class Property(NamedTuple):
     column: int
 
     @property
+    def number(self) -> str:
+        """What orders the properties of one place, where these have no label."""
+        return self.path[-1] if self.path[-1].startswith(UNNAMED) else ""
+
+    @property
     def cell(self) -> str:
         """The name of its cell once the design is flat."""
         return ".".join(self.path)
@@ -27,6 +32,18 @@ UNNAMED = "aiger_check_unnamed_"
 PROPERTIES = ("$assert", "$assume", "$cover", "$live", "$fair")
 LEFT_OUT = {"$cover": "a cover", "$live": "liveness", "$fair": "fairness"}
 SPELLED = {"$live": "assert", "$fair": "assume"}
+
+
+def renamed(text: str) -> Iterator[str]:
+    """The commands that give a plain name to each property without one, of a design in RTLIL. Yosys numbers cells as
+    they are made, which is the order of the source, and of the indices of a loop."""
+    module = ""
+    for line in text.split("\n"):
+        head = re.fullmatch(r"module (?P<module>\S+)|  cell (?P<kind>\S+) (?P<cell>\$\S*\$(?P<number>\d+))", line)
+        if head and head["module"]:
+            module = head["module"]
+        elif head and head["kind"] in PROPERTIES:
+            yield from (f"cd {module}", f"rename {head['cell']} {UNNAMED}{int(head['number']):010}", "cd")
 
 
 class Range(NamedTuple):

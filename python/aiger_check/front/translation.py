@@ -10,8 +10,8 @@ from aiger_check.front import undefined
 from aiger_check.front.clocks import Clocks
 from aiger_check.front.defines import commands
 from aiger_check.front.drivers import Drivers
-from aiger_check.front.properties import LEFT_OUT, Lost, PROPERTIES, Property, UNNAMED, properties
-from aiger_check.front.undriven import refuse_undeclared, undriven
+from aiger_check.front.properties import LEFT_OUT, Lost, Property, properties, renamed
+from aiger_check.front.undriven import refuse_undeclared, undriven, without_body
 from aiger_check.front.words import Source
 from aiger_check.front.yosys import Yosys, bare, quoted, top_of
 from aiger_check.model.circuit import Model
@@ -98,8 +98,8 @@ class Front:
         self.yosys.do(f"hierarchy -check -top {quoted(self.top)}")
         before = self.yosys.rtlil("read")
         self.yosys.do(
+            *renamed(before),
             "proc",
-            f"rename -enumerate -pattern {UNNAMED}% {' '.join(f't:{kind}' for kind in PROPERTIES)}",
             # Yosys would merge what is equal
             "setattr -set keep 1 t:$assert t:$assume t:$live t:$fair",
         )
@@ -107,6 +107,7 @@ class Front:
         self.refuse_drivers(Drivers(modules, before))
         self.properties = list(properties(modules, top_of(modules), source))
         self.notes += map(visible, Lost(modules, source).notes())
+        self.notes += map(visible, without_body(modules, self.sources))
         left_out = self.left_out({it.kind for it in self.properties})
         for it in self.properties:
             if it.kind in left_out:
@@ -179,7 +180,7 @@ class Front:
 
     def sorted(self, asked: List[Property]) -> List[Property]:
         """Properties in the order of the source. The sort is stable: instances stay as they stand in the design."""
-        return sorted(asked, key=lambda it: (self.sources.order(it.file), it.line, it.column))
+        return sorted(asked, key=lambda it: (self.sources.order(it.file), it.line, it.column, it.number))
 
     def positions(self, *kinds: str) -> List[Dict[str, int]]:
         """Of each kind of cell the property or the constraint that it is, by the cell's name: in a second model of the

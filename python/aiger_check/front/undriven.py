@@ -27,13 +27,13 @@ def refuse_undeclared(said: Sequence[str], sources: Sources) -> None:
 
 def placed(name: str, its: Dict[str, Any], sources: Sources) -> str:
     """A name with its place."""
-    source = re.match(r"(.*?):(\d+)\.", its.get("attributes", {}).get("src", ""))
+    source = re.match(r"(.*?):(\d+)\.", its.get("attributes", {}).get("src", "").split("|")[-1])
     return f"{name} ({sources.users_name(source[1])}:{source[2]})" if source else name
 
 
 def undriven(said: Sequence[str], top: str, module: Dict[str, Any], sources: Sources) -> Iterator[str]:
-    """A note of each net of the flat design that is read and not driven, and of each instance without a body: in the
-    model it may have any value in each step, so what is said never to be reached is so for all of them."""
+    """A note of each net of the flat design that is read and not driven: in the model it may have any value in each
+    step, so what is said never to be reached is so for all of them."""
     bits: Dict[str, List[str]] = {}
     for match in filter(None, map(UNDRIVEN.match, said)):
         if match["module"] == top:
@@ -45,7 +45,11 @@ def undriven(said: Sequence[str], top: str, module: Dict[str, Any], sources: Sou
         more = " and others of its bits" if which and len(its) > 1 else ""
         called = placed(f"{top}.{name}{which}{more}", net, sources)
         yield f"{called} is read and never driven: it may be anything in each step"
-    for name, cell in module["cells"].items():
-        if not cell["type"].startswith("$"):
-            called = placed(f"{top}.{name}", cell, sources)
-            yield f"{called} is of {cell['type']}, a module without a body: its outputs may be anything in each step"
+
+
+def without_body(modules: Dict[str, Any], sources: Sources) -> Iterator[str]:
+    """A note of each module that has none."""
+    for name, module in modules.items():
+        if int(module["attributes"].get("blackbox", "0"), 2):
+            called = placed(f"module {bare(name)}", module, sources)
+            yield f"{called} has no body: the outputs of its instances may be anything in each step"

@@ -86,6 +86,10 @@ class Yosys:
         for line in said:
             match = re.match(r"(?:(.*?):(\d+): )?ERROR: (.*)", line)
             if match:
+                foreign = re.fullmatch(r"Found DPI function \\(.*)\.", match[3])
+                if foreign:
+                    file = self.sources.users_name(match[1])
+                    return f"{file}: {foreign[1]} is imported by DPI, and no function of another language is called"
                 place = f"{self.sources.users_name(match[1])}:{match[2]}: " if match[1] else ""
                 return place + self.sources.with_users_names(match[3])
         self.child.wait()
