@@ -1,8 +1,9 @@
 """By what a design is clocked."""
 
 import re
-from typing import Any, Dict, Iterator, List, Optional, Set, Tuple
+from typing import Any, Dict, Iterator, List, Optional, Sequence, Set, Tuple
 
+from aiger_check.faults import Trouble, visible
 from aiger_check.front.yosys import bare
 
 REGISTERS = {"$dff", "$dffe", "$adff", "$adffe", "$aldff", "$aldffe", "$dffsr", "$dffsre", "$sdff", "$sdffe", "$sdffce"}
@@ -68,6 +69,24 @@ class Clocks:
         clocks, ports = {bit for bit, _ in self.edges}, self.module["ports"]
         bits = [bit for port in ports.values() for bit in port["bits"]]
         return [name for (_, _, name), bit in zip(port_bits(ports), bits) if bit in clocks]
+
+    def refuse_others(self, named: Sequence[str]) -> None:
+        """Refuses a clock that is none of the inputs that are meant to be."""
+        ports, offered = self.module["ports"], ", ".join(named)
+        inputs = {name for direction, _, name in port_bits(ports) if direction == "input"}
+        missing = next((it for it in named if it not in inputs and it not in ports), None)
+        if missing is not None:
+            raise Trouble(visible(f"--clock {missing}: the design has no such input"))
+        allowed = {bit for name in named for bit in self.bits_of(name)}
+        other = sorted({self.name(bit) for bit, _ in self.edges if bit not in allowed})
+        if other:
+            raise Trouble(visible(f"{', '.join(other)} is a clock too, beside what --clock names ({offered})"))
+
+    def bits_of(self, name: str) -> List[Any]:
+        """The bits of an input, or of one bit of it."""
+        ports = self.module["ports"]
+        bits = [bit for port in ports.values() for bit in port["bits"]]
+        return [bit for (_, _, one), bit in zip(port_bits(ports), bits) if name == one or one.startswith(f"{name}[")]
 
     def reason(self) -> Optional[str]:
         """Why the steps are not those of one clock."""

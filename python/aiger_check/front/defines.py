@@ -33,3 +33,23 @@ def tcl_character(code: int) -> str:
     if code > 0xFFFF:
         raise Trouble(f"-D: a value with {visible(chr(code))}")
     return f"\\u{code:04x}"
+
+
+def parameters(given: Sequence[str], top: str) -> List[str]:
+    """The command that sets parameters of the top module."""
+    words = []
+    for name, _, value in (it.partition("=") for it in given):
+        if not re.fullmatch(r"[A-Za-z_][A-Za-z0-9_$]*", name):
+            raise Trouble(f"-P {visible(name)}: not the name of a parameter")
+        words.append(f"-set {name} {of_parameter(name, value)}")
+    return [f"chparam {' '.join(words)} {top}"] if words else []
+
+
+def of_parameter(name: str, value: str) -> str:
+    """A value as Yosys reads it."""
+    if re.fullmatch(r"-?\d{1,10}", value) and -(1 << 31) <= int(value) < 1 << 31:
+        return f"32'sb{int(value) & 0xFFFFFFFF:032b}"
+    if re.fullmatch(r"\d*'[sS]?[bodhBODH][0-9a-fA-F_xXzZ?]+|\"[ !#-\[\]-~]*\"", value):
+        return value
+    wanted = "a number of 32 bits, a number with its width, or a text in double quotes"
+    raise Trouble(f"-P {visible(name)}: {visible(value)} is not {wanted}")

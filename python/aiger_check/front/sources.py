@@ -43,13 +43,14 @@ class Sources:
         include: Sequence[str],
         defines: Sequence[str],
         folder: Path,
-        words: Sequence[str] = (),
+        parameters: Sequence[str] = (),
     ) -> None:
         self.folder, self.searched = folder, [it or "." for it in include]
         self.descriptor = os.open(folder, os.O_RDONLY | os.O_DIRECTORY)
         self.alias = f"/proc/self/fd/{self.descriptor}"
         self.given = list(files)
         self.defines = [(name, value) for name, _, value in (define.partition("=") for define in defines)]
+        self.parameters = list(parameters)
         self.copies: List[Copy] = []
         self.headers: Dict[Tuple[str, str], Copy] = {}
         self.missing: Dict[str, str] = {}
@@ -62,7 +63,7 @@ class Sources:
             # what it includes is added behind it
             self.take(copy)
         self.at_place = {copy.place: copy for copy in self.copies}
-        self.copy_words([*words, *(value for _, value in self.defines)])
+        self.copy_words([*parameters, *(value for _, value in self.defines)])
 
     def close(self) -> None:
         os.close(self.descriptor)

@@ -6,9 +6,8 @@ from typing import Any, Dict, List, Optional, Sequence, Set
 
 from aiger_check.answers import Assertion, Liveness
 from aiger_check.faults import Trouble, visible
-from aiger_check.front import undefined
+from aiger_check.front import defines, undefined
 from aiger_check.front.clocks import Clocks
-from aiger_check.front.defines import commands
 from aiger_check.front.drivers import Drivers
 from aiger_check.front.properties import LEFT_OUT, Lost, Property, properties, renamed
 from aiger_check.front.undriven import refuse_undeclared, undriven, without_body
@@ -22,6 +21,8 @@ class Front:
 
     #: Without -keepdc Yosys might choose first values of uninitialised registers.
     FLAT = (
+        "setattr -mod -unset keep_hierarchy",
+        "flatten",
         "opt_expr -keepdc",
         "opt_clean",
         "check",
@@ -44,8 +45,10 @@ class Front:
         "opt_clean",
     )
 
-    def __init__(self, yosys: Yosys, top: str, keeps_outputs: bool = False) -> None:
+    def __init__(self, yosys: Yosys, top: str, keeps_outputs: bool = False, clocks: Sequence[str] = ()) -> None:
         self.yosys, self.top, self.sources, self.keeps_outputs = yosys, top, yosys.sources, keeps_outputs
+        #: the inputs that are to be the only clocks, if any are named
+        self.named_clocks = list(clocks)
         self.notes: List[str] = []
         #: why the steps are not those of one clock, or that clock
         self.reason: Optional[str] = None
@@ -73,6 +76,8 @@ class Front:
         module = netlist[top_of(netlist)]
         self.notes += map(visible, undriven(self.yosys.said, self.top, module, self.sources))
         clocks = Clocks(module)
+        if self.named_clocks:
+            clocks.refuse_others(self.named_clocks)
         self.reason, self.asynchronous = clocks.reason(), clocks.asynchronous
         self.clock = None if self.reason else clocks.port()
         self.clocks = clocks.inputs()
@@ -95,7 +100,8 @@ class Front:
     def read(self) -> None:
         """Reads the files, and looks at the properties before they are flattened."""
         source = self.read_source()
-        self.yosys.do(f"hierarchy -check -top {quoted(self.top)}")
+        parameters = defines.parameters(self.sources.parameters, quoted(self.top))
+        self.yosys.do(*parameters, f"hierarchy -check -top {quoted(self.top)}")
         before = self.yosys.rtlil("read")
         self.yosys.do(
             *renamed(before),
@@ -118,7 +124,7 @@ class Front:
     def read_source(self) -> Source:
         """Reads the files. What Yosys parses and then forgets is refused."""
         sources, options = self.sources, "-sv -formal -nodpi -ppdump"
-        self.yosys.do(*commands(sources.defines, sources.folder, sources.alias))
+        self.yosys.do(*defines.commands(sources.defines, sources.folder, sources.alias))
         dumps = [f"read{at}.txt" for at in range(len(sources.files))]
         for file, dump in zip(sources.files, dumps):
             self.yosys.do(f"tee -o {sources.alias}/{dump} read_verilog {options} -I{sources.alias} {file}")
@@ -169,7 +175,7 @@ class Front:
         asked = [it for it in self.properties if it.kind in ("$assert", "$live")]
         if sorted([*bad, *live]) != sorted(it.cell for it in asked):
             raise Trouble("which property of the model is which assertion cannot be told")
-        made = []
+        made: List[Assertion] = []
         for it in self.sorted(asked):
             named = f"{self.top}.{it.name}", self.place(it)
             if it.kind == "$live":
@@ -214,8 +220,8 @@ CALLED = {"$assert": "bad state", "$assume": "constraint", "$live": "justice pro
 def told_literals(circuit: Any, kind: str) -> Sequence[int]:
     """The literals that are 1 where the cells of a kind are violated."""
     if kind == "$live":
-        return circuit.justice_literals
-    return circuit.bad if kind == "$assert" else [literal ^ 1 for literal in circuit.constraints]
+        return list(circuit.justice_literals)
+    return list(circuit.bad) if kind == "$assert" else [literal ^ 1 for literal in circuit.constraints]
 
 
 def told_loops(model: Model) -> List[bytes]:

@@ -8,7 +8,7 @@ import secrets
 import signal
 import subprocess
 import threading
-from typing import Any, Dict, List, Sequence
+from typing import IO, Any, Dict, List, Sequence, cast
 
 from aiger_check.faults import Stopped, Trouble, visible
 from aiger_check.front.sources import Sources
@@ -39,7 +39,8 @@ class Yosys:
             # Yosys would take ABC for the path of its own ABC
             env={name: value for name, value in os.environ.items() if name != "ABC"},
         )
-        self.input, self.errors = self.child.stdin, self.child.stderr
+        # both are pipes
+        self.input, self.errors = cast(IO[bytes], self.child.stdin), cast(IO[bytes], self.child.stderr)
         self.late = False
         self.clock = threading.Timer(limit, self.end_late)
         self.clock.daemon = True
@@ -86,6 +87,9 @@ class Yosys:
         for line in said:
             match = re.match(r"(?:(.*?):(\d+): )?ERROR: (.*)", line)
             if match:
+                unknown = re.fullmatch(r"Can't find object for defparam .(.*).!", match[3])
+                if unknown:
+                    return f"-P {unknown[1]}: the top module has no such parameter"
                 foreign = re.fullmatch(r"Found DPI function \\(.*)\.", match[3])
                 if foreign:
                     file = self.sources.users_name(match[1])
@@ -105,7 +109,7 @@ class Yosys:
         """The modules of the design as it is now."""
         self.do(f"write_json {self.sources.alias}/{name}.json")
         with open(self.sources.folder / f"{name}.json", encoding="utf-8", errors="replace") as file:
-            return json.load(file)["modules"]
+            return dict(json.load(file)["modules"])
 
     def rtlil(self, name: str) -> str:
         """The design as it is now in Yosys's own language."""

@@ -294,7 +294,7 @@ def words_beside(room):
     files = {
         "sub/m.sv": 'module m(input [1:0] s); reg [3:0] own [0:3]; initial $readmemh("data/own.hex", own);\n'
         'wire [3:0] word; ram #("other.hex") r(s, word);\nfirst: assert property (own[s] == 1);\n'
-        "other: assert property (word == 2);\nendmodule\n",
+        "second: assert property (word == 2);\nendmodule\n",
         "ram.sv": ram, "sub/data/own.hex": "1 1 1 1\n", "data/own.hex": "3 3 3 3\n",
         "other.hex": "2 2 2 2\n", "default.hex": "4\n",
     }

@@ -92,7 +92,10 @@ class Bench:
             "for (step = 0; step < count; step = step + 1) begin",
             "if (glitches) second_row = second_rows[2 * step + 1];",
             "#1 second_row = second_rows[2 * step];",
-            *(f"force dut.{spelled(self.driven[name])} = second_row[{low} +: {width}];" for name, low, width in self.slices(True)),
+            *(
+                f"force dut.{spelled(self.driven[name])} = second_row[{low} +: {width}];"
+                for name, low, width in self.slices(True)
+            ),
             f"at = {'2 * step + 1' if self.is_global else '2 * step'};",
             "#2 ->sample; #1 is_first = 0; at = 2 * step + 1; #1;",
             "second_clock = 1; #2 second_clock = 0; #1 at = 2 * step + 2; #2;" if self.clock else "#5;",

@@ -13,13 +13,24 @@ from aiger_check.tools.processes import Children, Finished, path_of
 
 #: what a compiled design may call: our own testbench does, and functions of values
 CALLS = {"$display", "$readmemb", "$readmemh", "$dumpfile", "$dumpvars", "$dumplimit", "$value$plusargs"}
-CALLS |= {"$test$plusargs", "$finish", "$clog2", "$countones", "$onehot", "$onehot0", "$isunknown", "$ivlh_attribute_event"}
+CALLS |= {
+    "$test$plusargs",
+    "$finish",
+    "$clog2",
+    "$countones",
+    "$onehot",
+    "$onehot0",
+    "$isunknown",
+    "$ivlh_attribute_event",
+}
 CALLS |= {"$signed", "$unsigned", "$rtoi", "$itor", "$ln", "$log10", "$exp", "$sqrt", "$pow", "$floor", "$ceil"}
 CALLS |= {"$sin", "$cos", "$tan", "$asin", "$acos", "$atan", "$atan2", "$hypot", "$size", "$bits", "$left", "$right"}
 CALLS |= {"$low", "$high", "$increment", "$dimensions", "$unpacked_dimensions"}
 CALLED = re.compile(r'^\s*%vpi_\w+(?:/\w+)?\s[^"\n]*"([^"\n]*)"', re.M)
 #: what is a matter of Icarus, and not of the design
-LIMITS = re.compile(r"sorry:|syntax error|second_past_|second_tb|internal error|assertion failed|not supported|unsupported", re.I)
+LIMITS = re.compile(
+    r"sorry:|syntax error|second_past_|second_tb|internal error|assertion failed|not supported|unsupported", re.I
+)
 
 #: temporary files stand in our folder, and neither memory nor a file is without limit
 LIMITED = 'ulimit -v 4000000; ulimit -f 1000000; TMPDIR=. TMP=. TEMP=. exec "$@"'
@@ -52,7 +63,17 @@ class Icarus:
 
     def compile(self, texts: Texts) -> None:
         """Compiles the testbench and the design, which may call nothing that acts on the machine."""
-        words = [self.program, "-g2012", "-gno-assertions", "-s", "second_tb", "-o", "design.vvp", "bench.sv", "design.sv"]
+        words = [
+            self.program,
+            "-g2012",
+            "-gno-assertions",
+            "-s",
+            "second_tb",
+            "-o",
+            "design.vvp",
+            "bench.sv",
+            "design.sv",
+        ]
         self.need(self.run(words), texts)
         made = (self.folder / "design.vvp").read_text(errors="replace")
         others = set(CALLED.findall(made)) - CALLS

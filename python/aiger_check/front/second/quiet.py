@@ -51,7 +51,11 @@ class Quiet:
                 raise Unable("functions of another language are not simulated")
         for process in Walk(self.tokens).all().processes:
             first, last = process.event
-            if process.word == "always" and last > first and {"*", "(*"} & {it.text for it in self.tokens[first : last + 1]}:
+            if (
+                process.word == "always"
+                and last > first
+                and {"*", "(*"} & {it.text for it in self.tokens[first : last + 1]}
+            ):
                 # a simulator does not begin with always @*
                 self.edits.put(self.tokens[process.first].start, self.tokens[last].end, "always_comb")
         return self.edits.applied()
