@@ -3,7 +3,7 @@
 import enum
 from dataclasses import dataclass
 from pathlib import Path
-from typing import Dict, NamedTuple, Optional, Tuple
+from typing import Dict, NamedTuple, Optional, Sequence, Tuple
 
 from aiger_check.faults import visible
 
@@ -146,8 +146,9 @@ class Verdict:
     refutation: Optional[Path] = None
     invariant: Optional[Path] = None
     kept: Optional[Path] = None
-    #: whether the refutation is one for all bad states at once
+    #: whether the refutation is one for all bad states at once, and which are left out
     of_all: bool = False
+    left_out: Sequence[int] = ()
     #: whether it is one of simplified clauses
     simplified: bool = False
 

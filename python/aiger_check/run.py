@@ -7,7 +7,7 @@ import signal
 from concurrent.futures import ThreadPoolExecutor
 from dataclasses import replace
 from pathlib import Path
-from typing import List, NamedTuple, Optional
+from typing import Dict, List, NamedTuple, Optional
 
 from aiger_check.answers import Assertion, Liveness, Verdict
 from aiger_check.asked import ask
@@ -16,6 +16,7 @@ from aiger_check.keep.keeper import TOGETHER
 from aiger_check.keep.keepers import Keepers
 from aiger_check.programs import Programs
 from aiger_check.report import show
+from aiger_check.search.joint import Joint
 from aiger_check.search.lassos import Lassos
 from aiger_check.search.limits import Tools
 from aiger_check.search.single import Search
@@ -57,11 +58,11 @@ class Run:
         session, keepers = self.session, Keepers(self.given.keep, question, tools.aiger)
         vacuity = Vacuity(question.model, question.live, tools, session.folder, session.progress)
         searches = [self.search(it, question, tools, at) for at, it in enumerate(question.assertions)]
-        of_all = self.ask_together(question, tools, searches)
+        shown = self.ask_together(question, tools, searches)
         with ThreadPoolExecutor(self.given.jobs) as pool:
             try:
                 vacuity.start(pool)
-                for search, found in zip(searches, pool.map(lambda it: self.answer(question, it, of_all), searches)):
+                for search, found in zip(searches, pool.map(lambda it: self.answer(question, it, shown), searches)):
                     verdict = vacuity.applied(search.assertion, found.verdict)
                     self.tell(search, Found(verdict, found.is_replayed), keepers)
             except BaseException:
@@ -74,21 +75,28 @@ class Run:
             return Lassos(assertion, question.live, tools, folder, progress)
         return Search(assertion, question.model, tools, folder, progress)
 
-    def ask_together(self, question: Question, tools: Tools, searches: List[Search]) -> Optional[Verdict]:
-        """Asks of all pairs at once; what came of it is for each."""
-        if not question.sides or not searches:
-            return None
-        folder, progress = self.session.folder / TOGETHER, self.session.progress
-        together = Together(question.sides, question.model, tools, folder, progress)
-        of_all = together.verdict()
-        for search in searches:
-            search.rows, search.halves = together.rows, together.halves
-        return of_all
+    def ask_together(self, question: Question, tools: Tools, searches: List[Search]) -> Dict[int, Verdict]:
+        """Asks of all at once; what came of it is for each, by its bad state."""
+        session, asked = self.session, [it for it in searches if not isinstance(it.assertion, Liveness)]
+        folder, progress = session.folder / TOGETHER, session.progress
+        if question.sides and asked:
+            together = Together(question.sides, question.model, tools, folder, progress)
+            of_all = together.verdict()
+            for search in asked:
+                search.rows, search.halves = together.rows, together.halves
+            return {it.assertion.bad: replace(of_all) for it in asked} if of_all else {}
+        joint = Joint([it.assertion.bad for it in asked], question.model, tools, folder, progress)
+        shown = joint.answers()
+        for search in asked:
+            joint.hand_on(search)
+        return shown
 
-    def answer(self, question: Question, search: Search, of_all: Optional[Verdict]) -> Found:
+    def answer(self, question: Question, search: Search, known: Dict[int, Verdict]) -> Found:
         """The answer for an assertion; a counterexample is replayed on the design."""
-        verdict, shown = replace(of_all) if of_all else search.verdict(), None
-        if verdict.witness and question.replay and not isinstance(search.assertion, Liveness):
+        is_live, shown = isinstance(search.assertion, Liveness), None
+        verdict = None if is_live else known.get(search.assertion.bad)
+        verdict = verdict or search.verdict()
+        if verdict.witness and question.replay and not is_live:
             shown = question.replay.shows(search.assertion, verdict.witness)
         return Found(self.session.doubts.applied(search.assertion, verdict), shown)
 

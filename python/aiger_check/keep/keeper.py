@@ -5,7 +5,7 @@ import os
 import re
 import secrets
 from pathlib import Path
-from typing import Any, List, Set
+from typing import Any, List, Sequence, Set
 
 from aiger_check import PROGRAM
 from aiger_check.answers import Assertion, Verdict
@@ -24,7 +24,8 @@ class Keeper:
 
     def __init__(self, folder: Path, model: Path, aiger: Aiger) -> None:
         self.folder, self.path, self.aiger = folder, model, aiger
-        self.names: Set[str] = set()
+        # no assertion may have the name of what shows all
+        self.names: Set[str] = {TOGETHER}
         self.has_all = False
         #: of each kept model the line that says its digest
         self.digests: List[str] = []
@@ -71,7 +72,8 @@ class Keeper:
             verdict.kept = self.put(f"{name}.aiw", verdict.witness.read_bytes())
         if verdict.refutation:
             proof = self.put_proof(TOGETHER if verdict.of_all else name, verdict, verdict.refutation)
-            asks = self.asks(self.options(proof, assertion, verdict))
+            options = self.options(proof, assertion, verdict)
+            asks = self.asks_of_rest(options, verdict.left_out) if verdict.left_out else self.asks(options)
             self.put_script(name, assertion, verdict, [*asks, f'[ "$answer" = "{verdict.claim()}" ]'])
 
     def put_run(self, name: str, assertion: Assertion, verdict: Verdict, witness: Path) -> None:
@@ -120,3 +122,22 @@ class Keeper:
     def asks(self, options: str) -> List[str]:
         """The lines that get an answer of the model."""
         return [f'answer=$("${{AIGER:-aiger}}" aigunroll {options} {self.model}) || exit 1']
+
+    def asks_of_rest(self, options: str, left_out: Sequence[int]) -> List[str]:
+        """The lines that get an answer of the model without some of its bad states."""
+        return [
+            "aiger=${AIGER:-aiger}",
+            f'answer=$("$aiger" aigtoaig --ascii --strip {self.model} |',
+            f"""  awk -v without=" {' '.join(map(str, left_out))} " '{WITHOUT}' |""",
+            f'  "$aiger" aigunroll {options} -) || exit 1',
+        ]
+
+
+#: for awk: of an ASCII file the header with fewer bad states, and all lines but theirs
+WITHOUT = """\
+NR == 1 {
+    first = 2 + $3 + $4 + $5; last = first + $7
+    for (at = first; at < last; at++) if (index(without, " " (at - first) " ")) $7--
+}
+NR >= first && NR < last && index(without, " " (NR - first) " ") { next }
+{ print }"""

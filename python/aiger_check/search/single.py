@@ -2,6 +2,7 @@
 
 import secrets
 import time
+from dataclasses import replace
 from pathlib import Path
 from typing import Any, Dict, List, Optional, Sequence, Set, Tuple
 
@@ -32,6 +33,8 @@ class Search:
         #: what aiger says of witnesses
         self.steps: Dict[Path, Optional[int]] = {}
         self.refuted = 0
+        #: what is shown of it beside others, where nothing more can be shown of it alone
+        self.bound: Optional[Verdict] = None
         #: the simplified clauses, by name; and the files of which more than half would be left
         self.simplified: Set[str] = set()
         self.not_simple: Set[Path] = set()
@@ -132,7 +135,8 @@ class Search:
 
     def bounded(self, steps: Sequence[int]) -> Optional[Verdict]:
         """Looks for a run that breaks the assertion, of at most so many steps, then of more."""
-        for count in steps if self.tools.solver else ():
+        # what was shown of more is so of fewer
+        for count in (it for it in steps if it > self.refuted) if self.tools.solver else ():
             said, witness = self.within(count)
             if witness:
                 return self.shortest(witness)
@@ -199,6 +203,15 @@ class Search:
     def note_longer(self) -> None:
         self.notes.append(f"{self.assertion}: that no shorter {self.assertion.run} breaks it is not proved")
 
+    def is_plain(self, *options: Any) -> bool:
+        """Whether it is shown without a solver, since the clauses refute themselves."""
+        refutation = self.folder / "never.drat"
+        discard(refutation)
+        refutation.write_bytes(b"")
+        words = (*self.whole.option, *options, "--refutation", refutation, self.whole.path)
+        told = self.tools.aiger.call("aigunroll", *words)
+        return bool(told and (told.status, told.output) == (0, "never\n"))
+
     def is_none_within(self, count: int) -> bool:
         """Whether there is no run of at most so many steps: that is shown of the model."""
         name, options = f"within{count}", ("--frames", count)
@@ -208,6 +221,8 @@ class Search:
         return self.is_shown(f"none within {count}", name, *options)
 
     def none_within(self) -> Optional[Verdict]:
+        if self.bound:
+            return replace(self.bound)
         count, name = self.tools.limits.frames, f"within{self.tools.limits.frames}"
         if self.refuted == count and self.is_none_within(count):
             simplified, refutation = name in self.simplified, self.folder / f"{name}.drat"
@@ -294,6 +309,8 @@ class Search:
         invariant = self.folder / "never.pla"
         invariant.write_text("".join(f"{row} 1\n" for row in rows))
         options = ("--invariant", invariant)
+        if self.is_plain(*options):
+            return Verdict(Answer.NEVER, refutation=self.folder / "never.drat", invariant=invariant)
         if self.ask(self.whole, "never", "an invariant", *options) is not Said.UNSATISFIABLE:
             return None
         if not self.is_shown("never", "never", *options):

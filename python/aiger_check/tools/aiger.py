@@ -1,35 +1,41 @@
 """The program aiger, which alone gives answers, and its library."""
 
-import functools
-import importlib
 import re
-import sys
+import threading
 from pathlib import Path
 from typing import Any, Optional, Tuple
 
-from aiger_check.faults import Trouble
+from aiger_check.tools.calls import finished
+from aiger_check.tools.library import aigtools as aigtools
 from aiger_check.tools.processes import Children, Finished
 
 
-@functools.lru_cache(maxsize=None)
-def aigtools() -> Any:
-    """The module of circuits as arrays, which is loaded where it is needed: --help does not want its library."""
-    sys.dont_write_bytecode = True
-    try:
-        return importlib.import_module("aigtools")
-    except (ImportError, OSError) as why:
-        raise Trouble(f"aigtools cannot be loaded: {why}") from why
-
-
 class Aiger:
-    """The program aiger. What it says alone makes an answer."""
+    """The program aiger, and its library. What it says alone makes an answer."""
 
     def __init__(self, program: str, children: Children, limit: float) -> None:
         self.program, self.children, self.limit = program, children, limit
+        self.lock = threading.Lock()
+        #: whether the library is that of the program
+        self.is_same: Optional[bool] = None
 
     def run(self, command: str, *arguments: Any, folder: Path, output: Optional[Path] = None) -> Finished:
-        words = [self.program, command, *map(str, arguments)]
-        return self.children.run(words, folder, self.limit, output)
+        """Runs the program, or calls its library where that ends soon."""
+        told = None if output else self.call(command, *arguments)
+        return told or self.children.run([self.program, command, *map(str, arguments)], folder, self.limit, output)
+
+    def call(self, command: str, *arguments: Any) -> Optional[Finished]:
+        """Calls the library, where it has the command and that ends soon."""
+        words = list(map(str, arguments))
+        return finished(command, words) if command in CALLED and self.has_library() else None
+
+    def has_library(self) -> bool:
+        """Whether the library is as old as the program that the user named."""
+        with self.lock:
+            if self.is_same is None:
+                told = self.children.run([self.program, "--version"], Path("/"), self.limit)
+                self.is_same = (told.status, told.output) == (0, f"aiger {aigtools().version()}\n")
+        return self.is_same
 
     def to_binary(self, source: Path, destination: Path) -> Optional[str]:
         """Writes a model in binary, or tells why not."""
@@ -59,6 +65,10 @@ class Aiger:
         told = self.run("aigsim", "--witness", model, witness, folder=witness.parent)
         match = re.fullmatch(r"confirmed (\d+)\n", told.output)
         return int(match[1]) if told.status == 0 and match else None
+
+
+#: the commands that are calls too
+CALLED = ("aigsim", "aigunroll")
 
 
 def aiger_failure(told: Finished) -> str:
