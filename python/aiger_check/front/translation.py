@@ -2,7 +2,7 @@
 
 import re
 import secrets
-from typing import Any, Dict, List, Optional, Sequence, Set
+from typing import Dict, List, Optional, Sequence, Set
 
 from aiger_check.answers import Assertion, Liveness
 from aiger_check.faults import Trouble, visible
@@ -10,6 +10,7 @@ from aiger_check.front import defines, undefined
 from aiger_check.front.clocks import Clocks
 from aiger_check.front.drivers import Drivers
 from aiger_check.front.properties import LEFT_OUT, Lost, Property, properties, renamed
+from aiger_check.front.told import told_positions, with_inputs
 from aiger_check.front.undriven import refuse_undeclared, undriven, without_body
 from aiger_check.front.words import Source
 from aiger_check.front.yosys import Yosys, bare, quoted, top_of
@@ -95,7 +96,9 @@ class Front:
         yosys.do("setundef -undriven -anyseq", "opt -noff -keepdc -fast", f"write_rtlil {alias}/prepared.il")
         yosys.do(*self.GATES)
         self.refuse_loops(yosys.do("check"))
-        yosys.do(f"write_aiger -symbols -map {alias}/model.map {alias}/model.aig")
+        # read again, since the model is to have the order of the text, of which another one is made
+        again = (f"write_rtlil {alias}/final.il", "design -reset", f"read_rtlil {alias}/final.il")
+        yosys.do(*again, f"write_aiger -symbols -map {alias}/model.map {alias}/model.aig")
 
     def read(self) -> None:
         """Reads the files, and looks at the properties before they are flattened."""
@@ -189,55 +192,23 @@ class Front:
         return sorted(asked, key=lambda it: (self.sources.order(it.file), it.line, it.column, it.number))
 
     def positions(self, *kinds: str) -> List[Dict[str, int]]:
-        """Of each kind of cell the property or the constraint that it is, by the cell's name: in a second model of the
-        same netlist the value of each is an input by a name of its own, so nothing depends on Yosys's order."""
+        """Of each kind of cell the property or the constraint that it is, by the cell's name: in a second model, of a
+        text with the same cells in the same order, the value of each is an input by a name of its own."""
         modules = self.yosys.netlist("final")
         top = top_of(modules)
         self.ports = modules[top]["ports"]
         cells = [(name, it["type"]) for name, it in modules[top]["cells"].items() if it["type"] in kinds]
         if not cells:
             return [{} for _ in kinds]
-        value = f"aiger_check_{secrets.token_hex(4)}_"
-        commands = [f"cd {quoted(top)}"]
-        for at, (name, _) in enumerate(cells):
-            commands.append(f"add -input {value}{at} 1")
-            commands += [f"connect -nomap -port {quoted(name)} {port}" for port in (f"A {value}{at}", "EN 1'1")]
-        self.yosys.do(*commands, f"write_aiger -symbols {self.sources.alias}/told.aig")
-        told, model = (Model(self.sources.folder / name) for name in ("told.aig", "model.aig"))
-        found = []
-        for kind in kinds:
-            wanted = {f"{value}{at}".encode(): bare(name) for at, (name, its) in enumerate(cells) if its == kind}
-            which = told_loops(told) if kind == "$live" else told_inputs(told.circuit, kind)
-            if sorted(which) != sorted(wanted) or len(which) != len(told_literals(model.circuit, kind)):
-                raise Trouble(f"which {CALLED[kind]} is which cannot be told")
-            found.append({wanted[name]: position for position, name in enumerate(which)})
-        return found
-
-
-CALLED = {"$assert": "bad state", "$assume": "constraint", "$live": "justice property"}
-
-
-def told_literals(circuit: Any, kind: str) -> Sequence[int]:
-    """The literals that are 1 where the cells of a kind are violated."""
-    if kind == "$live":
-        return list(circuit.justice_literals)
-    return list(circuit.bad) if kind == "$assert" else [literal ^ 1 for literal in circuit.constraints]
-
-
-def told_loops(model: Model) -> List[bytes]:
-    """Of each justice property the one input with a name on which it depends, over any number of steps, or nothing."""
-    names = {it.position: it.name for it in model.circuit.symbols if it.kind == "i"}
-    found = []
-    for literal in told_literals(model.circuit, "$live"):
-        needed = model.cone([literal])
-        its = [names[at] for at, it in enumerate(model.circuit.inputs) if needed[it >> 1] and at in names]
-        found.append(its[0] if len(its) == 1 else b"")
-    return found
-
-
-def told_inputs(circuit: Any, kind: str) -> List[bytes]:
-    """Of each of these the name of the input that is its negation, or nothing."""
-    gates = {gate.literal: {gate.left, gate.right} - {1} for gate in circuit.gates}
-    names = {circuit.inputs[it.position]: it.name for it in circuit.symbols if it.kind == "i"}
-    operands = (gates.get(literal, {literal}) for literal in told_literals(circuit, kind))
-    return [names.get(min(it) ^ 1, b"") if len(it) == 1 else b"" for it in operands]
+        value, alias, folder = f"aiger_check_{secrets.token_hex(4)}", self.sources.alias, self.sources.folder
+        text = (folder / "final.il").read_text(encoding="utf-8", errors="surrogateescape")
+        told_text = with_inputs(text, top, [name for name, _ in cells], value)
+        (folder / "told.il").write_text(told_text, encoding="utf-8", errors="surrogateescape")
+        self.yosys.do(
+            "design -push", f"read_rtlil {alias}/told.il", f"write_aiger -symbols {alias}/told.aig", "design -pop"
+        )
+        told, model = (Model(folder / name) for name in ("told.aig", "model.aig"))
+        names = [(f"{value}[{at}]".encode(), bare(name), kind) for at, (name, kind) in enumerate(cells)]
+        return [
+            told_positions(kind, {it: cell for it, cell, its in names if its == kind}, told, model) for kind in kinds
+        ]
