@@ -8,5 +8,6 @@ if not __package__:
     sys.path[0] = str(Path(__file__).resolve().parent.parent)
 
 from aiger_check.cli import main  # pylint: disable=wrong-import-position
+from aiger_check.ending import leave  # pylint: disable=wrong-import-position
 
-sys.exit(main(sys.argv[1:]))
+leave(main(sys.argv[1:]))

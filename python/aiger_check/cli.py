@@ -20,8 +20,8 @@ def main(arguments: Sequence[str]) -> int:
     sys.stderr = sys.stderr or open(os.devnull, "w")
     try:
         for number in SIGNALS:
-            # nohup has the last one ignored; a shell that has none of its jobs interrupted is not asked
-            if number != signal.SIGHUP or signal.getsignal(number) is not signal.SIG_IGN:
+            # nohup has SIGHUP ignored; a shell that has none of its jobs interrupted is not asked
+            if number in (signal.SIGINT, signal.SIGTERM) or signal.getsignal(number) is not signal.SIG_IGN:
                 signal.signal(number, end_by)
         given = parse_arguments(arguments)
         if given.help or given.version:

@@ -1,14 +1,17 @@
 """How a run ends: by itself, or by a signal."""
 
 import argparse
+import contextlib
 import os
 import shutil
 import signal
+import sys
 import tempfile
+import threading
 import time
-from concurrent.futures import Future, ThreadPoolExecutor, wait
+from concurrent.futures import Future, wait
 from pathlib import Path
-from typing import Any, Optional
+from typing import Any, NoReturn, Optional
 
 from aiger_check import PROGRAM
 from aiger_check.run import Run
@@ -38,12 +41,30 @@ class Asked:
         self.number = self.number or number
 
 
-def awaited(running: "Future[Status]", asked: Asked) -> Status:
-    """Waits bit by bit, and looks in between whether a signal came."""
-    while not wait([running], timeout=0.1).done:
-        if asked.number:
-            raise Ended(asked.number)
-    return running.result()
+class Working(threading.Thread):
+    """A run in a thread. The program does not wait for it at its end: it may be held where no signal reaches it, as
+    where it opens a pipe into which nobody writes."""
+
+    #: for how long it is waited for once all programs have been ended
+    GRACE = 5.0
+
+    def __init__(self, run: Run) -> None:
+        super().__init__(daemon=True)
+        self.asked = run
+        self.result: "Future[Status]" = Future()
+
+    def run(self) -> None:
+        try:
+            self.result.set_result(self.asked.status())
+        except BaseException as why:  # pylint: disable=broad-except
+            self.result.set_exception(why)
+
+    def status(self, asked: Asked) -> Status:
+        """Waits bit by bit, and looks in between whether a signal came."""
+        while not wait([self.result], timeout=0.1).done:
+            if asked.number:
+                raise Ended(asked.number)
+        return self.result.result()
 
 
 def remove(folder: Path) -> None:
@@ -63,17 +84,26 @@ def work(given: argparse.Namespace) -> Status:
         if signal.getsignal(number) is end_by:
             signal.signal(number, asked.note)
     folder = Path(tempfile.mkdtemp(prefix=f"{PROGRAM}-")).resolve()
-    with ThreadPoolExecutor(1) as alone:
-        try:
-            running = alone.submit(Run(given, folder, children).status)
-            signal.pthread_sigmask(signal.SIG_UNBLOCK, SIGNALS)
-            return awaited(running, asked)
-        finally:
-            children.stop()
-            alone.shutdown()
-            remove(folder)
-            # as the interpreter ends it lets signals end it, whatever the status is to be
-            signal.pthread_sigmask(signal.SIG_BLOCK, SIGNALS)
+    working = Working(Run(given, folder, children))
+    try:
+        working.start()
+        signal.pthread_sigmask(signal.SIG_UNBLOCK, SIGNALS)
+        return working.status(asked)
+    finally:
+        children.stop()
+        working.join(working.GRACE)
+        remove(folder)
+        # as the interpreter ends it lets signals end it, whatever the status is to be
+        signal.pthread_sigmask(signal.SIG_BLOCK, SIGNALS)
+
+
+def leave(status: int) -> NoReturn:
+    """Ends the program, whatever threads there are: what they wait for may never come."""
+    for stream in (sys.stdout, sys.stderr):
+        with contextlib.suppress(OSError, ValueError):
+            if stream:
+                stream.flush()
+    os._exit(status)
 
 
 def open_descriptors() -> None:

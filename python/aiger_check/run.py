@@ -40,7 +40,7 @@ class Run:
 
     def __init__(self, given: argparse.Namespace, folder: Path, children: Children) -> None:
         self.given, self.session = given, Session(given, folder, children)
-        self.tally = Tally(given.frames, ("pairs", "assumptions") if given.equal else ("assertions",))
+        self.tally = Tally(given.frames, given.equal)
 
     def status(self) -> Status:
         """Checks all assertions, and gives the status of the program."""

@@ -1,8 +1,8 @@
 """The answers of a run, as they are added up and written as an object."""
 
-from typing import Any, Dict, List, NamedTuple, Tuple
+from typing import Any, Dict, List, NamedTuple
 
-from aiger_check.answers import Answer, Assertion, KINDS, Verdict, counted
+from aiger_check.answers import Answer, Assertion, KINDS, Pair, Verdict, counted
 from aiger_check.statuses import Status, status_of
 
 
@@ -24,21 +24,25 @@ class Answered(NamedTuple):
 class Tally:
     """All answers, in the order in which they are said."""
 
-    def __init__(self, frames: int, empty: Tuple[str, ...]) -> None:
-        #: the bound that was asked for, and which lists an object has even where they are empty
-        self.frames, self.empty = frames, empty
+    def __init__(self, frames: int, is_of_two: bool) -> None:
+        self.frames, self.is_of_two = frames, is_of_two
         self.answered: List[Answered] = []
 
     def add(self, assertion: Assertion, verdict: Verdict) -> None:
         self.answered.append(Answered(assertion, verdict))
 
     def status(self) -> Status:
-        """What they come to."""
-        return status_of(self.answered)
+        """What they come to. Assumptions alone are nothing that was compared."""
+        found = status_of(self.answered)
+        return Status.TROUBLE if self.is_nothing_compared() and found is not Status.BROKEN else found
+
+    def is_nothing_compared(self) -> bool:
+        return self.is_of_two and not any(isinstance(it.assertion, Pair) for it in self.answered)
 
     def records(self) -> Dict[str, Any]:
         """What --json says."""
-        found: Dict[str, Any] = {name: [] for name in self.empty}
+        lists = ("pairs", "assumptions") if self.is_of_two else ("assertions",)
+        found: Dict[str, Any] = {name: [] for name in lists}
         for it in self.answered:
             found.setdefault(it.assertion.listed, []).append(it.record())
         return found
@@ -46,10 +50,11 @@ class Tally:
     def summary(self) -> str:
         """How many there are of each kind, and how many of these have each answer."""
         of_kind = {kind: [it for it in self.answered if type(it.assertion) is kind] for kind in KINDS}
-        sums = [self.sum_of(kind, its) for kind, its in of_kind.items() if its]
-        return "; ".join(sums) or counted(0, self.empty[0].rstrip("s"))
+        sums = ["0 pairs"] if self.is_nothing_compared() else []
+        sums += [self.sum_of(its) for its in of_kind.values() if its]
+        return "; ".join(sums) or "0 assertions"
 
-    def sum_of(self, kind: type, its: List[Answered]) -> str:
+    def sum_of(self, its: List[Answered]) -> str:
         counts = []
         for answer in Answer:
             count = sum(it.verdict.answer is answer for it in its)

@@ -14,6 +14,8 @@ from aiger_check.tools.aiger import Aiger, aiger_failure
 
 #: what the files are called that show the answers of all pairs at once
 TOGETHER = "together"
+#: how the names of the files end that show an answer
+SUFFIXES = (".aiw", ".vcd", ".stimulus", ".drat", ".pla", ".check.sh")
 
 
 class Keeper:
@@ -65,8 +67,18 @@ class Keeper:
         self.names.add(name.lower())
         return name
 
+    def remove(self, name: str) -> None:
+        """Removes what an earlier run kept by a name, so that no proof of another answer stands there."""
+        for suffix in SUFFIXES:
+            place = self.folder / f"{name}{suffix}"
+            try:
+                place.unlink(missing_ok=True)
+            except OSError as why:
+                raise Trouble(f"{visible(str(place))}: {why.strerror}") from why
+
     def keep(self, assertion: Assertion, verdict: Verdict) -> None:
         name = self.name(assertion)
+        self.remove(name)
         if verdict.witness:
             self.put_run(name, assertion, verdict, verdict.witness)
             verdict.kept = self.put(f"{name}.aiw", verdict.witness.read_bytes())

@@ -21,6 +21,7 @@ class KeeperOfTwo(Keeper):
         self.sides = sides
         # no pair may have the name of what shows all
         self.names.add(TOGETHER)
+        self.remove(TOGETHER)
         self.digests.clear()
         self.two = [self.put_model("first", sides.first.path), self.put_model("second", sides.second.path)]
 

@@ -13,8 +13,12 @@ from typing import Any, Optional, Sequence, Set
 
 from aiger_check.faults import Stopped, Trouble
 
-#: what asks a run to end
-SIGNALS = (signal.SIGINT, signal.SIGTERM, signal.SIGHUP)
+#: what asks a run to end: all signals that end a program unless it takes them, but those of its own faults
+SIGNALS = tuple(
+    getattr(signal, f"SIG{name}")
+    for name in "INT TERM HUP QUIT ALRM VTALRM PROF USR1 USR2 XCPU POLL PWR STKFLT".split()
+    if hasattr(signal, f"SIG{name}")
+)
 
 
 @dataclass(frozen=True)

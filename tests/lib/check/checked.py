@@ -194,7 +194,9 @@ def of_lines(said):
 def of_json(said):
     """The answers of the one object."""
     try:
-        found = json.loads(said.out)["assertions"]
+        object_ = json.loads(said.out)
+        need(set(object_) == {"assertions", "notes"}, "another object", said)
+        found = object_["assertions"]
         for it in found:
             kinds = LIVE_KINDS if it.pop("kind", "safety") == "liveness" else KINDS
             need(it["answer"] in kinds, f"{it} is an answer of another kind", said)

@@ -83,7 +83,7 @@ def of_json(said):
     """The answers of the one object, named as the lines do."""
     try:
         object_ = json.loads(said.out)
-        checked.need(set(object_) == {"pairs", "assumptions"}, "another object", said)
+        checked.need(set(object_) == {"pairs", "assumptions", "notes"}, "another object", said)
         words = {"equal": "equal", "equal for": "equal for", "differs": "differs at"}
         assumed = {"holds": "holds", "holds for": "holds for", "fails": "fails at"}
         found = []

@@ -10,6 +10,10 @@ from lib.check import checked, design_rows, designs, model_rows, stand_ins
 from lib.check.model_rows import LATE, TOKENS
 
 STATUSES = {signal.SIGINT: 130, signal.SIGTERM: 143}
+# they end a program that does not take them
+OTHERS = [signal.SIGHUP, signal.SIGXCPU, signal.SIGALRM, signal.SIGUSR1, signal.SIGUSR2, signal.SIGQUIT]
+OTHERS += [signal.SIGVTALRM, signal.SIGPROF, signal.SIGPOLL, signal.SIGPWR]
+TOOLS = ("YOSYS", "ABC", "SOLVER", "AIGER")
 
 
 def wait_for(holds, run, longest=120):
@@ -54,9 +58,24 @@ def of_tool(name, number, is_group, count, keeps, room):
             (os.killpg if is_group else os.kill)(run.pid, number)
             time.sleep(0.01)
     said = room.end(run, tuple(words), before)
-    checked.need(said.status == STATUSES[number], f"status {STATUSES[number]} is due", said)
+    checked.need(said.status == 128 + number, f"status {128 + number} is due", said)
     checked.need("reached" not in said.out and "never" not in said.out, "an answer", said)
     stand_ins.need_ended(begun, said)
+
+
+def behind_pipe(numbers, room):
+    """The signals come, one after another, while a pipe is waited for, into which nobody writes; SIGPIPE ends nothing."""
+    changes = model_rows.honest(room)
+    os.mkfifo(room.here / "pipe")
+    before = room.files()
+    run = room.start("pipe", changes=changes, start_new_session=True)
+    wait_for(lambda: any(room.temporary.iterdir()), run)
+    for number in numbers:
+        time.sleep(0.3)
+        checked.need(run.poll() is None, "it ended before", run.args)
+        os.kill(run.pid, number)
+    said = room.end(run, ("pipe",), before)
+    checked.need(said.status == 128 + numbers[-1], f"status {128 + numbers[-1]} is due", said)
 
 
 def at_some_moment(part, room):
@@ -105,7 +124,13 @@ def ignored(room):
 
 def rows():
     each = functools.partial
-    for name in ("YOSYS", "ABC", "SOLVER", "AIGER"):
+    for at, number in enumerate(OTHERS):
+        for keeps, name in ((False, TOOLS[at % 4]), (True, TOOLS[(at + 1) % 4])):
+            yield f"{number.name} while {name} runs, keeps: {keeps}", each(of_tool, name, number, keeps, 1, keeps)
+    for number in (*STATUSES, *OTHERS[:4]):
+        yield f"{number.name} behind a pipe", each(behind_pipe, [number])
+    yield "SIGPIPE and SIGTERM behind a pipe", each(behind_pipe, [signal.SIGPIPE, signal.SIGTERM])
+    for name in TOOLS:
         for number in STATUSES:
             for is_group in (False, True):
                 whom = "all" if is_group else "it"
