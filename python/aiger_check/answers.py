@@ -131,6 +131,9 @@ class Assumption(Assertion):
         return f"assumption-{self.name}"
 
 
+#: why nothing is said of what the time for the whole did not suffice for
+NO_TIME = "no time left"
+
 #: in the order in which they are added up
 KINDS = (Assertion, Liveness, Pair, Assumption)
 

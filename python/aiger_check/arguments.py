@@ -8,6 +8,8 @@ from typing import Any, List, NoReturn, Sequence
 
 from aiger_check import PROGRAM
 from aiger_check.faults import Usage, visible
+from aiger_check.lists import FileList, read_list
+from aiger_check.statuses import OUTCOMES
 
 
 class Parser(argparse.ArgumentParser):
@@ -30,6 +32,14 @@ def seconds(text: str) -> float:
     return float(text)
 
 
+def outcomes(text: str) -> List[str]:
+    """What --expect has."""
+    other = next((it for it in text.split(",") if it not in OUTCOMES), None)
+    if other is not None:
+        raise argparse.ArgumentTypeError(f"not one of {', '.join(OUTCOMES)}: {other!r}")
+    return text.split(",")
+
+
 def parse_arguments(arguments: Sequence[str]) -> argparse.Namespace:
     parser = Parser(prog=PROGRAM, add_help=False, allow_abbrev=False)
     parser.add_argument("--equal", action="store_true")
@@ -41,6 +51,10 @@ def parse_arguments(arguments: Sequence[str]) -> argparse.Namespace:
     parser.add_argument("--frames", type=at_least(1), default=50)
     parser.add_argument("--time", type=seconds, default=30.0)
     parser.add_argument("--limit", type=seconds, default=300.0)
+    parser.add_argument("--timeout", type=seconds)
+    parser.add_argument("--clock", dest="clocks", action="append", default=[], metavar="NAME")
+    parser.add_argument("--expect", type=outcomes, default=(), metavar="OUTCOME[,OUTCOME]..")
+    parser.add_argument("--junit", metavar="FILE")
     parser.add_argument("--jobs", type=at_least(1, 1000), default=len(os.sched_getaffinity(0)))
     parser.add_argument("-s", "--solver")
     parser.add_argument("--keep")
@@ -51,15 +65,35 @@ def parse_arguments(arguments: Sequence[str]) -> argparse.Namespace:
     parser.add_argument("files", nargs="*")
     # argparse would take what follows -- for options too
     end = arguments.index("--") if "--" in arguments else len(arguments)
-    given = parser.parse_intermixed_args(arguments[:end])
+    given = parser.parse_intermixed_args(with_marks(arguments[:end]))
     given.files += arguments[end + 1 :]
     return given
 
 
-SUFFIXES = (".v", ".sv", ".vh", ".svh")
+#: before the name of a list that stands among the files: no word of a command line has it
+MARK = "\0"
+
+
+def with_marks(arguments: Sequence[str]) -> List[str]:
+    """The command line, in which each list, as -f NAME, is one word among the files: so they keep their order."""
+    made, words = [], iter(arguments)
+    for word in words:
+        if not re.match(r"-[fF]", word):
+            made.append(word)
+            continue
+        name = word[2:] or next(words, "")
+        if not name:
+            raise Usage(f"{word} needs the name of a list of files")
+        made.append(f"{MARK}{word[1]}{name}")
+    return made
+
+
+SUFFIXES = (".v", ".sv", ".vh", ".svh", ".vhd", ".vhdl")
+SPELLED = ".v, .sv, .vh, .svh, .vhd or .vhdl"
 
 
 def is_verilog(name: str) -> bool:
+    """Whether a file is one of a design that Yosys translates, or ghdl before it."""
     return name.lower().endswith(SUFFIXES)
 
 
@@ -76,33 +110,54 @@ def check_arguments(given: argparse.Namespace) -> argparse.Namespace:
     """The command line, where it can be meant."""
     if not given.files:
         raise Usage("no file is given")
-    if given.keep == "":
-        raise Usage("--keep needs the name of a folder")
-    words = [files_of(word) for word in given.files] if given.equal else [given.files]
-    given.verilog = any(is_verilog(name) for files in words for name in files)
+    for name in ("keep", "junit"):
+        if getattr(given, name) == "":
+            raise Usage(f"--{name} needs a name")
+    given.words = given.files
+    words = [files_of(word, given) for word in given.words]
+    given.files = [name for files in words for name in files]
+    if not given.files:
+        raise Usage("no file is given, and none stands in a list")
+    given.verilog = any(map(is_verilog, given.files))
     if given.by_name and not given.equal:
         raise Usage("--by-name is for --equal")
     if given.verilog:
-        check_verilog_arguments(given, [name for files in words for name in files])
-    elif given.tops or given.defines or given.include:
-        raise Usage("--top, -D and -I are for Verilog files: .v, .sv, .vh or .svh")
-    elif not given.equal and len(given.files) > 1:
-        raise Usage("one AIGER model at a time; Verilog files end in .v, .sv, .vh or .svh")
+        check_verilog_arguments(given)
+    else:
+        check_model_arguments(given)
     if given.equal:
-        given.designs = two_designs(given, words if given.verilog else [[word] for word in given.files])
+        given.designs = two_designs(given, words)
     elif len(given.tops) > 1:
         raise Usage("--top is given twice, which is for --equal")
     return given
 
 
-def files_of(word: str) -> List[str]:
-    """The files of a design: one, or several with commas between."""
-    return [word] if os.path.exists(word) else word.split(",")
+def files_of(word: str, given: argparse.Namespace) -> List[str]:
+    """The files of a word: one, those of a list, or with --equal several with commas between."""
+    if word.startswith(MARK):
+        return files_of_list(read_list(word[2:], word[1] == "F"), given)
+    return [word] if not given.equal or os.path.exists(word) else word.split(",")
+
+
+def files_of_list(found: FileList, given: argparse.Namespace) -> List[str]:
+    """The files of a list; what else it has is as if it stood on the command line."""
+    if given.equal and (found.include or found.defines):
+        raise Usage("what a list has of +incdir+ and +define+ would be for both designs: give -I and -D")
+    given.include += found.include
+    given.defines += found.defines
+    return found.files
+
+
+def called_as(word: str) -> str:
+    """What a design is called whose files are those of a word."""
+    return word[2:] if word.startswith(MARK) else word
 
 
 def two_designs(given: argparse.Namespace, words: List[List[str]]) -> List[Design]:
     """The two designs that are compared; one word is both where two tops are named."""
-    tops, called = given.tops or [""], list(given.files)
+    tops, called = given.tops or [""], [called_as(word) for word in given.words]
+    if not given.verilog:
+        words = [[name] for name in called]
     if len(words) == 1 and len(tops) == 2:
         words, called = 2 * words, 2 * called
     if len(words) != 2 or len(tops) > 2:
@@ -113,15 +168,35 @@ def two_designs(given: argparse.Namespace, words: List[List[str]]) -> List[Desig
     return [Design(*of) for of in zip(called, words, [tops[0], tops[-1]])]
 
 
-def check_verilog_arguments(given: argparse.Namespace, names: List[str]) -> None:
+def check_model_arguments(given: argparse.Namespace) -> None:
+    """What is said of AIGER files."""
+    if given.tops or given.defines or given.include or given.parameters or given.clocks:
+        raise Usage(f"--top, -D, -I, -P and --clock are for Verilog and VHDL files: {SPELLED}")
+    if any(word.startswith(MARK) for word in given.words):
+        raise Usage(f"-f and -F are for lists of Verilog and VHDL files: {SPELLED}")
+    if not given.equal and len(given.files) > 1:
+        raise Usage(f"one AIGER model at a time; files of a design end in {SPELLED}")
+
+
+#: of options that are repeated what each has, and in words
+FORMS = (
+    ("-D", "defines", r"[A-Za-z_][A-Za-z0-9_$]*(=[^\n\r]*)?", "NAME or NAME=VALUE"),
+    ("-P", "parameters", r"[A-Za-z_][A-Za-z0-9_$]*=[^\n\r]+", "NAME=VALUE"),
+    ("--clock", "clocks", r"[^\s;\"'#\\]+", "the name of a clock"),
+)
+
+
+def check_verilog_arguments(given: argparse.Namespace) -> None:
+    """What is said of files of a design."""
     if not given.tops:
-        raise Usage("--top NAME is needed with Verilog files")
-    other = next((name for name in names if not is_verilog(name)), None)
+        raise Usage("--top NAME is needed with Verilog and VHDL files")
+    other = next((name for name in given.files if not is_verilog(name)), None)
     if other is not None:
-        raise Usage(f"not a Verilog file (.v, .sv, .vh or .svh): {visible(other)}")
+        raise Usage(f"not a Verilog or VHDL file ({SPELLED}): {visible(other)}")
     for top in given.tops:
         if not re.fullmatch(r"[^\s;\"'#\\$][^\s;\"#]*", top):
             raise Usage(f"not the name of a module: {visible(top)}")
-    for define in given.defines:
-        if not re.fullmatch(r"[A-Za-z_][A-Za-z0-9_$]*(=[^\n\r]*)?", define):
-            raise Usage(f"not NAME or NAME=VALUE: -D {visible(define)}")
+    for option, name, form, words in FORMS:
+        for text in getattr(given, name):
+            if not re.fullmatch(form, text):
+                raise Usage(f"not {words}: {option} {visible(text)}")

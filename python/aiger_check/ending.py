@@ -14,6 +14,7 @@ from pathlib import Path
 from typing import Any, NoReturn, Optional
 
 from aiger_check import PROGRAM
+from aiger_check.faults import Late
 from aiger_check.run import Run
 from aiger_check.statuses import Status
 from aiger_check.tools.processes import Children, SIGNALS
@@ -64,6 +65,8 @@ class Working(threading.Thread):
         while not wait([self.result], timeout=0.1).done:
             if asked.number:
                 raise Ended(asked.number)
+            if self.asked.is_overdue:
+                raise Late("no time left, and what is made in memory does not end")
         return self.result.result()
 
 

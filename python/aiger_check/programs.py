@@ -8,7 +8,7 @@ from aiger_check.search.limits import Limits, Tools
 from aiger_check.session import Session
 from aiger_check.tools.abc import Abc
 from aiger_check.tools.aiger import Aiger
-from aiger_check.tools.processes import path_of
+from aiger_check.tools.processes import Children, path_of
 from aiger_check.tools.solvers import NO_REFUTATION, SOLVERS, Solver, solver_kind
 
 
@@ -21,7 +21,7 @@ class Programs:
     def tools(self) -> Tools:
         """What the searches ask."""
         given = self.given
-        aiger, solver, abc = self.aiger(), self.solver(), self.abc()
+        aiger, solver, abc = self.aiger(self.children), self.solver(), self.abc()
         if not solver and not abc:
             raise Trouble("neither a SAT solver nor ABC was found")
         return Tools(aiger, solver, abc, Limits(given.frames, given.time, given.limit))
@@ -38,8 +38,8 @@ class Programs:
             raise Trouble(f"not found: {visible(os.environ.get(variable) or name)}")
         return program
 
-    def aiger(self) -> Aiger:
-        return Aiger(self.needed("AIGER", "aiger"), self.children, max(self.given.limit, 60.0))
+    def aiger(self, children: Children) -> Aiger:
+        return Aiger(self.needed("AIGER", "aiger"), children, max(self.given.limit, 60.0))
 
     def yosys(self) -> str:
         return self.needed("YOSYS", "yosys")

@@ -4,16 +4,20 @@ import argparse
 import json
 import shutil
 import signal
+import time
 from concurrent.futures import ThreadPoolExecutor
 from dataclasses import replace
 from pathlib import Path
 from typing import Dict, List, NamedTuple, Optional
 
-from aiger_check.answers import Assertion, Liveness, Verdict
+from aiger_check.answers import Answer, Assertion, Liveness, NO_TIME, Verdict
 from aiger_check.asked import ask
 from aiger_check.asked.question import Question
+from aiger_check.faults import Trouble
+from aiger_check.junit import Suite, report
 from aiger_check.keep.keeper import TOGETHER
 from aiger_check.keep.keepers import Keepers
+from aiger_check.keep.whole import put_whole
 from aiger_check.programs import Programs
 from aiger_check.report import show
 from aiger_check.search.joint import Joint
@@ -26,6 +30,9 @@ from aiger_check.session import Session
 from aiger_check.statuses import Status
 from aiger_check.tallies import Tally
 from aiger_check.tools.processes import Children, SIGNALS
+
+
+LATE = Verdict(Answer.UNKNOWN, reason=NO_TIME)
 
 
 class Found(NamedTuple):
@@ -46,25 +53,49 @@ class Run:
         """Checks all assertions, and gives the status of the program."""
         # what is blocked here would be in the programs that are started
         signal.pthread_sigmask(signal.SIG_UNBLOCK, SIGNALS)
-        programs = Programs(self.session)
-        tools = programs.tools()
-        question = ask(self.session, programs, tools.aiger)
-        self.answer_all(question, tools)
-        self.show_all()
-        return self.tally.status()
+        self.session.start()
+        try:
+            status = self.checked()
+        except (Trouble, OSError) as why:
+            self.write_report(Status.TROUBLE, str(why))
+            raise
+        self.write_report(status)
+        return status
 
-    def answer_all(self, question: Question, tools: Tools) -> None:
+    @property
+    def is_overdue(self) -> bool:
+        return self.session.is_overdue
+
+    def checked(self) -> Status:
+        session, programs = self.session, Programs(self.session)
+        tools = programs.tools()
+        question = session.in_time(lambda: ask(session, programs, tools.aiger), None)
+        if question:
+            keepers = Keepers(self.given.keep, question, programs.aiger(session.keeping))
+            self.answer_all(question, tools, keepers)
+        else:
+            session.notes.warn(f"{NO_TIME} once the model was asked for")
+        self.show_all()
+        return self.tally.status() if question else Status.TIMEOUT
+
+    def write_report(self, status: Status, trouble: Optional[str] = None) -> None:
+        """Writes the report of JUnit, if one is wanted."""
+        if self.given.junit:
+            name = ",".join(self.given.tops or self.given.files)
+            suite = Suite(name, time.monotonic() - self.session.begun, self.session.notes.all, trouble)
+            put_whole(Path(self.given.junit), report(suite, self.tally.answered, status))
+
+    def answer_all(self, question: Question, tools: Tools, keepers: Keepers) -> None:
         """Answers all assertions, side by side, and says each in its turn."""
-        session, keepers = self.session, Keepers(self.given.keep, question, tools.aiger)
+        session = self.session
         vacuity = Vacuity(question.model, question.live, tools, session.folder, session.progress)
         searches = [self.search(it, question, tools, at) for at, it in enumerate(question.assertions)]
-        shown = self.ask_together(question, tools, searches)
+        known: Dict[int, Verdict] = session.in_time(lambda: self.ask_together(question, tools, searches), {})
         with ThreadPoolExecutor(self.given.jobs) as pool:
             try:
                 vacuity.start(pool)
-                for search, found in zip(searches, pool.map(lambda it: self.answer(question, it, shown), searches)):
-                    verdict = vacuity.applied(search.assertion, found.verdict)
-                    self.tell(search, Found(verdict, found.is_replayed), keepers)
+                for search, found in zip(searches, pool.map(lambda it: self.answer(question, it, known), searches)):
+                    self.tell(search, self.judged(vacuity, search.assertion, found), keepers)
             except BaseException:
                 session.children.stop()
                 raise
@@ -93,12 +124,22 @@ class Run:
 
     def answer(self, question: Question, search: Search, known: Dict[int, Verdict]) -> Found:
         """The answer for an assertion; a counterexample is replayed on the design."""
-        is_live, shown = isinstance(search.assertion, Liveness), None
-        verdict = None if is_live else known.get(search.assertion.bad)
-        verdict = verdict or search.verdict()
-        if verdict.witness and question.replay and not is_live:
-            shown = question.replay.shows(search.assertion, verdict.witness)
-        return Found(self.session.doubts.applied(search.assertion, verdict), shown)
+        session, assertion = self.session, search.assertion
+        verdict = None if isinstance(assertion, Liveness) else known.get(assertion.bad)
+        verdict = verdict or session.in_time(search.verdict, LATE)
+        shown = session.in_time(lambda: self.replayed(question, assertion, verdict), None)
+        return Found(session.doubts.applied(assertion, verdict), shown)
+
+    def replayed(self, question: Question, assertion: Assertion, verdict: Verdict) -> Optional[bool]:
+        """Whether an assertion fails on the design too, where that can be tried."""
+        replay, witness = question.replay, verdict.witness
+        if not replay or not witness or isinstance(assertion, Liveness):
+            return None
+        return replay.shows(assertion, witness)
+
+    def judged(self, vacuity: Vacuity, assertion: Assertion, found: Found) -> Found:
+        """The answer, if what is assumed can be kept."""
+        return Found(self.session.in_time(lambda: vacuity.applied(assertion, found.verdict), LATE), found.is_replayed)
 
     def tell(self, search: Search, found: Found, keepers: Keepers) -> None:
         """Says an answer, and keeps what shows it."""

@@ -1,9 +1,9 @@
 """With what status the program ends."""
 
 import enum
-from typing import Iterable, Tuple
+from typing import Iterable, Sequence, Tuple
 
-from aiger_check.answers import Answer, Assertion, Verdict
+from aiger_check.answers import Answer, Assertion, NO_TIME, Verdict
 
 
 class Status(enum.IntEnum):
@@ -18,6 +18,31 @@ class Status(enum.IntEnum):
     TROUBLE = 16
 
 
+#: what --expect calls these, as SymbiYosys does
+OUTCOMES = {
+    "pass": Status.KEPT,
+    "fail": Status.BROKEN,
+    "unknown": Status.UNKNOWN,
+    "timeout": Status.TIMEOUT,
+    "error": Status.TROUBLE,
+    "vacuous": Status.VACUOUS,
+}
+
+
+def outcome_of(status: Status) -> str:
+    """The word for a status."""
+    return next(word for word, it in OUTCOMES.items() if it is status)
+
+
+def expected(status: Status, outcomes: Sequence[str]) -> Status:
+    """The status where one of these outcomes is expected: one of its own where that is not what comes."""
+    if not outcomes:
+        return status
+    if any(OUTCOMES[it] is status for it in outcomes):
+        return Status.KEPT
+    return Status.BROKEN if status is Status.KEPT else status
+
+
 #: what one answer comes to, where it is not that something is kept
 OF_ANSWER = {Answer.REACHED: Status.BROKEN, Answer.UNKNOWN: Status.UNKNOWN, Answer.VACUOUS: Status.VACUOUS}
 #: the first of these that there is makes the status of all
@@ -26,6 +51,8 @@ FIRST = (Status.BROKEN, Status.TIMEOUT, Status.UNKNOWN, Status.VACUOUS, Status.K
 
 def status_of_one(assertion: Assertion, verdict: Verdict) -> Status:
     """What one answer comes to."""
+    if verdict.answer is Answer.UNKNOWN and verdict.reason == NO_TIME:
+        return Status.TIMEOUT
     return OF_ANSWER.get(verdict.answer, Status.KEPT)
 
 

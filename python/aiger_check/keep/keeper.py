@@ -1,15 +1,13 @@
 """What is kept of answers."""
 
 import hashlib
-import os
 import re
-import secrets
 from pathlib import Path
 from typing import Any, List, Sequence, Set
 
-from aiger_check import PROGRAM
 from aiger_check.answers import Assertion, Verdict
 from aiger_check.faults import Trouble, visible
+from aiger_check.keep.whole import put_whole
 from aiger_check.tools.aiger import Aiger, aiger_failure
 
 #: what the files are called that show the answers of all pairs at once
@@ -44,18 +42,7 @@ class Keeper:
         return kept
 
     def put(self, name: str, data: bytes, mode: int = 0o666) -> Path:
-        """Writes a file beside its place, and renames it into that."""
-        place, fresh = self.folder / name, self.folder / f".{PROGRAM}-{secrets.token_hex(8)}"
-        try:
-            try:
-                with open(os.open(fresh, os.O_WRONLY | os.O_CREAT | os.O_EXCL, mode), "wb") as file:
-                    file.write(data)
-                os.replace(fresh, place)
-            finally:
-                fresh.unlink(missing_ok=True)
-        except OSError as why:
-            raise Trouble(f"{visible(str(place))}: {why.strerror}") from why
-        return place
+        return put_whole(self.folder / name, data, mode)
 
     def name(self, assertion: Assertion) -> str:
         """A name for the files of an assertion, which no other has."""

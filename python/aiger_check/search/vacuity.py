@@ -8,6 +8,7 @@ from typing import Any, Dict, Optional, Sequence
 
 from aiger_check.answers import Answer, Assertion, Liveness, Verdict
 from aiger_check.doubts import KEPT
+from aiger_check.faults import Stopped
 from aiger_check.model.circuit import Model, without_justice
 from aiger_check.model.kept import held, in_step, states_of, with_held_inputs
 from aiger_check.model.part import Assumed
@@ -72,7 +73,7 @@ class Keeping:
         self.source, self.is_fair = model, bool(fairness)
         self.fairness = fairness
         self.lock = threading.Lock()
-        self.asked = False
+        self.asked = self.is_broken_off = False
         #: why no answer that something is kept for ever, or within the bound, says anything
         self.never: Optional[str] = None
         self.within: Optional[str] = None
@@ -80,9 +81,12 @@ class Keeping:
     def reason(self, answer: Answer) -> Optional[str]:
         """Why this answer says nothing, if so."""
         with self.lock:
+            if self.is_broken_off:
+                raise Stopped
             if not self.asked:
+                self.is_broken_off = True
                 self.find()
-                self.asked = True
+                self.is_broken_off, self.asked = False, True
         return self.never if answer is Answer.NEVER else self.within
 
     def find(self) -> None:

@@ -9,7 +9,7 @@ import threading
 import time
 from dataclasses import dataclass
 from pathlib import Path
-from typing import Any, Optional, Sequence, Set
+from typing import Any, List, Optional, Sequence, Set
 
 from aiger_check.faults import Stopped, Trouble
 
@@ -38,7 +38,13 @@ class Children:
     def __init__(self) -> None:
         self.lock = threading.Lock()
         self.running: Set[subprocess.Popen] = set()
+        self.parts: List["Children"] = []
         self.stopped = False
+
+    def part(self) -> "Children":
+        """Others, which are stopped with these, or before."""
+        self.parts.append(Children())
+        return self.parts[-1]
 
     def start(self, arguments: Sequence[str], **others: Any) -> subprocess.Popen:
         with self.lock:
@@ -61,6 +67,8 @@ class Children:
 
     def stop(self) -> None:
         """Ends all, and lets none start."""
+        for part in self.parts:
+            part.stop()
         with self.lock:
             self.stopped = True
             for child in self.running:

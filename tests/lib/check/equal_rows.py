@@ -314,7 +314,7 @@ USAGE = {
     "no model": (["--equal"], ["no file"]),
     "--by-name alone": (["--by-name", "old"], ["--by-name"]),
     "a top for models": (["--equal", "--top", "m", "old", "new"], ["--top"]),
-    "a model and a design": (["--equal", "--top", "m", "old", "m.sv"], ["not a Verilog file"]),
+    "a model and a design": (["--equal", "--top", "m", "old", "m.sv"], ["not a Verilog or VHDL file"]),
     "designs without a top": (["--equal", "m.sv", "m.sv"], ["--top"]),
     "one design with one top": (["--equal", "--top", "m", "m.sv"], ["two designs", "twice"]),
     "three tops": (["--equal", "--top", "m", "--top", "n", "--top", "m", "m.sv"], ["two designs"]),
