@@ -65,7 +65,10 @@ def parse_arguments(arguments: Sequence[str]) -> argparse.Namespace:
     parser.add_argument("files", nargs="*")
     # argparse would take what follows -- for options too
     end = arguments.index("--") if "--" in arguments else len(arguments)
-    given = parser.parse_intermixed_args(with_marks(arguments[:end]))
+    words = with_marks(arguments[:end])
+    given = parser.parse_intermixed_args(words)
+    if sum(word.startswith(MARK) for word in words) != sum(word.startswith(MARK) for word in given.files):
+        raise Usage("-f or -F stands where another option needs a value")
     given.files += arguments[end + 1 :]
     return given
 

@@ -29,6 +29,7 @@ KINDS = ["never", "none within", "reached", "vacuous", "unknown"]
 LIVE_KINDS = ["holds", "no lasso within", "lasso", "vacuous", "unknown"]
 SUM = re.compile(r"(\d+) (liveness )?assertions?(?:: (.*))?")
 KEPT_FILE = re.compile(r"(model|live)-[0-9a-f]+\.aig|.+\.(aiw|vcd|drat|pla|check\.sh)")
+KEPT_OF_ONE = (".aiw", ".vcd", ".stimulus", ".drat", ".pla", ".check.sh")
 EXACT, BOUNDED, SAFE = "exact", "bounded", "safe"
 # why something is unknown where the time for the whole is over
 LATE = "no time left"
@@ -140,8 +141,13 @@ class Room:
         need(not any(self.temporary.iterdir()), f"left {[it.name for it in self.temporary.iterdir()]}", said)
         made = {it for it in self.files() - before if Path(it).parts[0] not in self.may_write}
         need(not made, f"made {made}", said)
-        need(before <= self.files(), f"lost {before - self.files()}", said)
+        lost = {it for it in before - self.files() if not self.may_go(it)}
+        need(not lost, f"lost {lost}", said)
         return said
+
+    def may_go(self, name):
+        """Whether it is a file that an earlier run kept where this one keeps its own."""
+        return Path(name).parts[0] in self.may_write and name.endswith(KEPT_OF_ONE)
 
     def run(self, *words, changes=None, **more):
         before = self.files()
