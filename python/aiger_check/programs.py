@@ -1,7 +1,7 @@
 """Which programs there are."""
 
 import os
-from typing import Optional
+from typing import Dict, Optional
 
 from aiger_check.faults import Trouble, Usage, visible
 from aiger_check.search.limits import Limits, Tools
@@ -17,6 +17,8 @@ class Programs:
 
     def __init__(self, session: Session) -> None:
         self.given, self.children, self.notes = session.given, session.children, session.notes
+        #: what was found of them
+        self.found: Dict[str, str] = {}
 
     def tools(self) -> Tools:
         """What the searches ask."""
@@ -36,6 +38,7 @@ class Programs:
         program = self.named(variable, name)
         if not program:
             raise Trouble(f"not found: {visible(os.environ.get(variable) or name)}")
+        self.found[name] = program
         return program
 
     def aiger(self, children: Children) -> Aiger:
@@ -56,6 +59,7 @@ class Programs:
             return None
         if kind in NO_REFUTATION:
             self.notes.tell(f"{kind} writes no refutation, as cadical does: no answer is never, or none within a bound")
+        self.found[kind] = program
         return Solver(kind, program, self.children)
 
     def abc(self) -> Optional[Abc]:
@@ -63,4 +67,6 @@ class Programs:
         if not program:
             wanted = os.environ.get("ABC") or "berkeley-abc"
             self.notes.tell(f"not found: {visible(wanted)}; without ABC there is no invariant, and runs are bounded")
-        return Abc(program, self.children) if program else None
+            return None
+        self.found["abc"] = program
+        return Abc(program, self.children)

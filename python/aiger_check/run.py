@@ -73,6 +73,7 @@ class Run:
         if question:
             keepers = Keepers(self.given.keep, question, programs.aiger(session.keeping))
             self.answer_all(question, tools, keepers)
+            keepers.keep_commands(session, question, programs.found)
         else:
             session.notes.warn(f"{NO_TIME} once the model was asked for")
         self.show_all()

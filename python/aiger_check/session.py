@@ -5,13 +5,13 @@ import sys
 import threading
 import time
 from pathlib import Path
-from typing import Callable, TypeVar
+from typing import Callable, List, TypeVar
 
 from aiger_check.doubts import Doubts
 from aiger_check.faults import Stopped
 from aiger_check.notes import Notes
 from aiger_check.report import Progress
-from aiger_check.tools.processes import Children
+from aiger_check.tools.processes import Children, Ran
 
 Result = TypeVar("Result")
 #: how long what is made in memory may take once the time for the whole is over
@@ -45,6 +45,10 @@ class Session:
             if not self.is_late:
                 raise
             return otherwise
+
+    def ran(self) -> List[Ran]:
+        """The programs that ran and have ended."""
+        return [*self.children.ran, *self.keeping.ran]
 
     @property
     def is_overdue(self) -> bool:

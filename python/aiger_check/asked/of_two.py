@@ -6,8 +6,8 @@ from typing import Any, List, Sequence
 from aiger_check.answers import Pair
 from aiger_check.arguments import Design
 from aiger_check.asked.of_aiger import copied
-from aiger_check.asked.of_verilog import note_all, started
-from aiger_check.asked.question import Question
+from aiger_check.asked.of_verilog import note_all, started, translation
+from aiger_check.asked.question import Question, Translation
 from aiger_check.equality.sides import Side, Sides, in_order_of
 from aiger_check.faults import Trouble, visible
 from aiger_check.front.ports import Ports, TwoPorts
@@ -25,6 +25,7 @@ class OfTwo:
     def __init__(self, session: Session, programs: Programs, aiger: Aiger) -> None:
         self.session, self.programs, self.aiger = session, programs, aiger
         self.designs: Sequence[Design] = session.given.designs
+        self.translations: List[Translation] = []
 
     def question(self) -> Question:
         """What is asked of their miter."""
@@ -43,7 +44,7 @@ class OfTwo:
         if other:
             names = f"{visible(other[0])} of {visible(sides.first.called)} with {visible(other[1])}"
             notes.warn(f"paired by their places, as {names} of {visible(sides.second.called)}; by symbols: --by-name")
-        return Question(model, claims, sides=sides)
+        return Question(model, claims, sides=sides, translations=self.translations)
 
     def of_aiger(self) -> Sides:
         """Two models that are given."""
@@ -66,6 +67,7 @@ class OfTwo:
                 front.read_model()
         for front in fronts:
             note_all(self.session, front)
+            self.translations.append(translation(front))
         models = two.models()
         for words in two.notes:
             self.session.notes.warn(words)

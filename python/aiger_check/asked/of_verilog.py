@@ -4,7 +4,7 @@ import contextlib
 from pathlib import Path
 from typing import List
 
-from aiger_check.asked.question import Question, question_of
+from aiger_check.asked.question import Question, Translation, question_of
 from aiger_check.front.replay import Replay
 from aiger_check.front.sources import Sources
 from aiger_check.front.translation import Front
@@ -40,4 +40,9 @@ def of_verilog(session: Session, programs: Programs) -> Question:
         session.notes.warn("there is no assertion")
     question = question_of(place / "model.aig", assertions)
     question.replay = Replay(program, session.children, place, top, front.clock, front.replays)
+    question.translations = [translation(front)]
     return question
+
+
+def translation(front: Front) -> Translation:
+    return Translation(front.sources.folder, front.yosys.script())

@@ -2,12 +2,20 @@
 
 from dataclasses import dataclass
 from pathlib import Path
-from typing import List, Optional
+from typing import List, Optional, Sequence
 
 from aiger_check.answers import Assertion
 from aiger_check.equality.sides import Sides
 from aiger_check.front.replay import Replay
 from aiger_check.model.circuit import Model, without_justice
+
+
+@dataclass(frozen=True)
+class Translation:
+    """A design that Yosys translated: the folder of its sources, and what Yosys was told beside that."""
+
+    folder: Path
+    script: str
 
 
 @dataclass
@@ -22,6 +30,7 @@ class Question:
     sides: Optional[Sides] = None
     #: what replays a counterexample on the design
     replay: Optional[Replay] = None
+    translations: Sequence[Translation] = ()
 
 
 def question_of(path: Path, assertions: List[Assertion]) -> Question:

@@ -27,6 +27,7 @@ class Yosys:
     def __init__(self, program: str, children: Children, sources: Sources, limit: float = LIMIT) -> None:
         self.children, self.sources, self.limit = children, sources, limit
         self.said: List[str] = []
+        self.told: List[str] = []
         # where nothing is that it might read
         (sources.folder / "empty").mkdir()
         self.child = children.start(
@@ -64,6 +65,7 @@ class Yosys:
 
     def do(self, *commands: str) -> List[str]:
         """Gives commands, and waits until they are done. What Yosys says of them is returned."""
+        self.told += commands
         mark = f"done-{secrets.token_hex(8)}"
         text = "\n".join([*commands, f"log -stderr -nolog {mark}", ""])
         with contextlib.suppress(BrokenPipeError):
@@ -81,6 +83,12 @@ class Yosys:
         if self.late:
             raise Trouble(f"Yosys did not end in {self.limit:g} s")
         raise Trouble(visible(self.failure(said)))
+
+    def script(self) -> str:
+        """What it was told until the model was there, for one that runs in a folder beside the sources."""
+        model = f"{self.sources.alias}/model.aig"
+        end = next((at for at, line in enumerate(self.told, 1) if line.endswith(model)), len(self.told))
+        return "".join(f"{line}\n" for line in self.told[:end]).replace(self.sources.alias, "..")
 
     def failure(self, said: Sequence[str]) -> str:
         """Why Yosys ended."""

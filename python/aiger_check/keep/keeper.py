@@ -31,6 +31,8 @@ class Keeper:
         self.digests: List[str] = []
         folder.mkdir(parents=True, exist_ok=True)
         self.model = self.put_model(self.called, model)
+        #: the words by which all of it is asked for again
+        self.again = [self.model]
 
     def put_model(self, name: str, path: Path) -> str:
         """Keeps a model by a name that has its digest."""

@@ -5,8 +5,10 @@ from typing import Dict, Optional
 
 from aiger_check.answers import Assertion, Assumption, Liveness, Pair, Verdict
 from aiger_check.asked.question import Question
+from aiger_check.keep.journal import Journal
 from aiger_check.keep.keeper import Keeper
 from aiger_check.keep.others import KeeperOfLassos, KeeperOfTwo
+from aiger_check.session import Session
 from aiger_check.tools.aiger import Aiger
 
 
@@ -17,6 +19,11 @@ class Keepers:
         self.of_kind: Dict[type, Keeper] = {}
         if folder is not None:
             self.of_kind = keepers(Path(folder), question, aiger)
+
+    def keep_commands(self, session: Session, question: Question, programs: Dict[str, str]) -> None:
+        """Keeps how the answers were come by."""
+        for keeper in [*self.of_kind.values()][-1:]:
+            Journal(session, keeper.folder).keep(question.translations, keeper.again, programs)
 
     def keep(self, assertion: Assertion, verdict: Verdict) -> None:
         keeper = self.of_kind.get(type(assertion))

@@ -24,6 +24,7 @@ class KeeperOfTwo(Keeper):
         self.remove(TOGETHER)
         self.digests.clear()
         self.two = [self.put_model("first", sides.first.path), self.put_model("second", sides.second.path)]
+        self.again = ["--equal", *["--by-name"] * sides.by_name, *self.two]
 
     def asks(self, options: str) -> List[str]:
         by_name = "--by-name " * self.sides.by_name

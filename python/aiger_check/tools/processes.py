@@ -9,7 +9,7 @@ import threading
 import time
 from dataclasses import dataclass
 from pathlib import Path
-from typing import Any, List, Optional, Sequence, Set
+from typing import Any, List, NamedTuple, Optional, Sequence, Set
 
 from aiger_check.faults import Stopped, Trouble
 
@@ -32,13 +32,24 @@ class Finished:
     late: bool
 
 
+class Ran(NamedTuple):
+    """A program that ran, and how it ended."""
+
+    words: Sequence[str]
+    folder: Path
+    status: int
+    seconds: float
+
+
 class Children:
     """The programs that run. Each leads a group of processes, which is ended as a whole."""
 
     def __init__(self) -> None:
         self.lock = threading.Lock()
-        self.running: Set[subprocess.Popen] = set()
+        self.running: Set["subprocess.Popen[bytes]"] = set()
         self.parts: List["Children"] = []
+        #: what ran, in the order in which it ended
+        self.ran: List[Ran] = []
         self.stopped = False
 
     def part(self) -> "Children":
@@ -46,7 +57,7 @@ class Children:
         self.parts.append(Children())
         return self.parts[-1]
 
-    def start(self, arguments: Sequence[str], **others: Any) -> subprocess.Popen:
+    def start(self, arguments: Sequence[str], **others: Any) -> "subprocess.Popen[bytes]":
         with self.lock:
             if self.stopped:
                 raise Stopped
@@ -57,7 +68,7 @@ class Children:
             self.running.add(child)
             return child
 
-    def end(self, child: subprocess.Popen) -> None:
+    def end(self, child: "subprocess.Popen[bytes]") -> None:
         """Ends the group of a program, and waits for it."""
         with contextlib.suppress(ProcessLookupError, PermissionError):
             os.killpg(child.pid, signal.SIGKILL)
@@ -99,7 +110,9 @@ class Children:
         if self.stopped:
             raise Stopped
         words = [(text or b"").decode(errors="replace") for text in (told, errors)]
-        return Finished(child.returncode, *words, time.monotonic() - begun, late)
+        seconds = time.monotonic() - begun
+        self.ran.append(Ran(arguments, folder, child.returncode, seconds))
+        return Finished(child.returncode, words[0], words[1], seconds, late)
 
 
 def path_of(*names: str) -> Optional[str]:

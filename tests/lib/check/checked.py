@@ -28,7 +28,7 @@ LINE = re.compile(rf"(?P<name>.*) \((?P<source>.*?)\): (?P<answer>{ANSWERS})(?P<
 KINDS = ["never", "none within", "reached", "vacuous", "unknown"]
 LIVE_KINDS = ["holds", "no lasso within", "lasso", "vacuous", "unknown"]
 SUM = re.compile(r"(\d+) (liveness )?assertions?(?:: (.*))?")
-KEPT_FILE = re.compile(r"(model|live)-[0-9a-f]+\.aig|.+\.(aiw|vcd|drat|pla|check\.sh)")
+KEPT_FILE = re.compile(r"(model|live)-[0-9a-f]+\.aig|.+\.(aiw|vcd|drat|pla|check\.sh)|commands\.(sh|txt)|design-[0-9a-f]+")
 KEPT_OF_ONE = (".aiw", ".vcd", ".stimulus", ".drat", ".pla", ".check.sh")
 EXACT, BOUNDED, SAFE = "exact", "bounded", "safe"
 # why something is unknown where the time for the whole is over

@@ -21,6 +21,7 @@ WORDS = {"equal": "never", "equal for": "none within", "differs at": "reached", 
 WORDS.update({"holds for": "none within", "fails at": "reached", "vacuous": "vacuous", "unknown": "unknown"})
 LINE = re.compile(rf"(?P<name>.*): (?P<answer>{'|'.join(sorted(WORDS, key=len, reverse=True))})(?P<rest>.*)", re.DOTALL)
 KEPT = re.compile(r"(first|second|miter)-[0-9a-f]+\.aig|together\.(drat|pla)|.+\.(aiw|vcd|stimulus|drat|pla|check\.sh)")
+KEPT = re.compile(rf"{KEPT.pattern}|commands\.(sh|txt)|design-[0-9a-f]+")
 
 # ---------------------------------------------------------------- what a run says
 

@@ -3,6 +3,8 @@ and which notes are said."""
 import functools
 import json
 import os
+import subprocess
+import sys
 import time
 from xml.etree import ElementTree
 
@@ -351,8 +353,52 @@ def kept_of_all_twice(room):
     room.run("--equal", "--keep", "kept", "old", "new", changes=changes)
     put(room, {"new": "aag 1 1 0 1 0\n2\n3\n"})
     said = room.run("--equal", "--keep", "kept", "old", "new", changes=changes)
-    names = {it.name for it in kept.iterdir() if not it.name.endswith(".aig")}
+    names = {it.name for it in kept.iterdir() if it.name.endswith(checked.KEPT_OF_ONE)}
     checked.need(names == {"o0.aiw", "o0.vcd", "o0.stimulus"}, f"kept {names}", said)
+
+
+def kept_commands(words, again, room):
+    """The script that is kept translates the same design again, and gives the same answers; nothing of it is stale."""
+    design_rows.need_tools(*design_rows.TOOLS)
+    put(room, {"a.sv": COUNTER, "b.sv": COUNTER.replace("a + 1", "1 + a"), "in/d.vh": DEFINES})
+    room.may_write.add("kept")
+    said = room.run("--frames", "9", *words, "--keep", "kept", "--top", "m", "-DSTART=1", "-DLAST=5", "-DTOP=4")
+    text = (room.here / "kept" / "commands.sh").read_text(encoding="utf-8")
+    for part in ("aiger-check 1.", "-DTOP=4", "yosys", "cadical", "abc, "):
+        checked.need(part in text, f"{part} is not in {text}", said)
+    program = stand_ins.put(room.folder / "again", "aiger-check", f'exec {sys.executable} {checked.CHECK} "$@"')
+    settings = room.settings({"AIGER_CHECK": program})
+    script = str(room.here / "kept" / "commands.sh")
+    ran = subprocess.run(["sh", script], env=settings, cwd=room.folder, capture_output=True, text=True, check=False)
+    checked.need((ran.returncode, ran.stdout) == (said.status, again(room.here / "kept")), f"came {ran}", said)
+    checked.need(not any(room.temporary.iterdir()), "something is left", ran)
+    designs = {it.name for it in (room.here / "kept").glob("design-*")}
+    room.run("--frames", "9", *words, "--keep", "kept", "--top", "m", "-DSTART=1", "-DLAST=5", "-DTOP=4")
+    checked.need(designs == {it.name for it in (room.here / "kept").glob("design-*")}, "another design", said)
+    file = next((room.here / "kept").glob("design-*/copy0/**/*.sv"))
+    file.write_text(file.read_text(encoding="utf-8").replace("a <= `TOP", "a <= 1"), encoding="utf-8")
+    ran = subprocess.run(["sh", script], env=settings, cwd=room.folder, capture_output=True, text=True, check=False)
+    checked.need(ran.returncode == 1 and ran.stdout == "model.aig: FAILED\n", f"another design is taken: {ran}", said)
+
+
+def model_again(kept):
+    return f"b0 ({checked.model_of(kept).name}): reached at 4\n1 assertion: 1 reached\n"
+
+
+def kept_commands_of_model(room):
+    """Of a model it searches again; the programs that ran are listed."""
+    changes, kept = model_rows.honest(room), room.here / "kept"
+    model_rows_put(room, TOKENS)
+    room.may_write.add("kept")
+    said = room.run("--keep", "kept", "model.aag", changes=changes)
+    program = stand_ins.put(room.folder / "again", "aiger-check", f'exec {sys.executable} {checked.CHECK} "$@"')
+    settings = room.settings({**changes, "AIGER_CHECK": program})
+    words = ["sh", str(kept / "commands.sh")]
+    ran = subprocess.run(words, env=settings, cwd=room.folder, capture_output=True, text=True, check=False)
+    due = said.out.replace("model.aag", checked.model_of(kept).name)
+    checked.need((ran.returncode, ran.stdout) == (said.status, due), f"came {ran}", said)
+    listed_ = (kept / "commands.txt").read_text(encoding="utf-8")
+    checked.need("aigunroll" in listed_ and "cadical" in listed_ and str(room.temporary) not in listed_, listed_, said)
 
 
 NOTED = """module m(input clk, input two, input d);
@@ -436,6 +482,10 @@ def rows():
         yield f"kept twice: {first!r}, then {second!r}", each(kept_twice, first, second)
     yield "kept twice: then unknown", kept_twice_and_unknown
     yield "kept twice: all pairs, then none", kept_of_all_twice
+    yield "kept commands of a design", each(kept_commands, ["a.sv"], model_again)
+    two = "assertion low: equal\n1 pair: 1 equal\n"
+    yield "kept commands of two designs", each(kept_commands, ["--equal", "a.sv", "b.sv"], lambda kept: two)
+    yield "kept commands of a model", kept_commands_of_model
     yield "notes that --quiet keeps, and all in an object", noted
     yield "notes that --quiet drops", noted_of_tools
     for first, second, status in (
