@@ -33,7 +33,7 @@ extern "C" {
 #endif
 
 /* The version of this header, as aigtools_version tells that of the library: a byte each for major, minor and patch. */
-#define AIGTOOLS_VERSION 0x010602u
+#define AIGTOOLS_VERSION 0x010700u
 
 /* The largest `max_var`: a file with a larger index, or with more of a kind, is refused with AIGTOOLS_TOO_LARGE. */
 #define AIGTOOLS_LARGEST 2147483647u

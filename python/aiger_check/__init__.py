@@ -7,5 +7,5 @@ the model, by a witness, a refutation or an invariant. For two designs the model
 where they differ.
 """
 
-VERSION = "1.6.2"
+VERSION = "1.7.0"
 PROGRAM = "aiger-check"

@@ -10,7 +10,7 @@ use std::alloc::{AllocError, Global};
 
 /// The program's version, the one place in the sources that has it. By its contract the library's
 /// number is the same.
-pub const VERSION: &str = "1.6.2";
+pub const VERSION: &str = "1.7.0";
 
 const ABOUT: &str = "Tools for circuits in the AIGER format";
 

@@ -72,7 +72,7 @@ def help_(words, room):
 
 def version(words, room):
     said = room.run(*words, changes={"PATH": "/nowhere", "AIGER": None})
-    checked.need((said.status, said.out, said.err) == (0, "aiger-check 1.6.2\n", ""), "another version", said)
+    checked.need((said.status, said.out, said.err) == (0, "aiger-check 1.7.0\n", ""), "another version", said)
 
 
 def alike(which, room):
