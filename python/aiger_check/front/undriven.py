@@ -8,7 +8,7 @@ from aiger_check.front.sources import Sources
 from aiger_check.front.yosys import bare
 
 UNDECLARED = re.compile(
-    r"(?:(?P<file>.*?):(?P<line>\d+): )?Warning: Identifier `\\(?P<name>.*)' is implicitly declared.*"
+    r"(?:(?P<file>.*?):(?P<line>\d+): )?Warning: Identifier `\\?(?P<name>.*)' is implicitly declared.*"
 )
 UNDRIVEN = re.compile(
     r"Warning: Wire (?P<module>.*?)\.(?P<name>[\\$].*?)(?: \[(?P<bit>\d+)\])? is used but has no driver\."
