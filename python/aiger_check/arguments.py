@@ -58,6 +58,7 @@ def parse_arguments(arguments: Sequence[str]) -> argparse.Namespace:
     parser.add_argument("--jobs", type=at_least(1, 1000), default=len(os.sched_getaffinity(0)))
     parser.add_argument("-s", "--solver")
     parser.add_argument("--keep")
+    parser.add_argument("--second", choices=("icarus", "verilator", "none"), default="")
     for name in ("--json", "--quiet"):
         parser.add_argument(name, action="store_true")
     parser.add_argument("-h", "--help", action="store_true")

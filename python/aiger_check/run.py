@@ -36,10 +36,14 @@ LATE = Verdict(Answer.UNKNOWN, reason=NO_TIME)
 
 
 class Found(NamedTuple):
-    """An answer, and whether the assertion failed on the design too, where that was tried."""
+    """An answer, and whether the assertion failed on the design too, where that was tried: in Yosys, and in others."""
 
     verdict: Verdict
     is_replayed: Optional[bool]
+    others: Dict[str, bool]
+
+    def in_yosys(self) -> Dict[str, bool]:
+        return {} if self.is_replayed is None else {"Yosys's replay": self.is_replayed}
 
 
 class Run:
@@ -73,6 +77,7 @@ class Run:
         if question:
             keepers = Keepers(self.given.keep, question, programs.aiger(session.keeping))
             self.answer_all(question, tools, keepers)
+            self.tell_seconds(question, keepers)
             keepers.keep_commands(session, question, programs.found)
         else:
             session.notes.warn(f"{NO_TIME} once the model was asked for")
@@ -97,6 +102,7 @@ class Run:
                 vacuity.start(pool)
                 for search, found in zip(searches, pool.map(lambda it: self.answer(question, it, known), searches)):
                     self.tell(search, self.judged(vacuity, search.assertion, found), keepers)
+                    self.tell_lines(question, search.assertion)
             except BaseException:
                 session.children.stop()
                 raise
@@ -129,7 +135,26 @@ class Run:
         verdict = None if isinstance(assertion, Liveness) else known.get(assertion.bad)
         verdict = verdict or session.in_time(search.verdict, LATE)
         shown = session.in_time(lambda: self.replayed(question, assertion, verdict), None)
-        return Found(session.doubts.applied(assertion, verdict), shown)
+        others = session.in_time(lambda: self.by_seconds(question, assertion, verdict), {})
+        return Found(session.doubts.applied(assertion, verdict), shown, others)
+
+    def by_seconds(self, question: Question, assertion: Assertion, verdict: Verdict) -> Dict[str, bool]:
+        """Waits for the second front end, which may have doubts; and whether an assertion fails there too."""
+        found = {}
+        for second in question.seconds:
+            second.wait()
+            if verdict.witness and question.replay and not isinstance(assertion, Liveness) and not self.given.quiet:
+                shown = second.shows(assertion, question.model, verdict.witness)
+                found.update({second.called: shown} if shown is not None else {})
+        return found
+
+    def tell_seconds(self, question: Question, keepers: Keepers) -> None:
+        """What the second front end says of a design as a whole."""
+        for second in question.seconds:
+            self.session.in_time(second.wait, None)
+            for words in second.report.notes:
+                self.session.notes.tell(words)
+            keepers.keep_waves(second.waves)
 
     def replayed(self, question: Question, assertion: Assertion, verdict: Verdict) -> Optional[bool]:
         """Whether an assertion fails on the design too, where that can be tried."""
@@ -140,12 +165,13 @@ class Run:
 
     def judged(self, vacuity: Vacuity, assertion: Assertion, found: Found) -> Found:
         """The answer, if what is assumed can be kept."""
-        return Found(self.session.in_time(lambda: vacuity.applied(assertion, found.verdict), LATE), found.is_replayed)
+        verdict = self.session.in_time(lambda: vacuity.applied(assertion, found.verdict), LATE)
+        return found._replace(verdict=verdict)
 
     def tell(self, search: Search, found: Found, keepers: Keepers) -> None:
         """Says an answer, and keeps what shows it."""
         assertion, verdict = search.assertion, found.verdict
-        self.note_all(search, found.is_replayed)
+        self.note_all(search, found)
         keepers.keep(assertion, verdict)
         shutil.rmtree(search.folder, ignore_errors=True)
         self.tally.add(assertion, verdict)
@@ -153,14 +179,21 @@ class Run:
         if not self.given.json:
             show(f"{assertion}: {assertion.said(verdict)}")
 
-    def note_all(self, search: Search, is_replayed: Optional[bool]) -> None:
+    def tell_lines(self, question: Question, assertion: Assertion) -> None:
+        """What an answer builds on that the second front end leaves open."""
+        for second in question.seconds:
+            for words in second.report.lines.get(assertion.cell, []):
+                self.session.notes.warn(words)
+
+    def note_all(self, search: Search, found: Found) -> None:
         """Says what is to be known of an answer."""
         for words in search.notes:
             self.session.notes.warn(words)
-        if is_replayed is False:
-            self.session.notes.warn(f"{search.assertion} does not fail in Yosys's replay")
-        elif is_replayed:
-            self.session.notes.tell(f"{search.assertion} fails in Yosys's replay too")
+        for where, fails in {**found.others, **found.in_yosys()}.items():
+            if fails:
+                self.session.notes.tell(f"{search.assertion} fails in {where} too")
+            else:
+                self.session.notes.warn(f"{search.assertion} does not fail in {where}")
 
     def show_all(self) -> None:
         """Says what all answers come to."""

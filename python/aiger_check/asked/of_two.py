@@ -6,10 +6,11 @@ from typing import Any, List, Sequence
 from aiger_check.answers import Pair
 from aiger_check.arguments import Design
 from aiger_check.asked.of_aiger import copied
-from aiger_check.asked.of_verilog import note_all, started, translation
+from aiger_check.asked.of_verilog import note_all, seconds, started, translation
 from aiger_check.asked.question import Question, Translation
 from aiger_check.equality.sides import Side, Sides, in_order_of
 from aiger_check.faults import Trouble, visible
+from aiger_check.front.second.beside import Second
 from aiger_check.front.ports import Ports, TwoPorts
 from aiger_check.model.circuit import Model
 from aiger_check.programs import Programs
@@ -26,6 +27,7 @@ class OfTwo:
         self.session, self.programs, self.aiger = session, programs, aiger
         self.designs: Sequence[Design] = session.given.designs
         self.translations: List[Translation] = []
+        self.seconds: List[Second] = []
 
     def question(self) -> Question:
         """What is asked of their miter."""
@@ -44,7 +46,7 @@ class OfTwo:
         if other:
             names = f"{visible(other[0])} of {visible(sides.first.called)} with {visible(other[1])}"
             notes.warn(f"paired by their places, as {names} of {visible(sides.second.called)}; by symbols: --by-name")
-        return Question(model, claims, sides=sides, translations=self.translations)
+        return Question(model, claims, sides=sides, translations=self.translations, seconds=self.seconds)
 
     def of_aiger(self) -> Sides:
         """Two models that are given."""
@@ -68,6 +70,7 @@ class OfTwo:
         for front in fronts:
             note_all(self.session, front)
             self.translations.append(translation(front))
+        self.seconds = seconds(self.session, self.programs.yosys(), fronts)
         models = two.models()
         for words in two.notes:
             self.session.notes.warn(words)

@@ -2,10 +2,12 @@
 
 import contextlib
 from pathlib import Path
-from typing import List
+from typing import List, Sequence
 
 from aiger_check.asked.question import Question, Translation, question_of
 from aiger_check.front.replay import Replay
+from aiger_check.front.second.beside import Second
+from aiger_check.front.second.comparison import Design
 from aiger_check.front.sources import Sources
 from aiger_check.front.translation import Front
 from aiger_check.front.yosys import LIMIT, Yosys
@@ -41,7 +43,21 @@ def of_verilog(session: Session, programs: Programs) -> Question:
     question = question_of(place / "model.aig", assertions)
     question.replay = Replay(program, session.children, place, top, front.clock, front.replays)
     question.translations = [translation(front)]
+    question.seconds = seconds(session, program, [front])
     return question
+
+
+def seconds(session: Session, program: str, fronts: Sequence[Front]) -> List[Second]:
+    """Has a second front end asked of each design, while the search goes on."""
+    if session.given.second == "none":
+        return []
+    found = []
+    for at, front in enumerate(fronts):
+        design = Design(front.sources, front.top, front.properties, bool(front.reason), front.asynchronous)
+        second = Second(design, program, session.children, session.folder / f"second{at}", session.doubts)
+        second.is_of_all = session.given.equal
+        found.append(second.start())
+    return found
 
 
 def translation(front: Front) -> Translation:

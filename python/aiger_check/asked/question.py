@@ -1,12 +1,13 @@
 """What is asked."""
 
-from dataclasses import dataclass
+from dataclasses import dataclass, field
 from pathlib import Path
 from typing import List, Optional, Sequence
 
 from aiger_check.answers import Assertion
 from aiger_check.equality.sides import Sides
 from aiger_check.front.replay import Replay
+from aiger_check.front.second.beside import Second
 from aiger_check.model.circuit import Model, without_justice
 
 
@@ -31,6 +32,8 @@ class Question:
     #: what replays a counterexample on the design
     replay: Optional[Replay] = None
     translations: Sequence[Translation] = ()
+    #: the second front ends that are asked beside the search, one for each design
+    seconds: List[Second] = field(default_factory=list)
 
 
 def question_of(path: Path, assertions: List[Assertion]) -> Question:

@@ -22,8 +22,6 @@ class Front:
 
     #: Without -keepdc Yosys might choose first values of uninitialised registers.
     FLAT = (
-        "setattr -mod -unset keep_hierarchy",
-        "flatten",
         "opt_expr -keepdc",
         "opt_clean",
         "check",
@@ -108,7 +106,8 @@ class Front:
         before = self.yosys.rtlil("read")
         self.yosys.do(
             *renamed(before),
-            "proc",
+            # what is made simpler here would be no more seen to depend on what it does
+            "proc -noopt",
             # Yosys would merge what is equal
             "setattr -set keep 1 t:$assert t:$assume t:$live t:$fair",
         )

@@ -25,6 +25,14 @@ class Keepers:
         for keeper in [*self.of_kind.values()][-1:]:
             Journal(session, keeper.folder).keep(question.translations, keeper.again, programs)
 
+    def keep_waves(self, waves: Dict[str, Path]) -> None:
+        """Keeps the waveforms of a run in which a second front end says otherwise, and none of another run's."""
+        for keeper in [*self.of_kind.values()][:1]:
+            for path in keeper.folder.glob("second-*.vcd"):
+                path.unlink()
+            for name, path in waves.items():
+                keeper.put(name, path.read_bytes())
+
     def keep(self, assertion: Assertion, verdict: Verdict) -> None:
         keeper = self.of_kind.get(type(assertion))
         if keeper:

@@ -2,7 +2,7 @@
 
 import re
 from dataclasses import dataclass, field
-from typing import Any, Dict, List, Sequence, Tuple
+from typing import Dict, List, Sequence, Tuple
 
 from aiger_check.front.second.faults import Unable
 from aiger_check.front.second.probes import PORT, Place, Probed
@@ -47,6 +47,8 @@ class Bench:
     #: or the bits of inputs that are clocks
     clocks: Sequence[Place]
     is_global: bool
+    #: parameters of the top, as NAME=VALUE
+    given: Sequence[str] = ()
     starts: List[Start] = field(default_factory=list)
     #: memories' words whose waveforms are asked for by name, and nets that are driven from here
     driven: Dict[str, Tuple[str, ...]] = field(default_factory=dict)
@@ -75,7 +77,7 @@ class Bench:
             "event sample; integer at, step, count; reg is_first, glitches; reg second_clock = 0;",
             f"reg [{row - 1}:0] second_rows [0:{2 * steps - 1}]; reg [{row - 1}:0] second_row;",
             f"reg [{start - 1}:0] second_starts [0:0]; reg [{start - 1}:0] second_start; reg [8*64:1] name;",
-            f"{spelled([self.top])} dut({', '.join(hooks)});",
+            f"{spelled([self.top])} {self.parameters()}dut({', '.join(hooks)});",
             "initial begin is_first = 1; at = -1; count = 0;",
             'if (!$value$plusargs("count=%d", count)) count = 0; glitches = $test$plusargs("glitches");',
             'if ($value$plusargs("waves=%s", name)) begin $dumpfile(name); '
@@ -104,6 +106,11 @@ class Bench:
             "endmodule",
         ]
         return "\n".join(lines) + "\n"
+
+    def parameters(self) -> str:
+        """The values of the top's parameters, which the first front end has read."""
+        values = [f".{name}({value})" for name, _, value in (it.partition("=") for it in self.given)]
+        return f"#({', '.join(values)}) " if values else ""
 
     def slices(self, driven: bool) -> List[Tuple[str, int, int]]:
         """Of each port where its bits are in a row; or of each net that is driven."""
@@ -137,6 +144,14 @@ class Bench:
         bits: List[str] = []
         for it in self.starts:
             bits += [first_value(it, at, run) for at in range(it.width)]
+        return ("".join(reversed(bits)) or "0") + "\n"
+
+    def start_row_of(self, values: Dict[Place, int]) -> str:
+        """The same, by the values of bits."""
+        bits: List[str] = []
+        for it in self.starts:
+            name = ".".join(it.path)
+            bits += [str(values.get((name, at), 0)) if it.has(at) else "0" for at in range(it.width)]
         return ("".join(reversed(bits)) or "0") + "\n"
 
     def rows(self, inputs: Sequence[bytes], others: Sequence[bytes] = ()) -> str:

@@ -1,7 +1,8 @@
 """By what the second model is clocked: all of the design, also what no assertion depends on."""
 
-from typing import Any, Dict, List, Optional, Set, Tuple
+from typing import Any, Dict, List, Optional, Sequence, Set, Tuple
 
+from aiger_check.front.clocks import Clocks
 from aiger_check.front.second.faults import Unable
 from aiger_check.front.second.probes import Place, Probed
 from aiger_check.front.yosys import bare
@@ -27,6 +28,12 @@ def edges_of(probed: Probed) -> Dict[Place, Set[bool]]:
     if edges:
         raise Unable("a clock that is no input is not simulated")
     return found
+
+
+def are_data(probed: Probed, clocks: Sequence[Place]) -> bool:
+    """Whether some clock is used as data too."""
+    ports = probed.module["ports"]
+    return bool(Clocks(probed.module).data & {ports[name]["bits"][at] for name, at in clocks})
 
 
 def one_clock(probed: Probed, edges: Dict[Place, Set[bool]]) -> Optional[str]:

@@ -8,7 +8,7 @@ from aiger_check.front.second.draw import X, Drawn
 from aiger_check.front.second.probes import Place, Probed
 from aiger_check.front.second.vcd import Values, Variable, Waves
 
-DIFFERS, OPEN, DECIDED, LOST = "differs", "open", "decided", "lost"
+DIFFERS, OPEN, DECIDED, LOST, BETWEEN = "differs", "open", "decided", "lost", "between"
 
 
 @dataclass(frozen=True)

@@ -36,11 +36,13 @@ class Chance:
     clocks: Dict[Place, int]
     is_global: bool
     until: float
+    #: whether clocks may change together, as none of them is used as data
+    is_apart: bool = True
 
     #: of so many draws one has to keep the assumptions
     DRAWS = 30
     #: and so many first states are tried
-    TRIES = 8
+    TRIES = 4
 
     def drawn(self, seed: int, steps: int) -> Optional[Drawn]:
         """A run, which may be shorter where the assumptions cannot be kept, or none."""
@@ -104,12 +106,15 @@ class Chance:
         if before is not None and rng.random() < 0.5:
             values = bytearray(old if rng.random() < 0.7 else new for old, new in zip(before, values))
         clocks_move = self.is_global and rng.random() < 0.6
+        moved = rng.choice(sorted(self.clocks)) if self.clocks and not self.is_apart else None
         for at, place in enumerate(places):
             if place is None:
                 values[at] = X
             elif place in self.clocks and (not self.is_global or before is None):
                 values[at] = self.clocks[place]
             elif self.is_global and before is not None and (place in self.clocks) != clocks_move:
+                values[at] = before[at]
+            elif moved is not None and before is not None and place in self.clocks and place != moved:
                 values[at] = before[at]
         return bytes(values)
 
@@ -127,3 +132,8 @@ class Chance:
             step = self.probed.circuit.step(inputs, now)
             run.open_outputs.append(step.outputs)
             now = step.next
+
+    def others(self, run: Drawn, seed: int) -> List[bytes]:
+        """Inputs that come for a moment before those of each step."""
+        rng = random.Random(seed)
+        return [self.inputs(rng, None) for _ in run.inputs]

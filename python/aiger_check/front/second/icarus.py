@@ -29,9 +29,12 @@ CALLS |= {"$low", "$high", "$increment", "$dimensions", "$unpacked_dimensions"}
 CALLED = re.compile(r'^\s*%vpi_\w+(?:/\w+)?\s[^"\n]*"([^"\n]*)"', re.M)
 #: what is a matter of Icarus, and not of the design
 LIMITS = re.compile(
-    r"sorry:|syntax error|second_past_|second_tb|internal error|assertion failed|not supported|unsupported", re.I
+    r"sorry:|syntax error|second_past_|second_tb(?!\.dut)|internal error|assertion failed|not supported|unsupported",
+    re.I,
 )
 
+#: what it says against a line of the design
+PLACED = re.compile(r"(text\d+\.svh?|design\.sv):\d+: (error|sorry): ")
 #: temporary files stand in our folder, and neither memory nor a file is without limit
 LIMITED = 'ulimit -v 4000000; ulimit -f 1000000; TMPDIR=. TMP=. TEMP=. exec "$@"'
 
@@ -55,11 +58,13 @@ class Icarus:
 
     def preprocess(self, texts: Texts) -> str:
         """One text of all, without macros."""
-        defines = [f"-D{it}" for it in ("FORMAL=1", "YOSYS=1", *texts.given.defines)]
+        defines = [
+            f"-D{it}" for it in ("FORMAL=1", "YOSYS=1", *(f"{name}={value}" for name, value in texts.sources.defines))
+        ]
         (self.folder / "without.sv").write_text("`undef __ICARUS__\n")
         words = [self.program, "-g2012", "-E", "-o", "plain.sv", *defines, "without.sv", *texts.copies]
         self.need(self.run(words), texts)
-        return (self.folder / "plain.sv").read_text(errors="surrogateescape")
+        return (self.folder / "plain.sv").read_text(encoding="latin-1")
 
     def compile(self, texts: Texts) -> None:
         """Compiles the testbench and the design, which may call nothing that acts on the machine."""
@@ -94,8 +99,8 @@ class Icarus:
         if told.status == 0:
             return
         lines = [it for it in told.errors.splitlines() if it.strip()]
-        errors = [it for it in lines if "error:" in it or "sorry:" in it] or lines
-        words = visible(errors[0] if errors else f"status {told.status}")
+        errors = [it for it in lines if PLACED.match(it)]
+        words = visible((errors or lines or [f"status {told.status}"])[0][:300])
         is_limit = not errors or told.status < 0 or any(LIMITS.search(it) for it in lines)
         raise Refused(words, is_limit)
 

@@ -1,6 +1,5 @@
 """Which assertion of the simulation is which of the model."""
 
-import os
 import re
 from dataclasses import dataclass, field
 from typing import Callable, Dict, List, Sequence, Set, Tuple
@@ -22,8 +21,8 @@ class Pairs:
     """The cell of each, and what has none."""
 
     statements: Sequence[Statement]
-    #: the file of each number in marks
-    paths: Sequence[str]
+    #: where the file of each number in marks is
+    places: Sequence[str]
     properties: Sequence[Property]
     #: whether the values of both may be those of one
     is_alike: Callable[[Where, str], bool]
@@ -32,7 +31,7 @@ class Pairs:
 
     def pair(self, told: Sequence[Where]) -> "Pairs":
         left = self.by_label(sorted(told, key=lambda it: (it[0], natural(it[1]))))
-        left = self.by_groups(left, self.line_of, lambda it: (os.path.basename(it.file), it.line))
+        left = self.by_groups(left, self.line_of, lambda it: (it.file, it.line))
         self.lost = self.by_groups(left, lambda _: ("", 0), lambda _: ("", 0))
         return self
 
@@ -41,7 +40,7 @@ class Pairs:
 
     def line_of(self, where: Where) -> Tuple[str, int]:
         statement = self.statements[where[0]]
-        return os.path.basename(self.paths[statement.file]) if self.paths else "", statement.line
+        return self.places[statement.file], statement.line
 
     def by_label(self, told: Sequence[Where]) -> List[Where]:
         """Pairs what has a label by its whole name; gives what is left."""

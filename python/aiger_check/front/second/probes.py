@@ -71,7 +71,7 @@ class Probes:
     def probe(self, match: "re.Match[str]") -> str:
         """The cell of a property, and beside it outputs of its value and of whether it counts."""
         kind, cell, body = match[1], match[2], match[3]
-        ports = [self.port() for _ in range(2)]
+        ports = self.port(), self.port()
         made = [match[0]]
         for port, pin in zip(ports, ("A", "EN")):
             made.append(f"  wire output {FIRST_PORT + self.ports} \\{port}\n")
@@ -95,7 +95,7 @@ class Probes:
 
     def run(self, clocks: Sequence[str]) -> None:
         """Runs the commands of the translation, but keeps each name."""
-        flat = [it for it in Front.FLAT[2:] if it not in ("delete -output", "check")]
+        flat = [it for it in Front.FLAT if it not in ("delete -output", "check")]
         script = [
             "read_rtlil probed.il",
             "write_json named.json",

@@ -3,11 +3,13 @@
 import os
 import re
 from pathlib import Path
-from typing import Sequence
 
+from aiger_check.faults import Trouble
+from aiger_check.front.files import content
 from aiger_check.front.second.faults import Unable
 from aiger_check.front.second.statements import Walk
-from aiger_check.front.second.tokens import Edits, Token, closing, tokens_of
+from aiger_check.front.second.texts import Texts
+from aiger_check.front.second.tokens import Edits, Places, Token, closing, tokens_of
 
 #: functions of values alone
 FUNCTIONS = {"signed", "unsigned", "clog2", "bits", "size", "left", "right", "low", "high", "increment", "dimensions"}
@@ -24,15 +26,23 @@ TASK = re.compile(
 MEMORY = {"$readmemh", "$readmemb"}
 #: what stands before a delay, and not before parameters
 BEFORE_DELAY = {"=", "assign", ";", "begin", ")", "else", ":", "always", "initial", "forever", "end", "*/"}
-#: so much of a file of words is read
-MOST = 1 << 24
+BEFORE_DELAY |= {"]", "wire", "tri", "and", "or", "not", "buf", "xor", "nand", "nor", "xnor"}
+
+
+#: what Yosys does not read
+LEFT_OUT = re.compile(
+    r"(//|/\*)[ \t]*(synopsys|synthesis)[ \t]+translate_off\b.*?"
+    r"((//|/\*)[ \t]*(synopsys|synthesis)[ \t]+translate_on\b[^\n*]*(\*/)?|\Z)",
+    re.S,
+)
 
 
 class Quiet:
     """A text without what would act on anything but values."""
 
-    def __init__(self, text: str, folder: Path, beside: Sequence[str]) -> None:
-        self.text, self.folder, self.beside = text, folder, beside
+    def __init__(self, text: str, folder: Path, texts: Texts) -> None:
+        text = LEFT_OUT.sub(lambda match: "\n" * match[0].count("\n"), text)
+        self.text, self.folder, self.texts, self.places = text, folder, texts, Places(text)
         self.tokens = tokens_of(text)
         self.edits = Edits(text)
         self.memories = 0
@@ -124,19 +134,15 @@ class Quiet:
         name = self.word(at + 2)
         if self.word(at + 1) != "(" or name[:1] != '"':
             raise Unable(f"the file of {self.word(at)} is not named by a text")
-        path = self.found(re.sub(r"\\(.)", r"\1", name[1:-1]))
-        kept = f"memory{self.memories}.words"
+        (self.folder / f"memory{self.memories}.words").write_bytes(self.content(name[1:-1], self.tokens[at].start))
+        self.cut(at + 2, at + 2, f'"memory{self.memories}.words"')
         self.memories += 1
-        with open(path, "rb") as file:
-            data = file.read(MOST + 1)
-        if len(data) > MOST:
-            raise Unable("a file of words is too long")
-        (self.folder / kept).write_bytes(data)
-        self.cut(at + 2, at + 2, f'"{kept}"')
 
-    def found(self, name: str) -> str:
-        for folder in self.beside:
-            path = os.path.join(folder, name)
-            if os.path.isfile(path):
-                return path
-        raise Unable("a file of words is not there")
+    def content(self, name: str, start: int) -> bytes:
+        """What stands in a file of words, which the first front end has copied beside the source."""
+        number = (self.places.of(start) or (0, 0))[0]
+        beside = os.path.dirname(self.texts.sources.folder / self.texts.places[number])
+        try:
+            return content(os.path.normpath(os.path.join(beside, name)))
+        except Trouble as why:
+            raise Unable("a file of words is not there") from why

@@ -2,7 +2,7 @@
 
 import re
 from dataclasses import dataclass
-from typing import List, NamedTuple, Optional
+from typing import List, NamedTuple, Optional, Tuple
 
 from aiger_check.front.second.faults import Unable
 from aiger_check.front.second.statements import Found, Process, Walk
@@ -49,7 +49,14 @@ class Telling:
             self.begin(number)
         for target, last in self.walk.bound:
             self.bind(target, last)
-        return MARK.sub("", self.edits.applied())
+        self.marked = self.edits.applied()
+        return MARK.sub("", self.marked)
+
+    def place_of_line(self, line: int) -> Tuple[int, int]:
+        """The number of the user's file, and the line there, of a line of the text that tells."""
+        start = sum(len(it) + 1 for it in self.marked.split("\n")[: line - 1])
+        found = Places(self.marked).of(start + 40)
+        return found or (0, line)
 
     def tell(self, found: Found) -> None:
         tokens = self.tokens
@@ -60,10 +67,11 @@ class Telling:
         condition = self.text[tokens[opened].start : tokens[closed].end]
         words = {it.text for it in tokens[opened:closed]}
         # what an initial block looks at under a condition is looked at too late
-        is_later = bool(found.process) and found.process.word == "initial" and self.has_branches(found.process)
+        process = found.process
+        is_later = process is not None and process.word == "initial" and self.has_branches(process)
         if is_later or words & TEMPORAL or re.search(r"\|\s*[-=]>", condition):
             self.temporal += 1
-            return self.edits.put(start, end, "begin end" if found.process else "")
+            return self.edits.put(start, end, "begin end" if process else "")
         self.edits.put(start, end, self.statement(found, MARK.sub("", condition)))
 
     def has_branches(self, process: Process) -> bool:
