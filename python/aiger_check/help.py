@@ -17,19 +17,31 @@ Options:
                            twice if that of NEW has another name. Of one file
                            with --top twice the two modules are compared
   -D <NAME[=VALUE]>        Define a macro; may be given many times
+  -P <NAME=VALUE>          Set a parameter of the top module; many times too
   -I <DIR>                 Look for included files there; many times too
+  -f <LIST>, -F <LIST>     Take the files of a list, and its +incdir+DIR,
+                           +define+NAME=VALUE, -I, -D, -f and -F; with -F from
+                           beside the list
+      --clock <NAME>       This input is a clock, and no other is but those that
+                           are named so
       --frames <K>         Search runs of at most K steps (default: 50)
       --time <SECONDS>     Limit of ABC's pdr for one assertion (default: 30)
       --limit <SECONDS>    Limit of the SAT solver for one assertion
                            (default: 300)
+      --timeout <SECONDS>  Limit of the whole run: what is not answered then is
+                           unknown
       --jobs <N>           How many assertions side by side (default: one for
                            each core)
   -s, --solver <SOLVER>    cadical (the default), kissat, cryptominisat5,
                            minisat or picosat, or the path of one
-      --keep <DIR>         Keep witnesses, waveforms, the model and what proves
-                           the answers there
+      --keep <DIR>         Keep witnesses, waveforms, the model, what proves the
+                           answers, and commands that do all again there
       --json               Write one JSON object in the place of lines
-      --quiet              No progress and no notes
+      --junit <FILE>       Write a report in the XML of JUnit too
+      --expect <OUTCOMES>  End with 0 exactly if one of these comes: pass, fail,
+                           unknown, timeout, error, vacuous; commas between
+      --quiet              No progress, and of notes those alone that change
+                           what an answer means
   -h, --help               Print help
   -V, --version            Print version
 
@@ -38,6 +50,7 @@ The answer for an assertion is one of these.
   none within K     no run of at most K steps breaks it
   reached at N      a run breaks it at step N, the least, counted from 0; with
                     --keep its witness follows
+  vacuous           no run keeps what is assumed; the reason follows
   unknown           neither was shown; the reason follows
 
 For liveness, as of assert property (s_eventually e), it is one of these.
@@ -45,7 +58,7 @@ For liveness, as of assert property (s_eventually e), it is one of these.
   no lasso within K   no lasso of fewer than K steps breaks it
   lasso at S          a run breaks it that goes round for ever from step S on,
                       counted from 0; with --keep its witness follows
-  unknown             neither was shown; the reason follows
+  vacuous, unknown    as above
 assume property (s_eventually e) is fairness, which liveness may build on.
 
 The assertions of an AIGER file are its bad states and its justice properties,
@@ -56,7 +69,7 @@ With --equal a pair of outputs, or of bad states, has one of these answers.
   equal for K steps   in the first K steps of each run
   differs at N        not in step N of a run, the least, counted from 0; with
                       --keep its stimulus is there
-  unknown             neither was shown; the reason follows
+  vacuous, unknown    as above
 A line for each assumption of NEW follows: that OLD keeps it holds, holds for K
 steps, fails at N or is unknown.
 
@@ -88,6 +101,7 @@ Exit status:
   2  the command line was refused
   3  an answer is vacuous
   4  an answer is unknown
+  8  the time of --timeout was over before all was answered
   16 there is no answer: no assertion or pair, a tool fails or is missing, or a
      file is missing or refused
   128 + N  ended by signal N: 130 by an interrupt, 143 by one to end

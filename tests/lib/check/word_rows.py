@@ -56,7 +56,7 @@ def usage(status, words, patterns, room):
 
 
 OPTIONS = "--equal --by-name --top -D -I --frames --time --limit --jobs --solver -s --keep --json --quiet --help "
-OPTIONS += "--version"
+OPTIONS += "--version -P -f -F --clock --timeout --junit --expect "
 VARIABLES = "AIGER YOSYS ABC SOLVER"
 
 
