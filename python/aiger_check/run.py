@@ -132,8 +132,8 @@ class Run:
     def answer(self, question: Question, search: Search, known: Dict[int, Verdict]) -> Found:
         """The answer for an assertion; a counterexample is replayed on the design."""
         session, assertion = self.session, search.assertion
-        verdict = None if isinstance(assertion, Liveness) else known.get(assertion.bad)
-        verdict = verdict or session.in_time(search.verdict, LATE)
+        found = None if isinstance(assertion, Liveness) else known.get(assertion.bad)
+        verdict: Verdict = found or session.in_time(search.verdict, LATE)
         shown = session.in_time(lambda: self.replayed(question, assertion, verdict), None)
         others = session.in_time(lambda: self.by_seconds(question, assertion, verdict), {})
         return Found(session.doubts.applied(assertion, verdict), shown, others)

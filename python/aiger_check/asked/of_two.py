@@ -81,7 +81,7 @@ class OfTwo:
         """One of the designs as a flat one."""
         design, place = self.designs[at], self.session.folder / f"verilog{at}"
         yosys = started(stack, self.session, self.programs.yosys(), design.files, place)
-        front = Ports(yosys, design.top, design.called)
+        front = Ports(yosys, design.top, design.called, self.session.given.clocks)
         front.flatten()
         return front
 

@@ -21,7 +21,7 @@ def started(stack: contextlib.ExitStack, session: Session, program: str, files: 
     given = session.given
     sources = Sources(files, given.include, given.defines, place, given.parameters)
     stack.callback(sources.close)
-    return stack.enter_context(Yosys(program, session.children, sources, getattr(given, "yosys_limit", LIMIT)))
+    return stack.enter_context(Yosys(program, session.children, sources, LIMIT))
 
 
 def note_all(session: Session, front: Front) -> None:
@@ -33,9 +33,8 @@ def note_all(session: Session, front: Front) -> None:
 def of_verilog(session: Session, programs: Programs) -> Question:
     """What is asked of the design that is given."""
     program, place, top = programs.yosys(), session.folder / "verilog", session.given.tops[0]
-    clocks = getattr(session.given, "clocks", [])
     with contextlib.ExitStack() as stack:
-        front = Front(started(stack, session, program, session.given.files, place), top, False, clocks)
+        front = Front(started(stack, session, program, session.given.files, place), top, False, session.given.clocks)
         assertions = front.translate()
     note_all(session, front)
     if not assertions:

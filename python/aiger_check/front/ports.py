@@ -13,8 +13,8 @@ from aiger_check.tools.aiger import aigtools
 class Ports(Front):
     """A Verilog design that is compared with another one: its outputs, and the assertions that both have."""
 
-    def __init__(self, yosys: Yosys, top: str, called: str) -> None:
-        super().__init__(yosys, top, keeps_outputs=True)
+    def __init__(self, yosys: Yosys, top: str, called: str, clocks: Sequence[str] = ()) -> None:
+        super().__init__(yosys, top, True, clocks)
         self.called = called
 
     def left_out(self, kinds: Set[str]) -> Sequence[str]:
