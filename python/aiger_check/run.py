@@ -135,7 +135,8 @@ class Run:
         found = None if isinstance(assertion, Liveness) else known.get(assertion.bad)
         verdict: Verdict = found or session.in_time(search.verdict, LATE)
         shown = session.in_time(lambda: self.replayed(question, assertion, verdict), None)
-        others = session.in_time(lambda: self.by_seconds(question, assertion, verdict), {})
+        nothing: Dict[str, bool] = {}
+        others = session.in_time(lambda: self.by_seconds(question, assertion, verdict), nothing)
         return Found(session.doubts.applied(assertion, verdict), shown, others)
 
     def by_seconds(self, question: Question, assertion: Assertion, verdict: Verdict) -> Dict[str, bool]:

@@ -84,17 +84,15 @@ class Pairs:
         return max(mine, key=len, default="?")
 
     def matched(self, told: Sequence[Where], cells: Sequence[str]) -> List[Where]:
-        """Pairs each with a cell that is alike, as far as one can, and others in their order; gives what is left."""
+        """Pairs each with a cell that is alike, and where not all can be, in their order; gives what is left."""
         holder: Dict[str, Where] = {}
         for where in told:
             self.seek(where, cells, holder, set())
-        for cell, where in holder.items():
-            self.found[where] = cell
-        left = [it for it in told if it not in self.found]
-        free = [it for it in cells if it not in holder]
-        for where, cell in zip(left, free):
-            self.found[where] = cell
-        return left[len(free) :]
+        if len(holder) == len(told):
+            self.found.update({where: cell for cell, where in holder.items()})
+        else:
+            self.found.update(zip(told, cells))
+        return [it for it in told if it not in self.found]
 
     def seek(self, where: Where, cells: Sequence[str], holder: Dict[str, Where], tried: Set[str]) -> bool:
         """Finds a cell for one, perhaps by another one's giving way."""
