@@ -39,6 +39,8 @@ class Assertion:
     words = Words("never", "none within", "reached")
     #: what breaks it
     run = "run"
+    #: whether a run is wanted, and not that there is none
+    wants_run = False
     #: what one is called where they are counted, and in which list of an object it stands
     unit = "assertion"
     listed = "assertions"
@@ -99,6 +101,31 @@ class Liveness(Assertion):
         return {**super().shown(), "kind": "liveness"}
 
 
+class Cover(Assertion):
+    """Something that a run is to reach: what an assertion in its place would forbid."""
+
+    words = Words("never", "none within", "covered")
+    wants_run = True
+    unit = "cover"
+    listed = "covers"
+
+
+class LeftSide(Assertion):
+    """That a run meets the condition under which an assertion says something."""
+
+    words = Words("never met", "not met within", "met")
+    wants_run = True
+    unit = "left side"
+    listed = "left sides"
+
+    def __str__(self) -> str:
+        return f"{super().__str__()}, left side"
+
+    @property
+    def file(self) -> str:
+        return f"{self.name}.left_side"
+
+
 class Pair(Assertion):
     """Two outputs or bad states, one of each design, which are to be equal: a bad state of the miter."""
 
@@ -135,7 +162,7 @@ class Assumption(Assertion):
 NO_TIME = "no time left"
 
 #: in the order in which they are added up
-KINDS = (Assertion, Liveness, Pair, Assumption)
+KINDS = (Assertion, Liveness, Cover, LeftSide, Pair, Assumption)
 
 
 @dataclass

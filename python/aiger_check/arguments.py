@@ -58,6 +58,8 @@ def parse_arguments(arguments: Sequence[str]) -> argparse.Namespace:
     parser.add_argument("--jobs", type=at_least(1, 1000), default=len(os.sched_getaffinity(0)))
     parser.add_argument("-s", "--solver")
     parser.add_argument("--keep")
+    parser.add_argument("--mode", choices=("bmc", "prove", "cover", "live"))
+    parser.add_argument("--cover-asserts", action="store_true")
     parser.add_argument("--second", choices=("icarus", "verilator", "none"), default="")
     for name in ("--json", "--quiet"):
         parser.add_argument(name, action="store_true")
@@ -123,6 +125,7 @@ def check_arguments(given: argparse.Namespace) -> argparse.Namespace:
     if not given.files:
         raise Usage("no file is given, and none stands in a list")
     given.verilog = any(map(is_verilog, given.files))
+    check_mode(given)
     if given.by_name and not given.equal:
         raise Usage("--by-name is for --equal")
     if given.verilog:
@@ -134,6 +137,16 @@ def check_arguments(given: argparse.Namespace) -> argparse.Namespace:
     elif len(given.tops) > 1:
         raise Usage("--top is given twice, which is for --equal")
     return given
+
+
+def check_mode(given: argparse.Namespace) -> None:
+    """What is asked, where it can be."""
+    if given.equal and given.mode in ("cover", "live"):
+        raise Usage(f"--mode {given.mode} is not for --equal")
+    if not given.verilog and given.mode == "cover":
+        raise Usage("--mode cover is for Verilog files: an AIGER model has no covers")
+    if given.cover_asserts and (given.equal or not given.verilog or given.mode == "live"):
+        raise Usage("--cover-asserts is for assertions of one Verilog design")
 
 
 def files_of(word: str, given: argparse.Namespace) -> List[str]:

@@ -23,10 +23,11 @@ class Programs:
     def tools(self) -> Tools:
         """What the searches ask."""
         given = self.given
-        aiger, solver, abc = self.aiger(self.children), self.solver(), self.abc()
+        is_bounded = given.mode == "bmc"
+        aiger, solver, abc = self.aiger(self.children), self.solver(), None if is_bounded else self.abc()
         if not solver and not abc:
             raise Trouble("neither a SAT solver nor ABC was found")
-        return Tools(aiger, solver, abc, Limits(given.frames, given.time, given.limit))
+        return Tools(aiger, solver, abc, Limits(given.frames, given.time, given.limit, is_bounded))
 
     def named(self, variable: str, *names: str) -> Optional[str]:
         """The program that a variable names, or else the first of these that there is."""

@@ -144,7 +144,8 @@ class Run:
         found = {}
         for second in question.seconds:
             second.wait()
-            if verdict.witness and question.replay and not isinstance(assertion, Liveness) and not self.given.quiet:
+            is_broken = not isinstance(assertion, Liveness) and not assertion.wants_run
+            if verdict.witness and is_broken and question.replay and not self.given.quiet:
                 shown = second.shows(assertion, question.model, verdict.witness)
                 found.update({second.called: shown} if shown is not None else {})
         return found
@@ -160,7 +161,7 @@ class Run:
     def replayed(self, question: Question, assertion: Assertion, verdict: Verdict) -> Optional[bool]:
         """Whether an assertion fails on the design too, where that can be tried."""
         replay, witness = question.replay, verdict.witness
-        if not replay or not witness or isinstance(assertion, Liveness):
+        if not replay or not witness or isinstance(assertion, Liveness) or assertion.wants_run:
             return None
         return replay.shows(assertion, witness)
 

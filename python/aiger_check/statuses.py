@@ -3,7 +3,7 @@
 import enum
 from typing import Iterable, Sequence, Tuple
 
-from aiger_check.answers import Answer, Assertion, NO_TIME, Verdict
+from aiger_check.answers import Answer, Assertion, LeftSide, NO_TIME, Verdict
 
 
 class Status(enum.IntEnum):
@@ -53,6 +53,9 @@ def status_of_one(assertion: Assertion, verdict: Verdict) -> Status:
     """What one answer comes to."""
     if verdict.answer is Answer.UNKNOWN and verdict.reason == NO_TIME:
         return Status.TIMEOUT
+    if assertion.wants_run and verdict.answer is not Answer.UNKNOWN:
+        unmet = Status.VACUOUS if isinstance(assertion, LeftSide) else Status.BROKEN
+        return Status.KEPT if verdict.answer is Answer.REACHED else unmet
     return OF_ANSWER.get(verdict.answer, Status.KEPT)
 
 

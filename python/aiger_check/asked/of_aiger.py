@@ -2,7 +2,7 @@
 
 import re
 from pathlib import Path
-from typing import Any, List
+from typing import Any, List, Optional
 
 from aiger_check.answers import Assertion, Liveness
 from aiger_check.asked.question import Question, question_of
@@ -33,7 +33,13 @@ def of_aiger(session: Session, aiger: Aiger) -> Question:
     if not circuit.bad and not circuit.justice_sizes:
         hint = "; of outputs aiger aigtoaig --outputs-as-bad makes bad states" if circuit.outputs else ""
         notes.warn(f"{visible(name)}: there is neither a bad state nor a justice property{hint}")
-    return question_of(path, properties(name, circuit))
+    asked = [it for it in properties(name, circuit) if is_asked(it, session.given.mode)]
+    return question_of(path, asked)
+
+
+def is_asked(assertion: Assertion, mode: Optional[str]) -> bool:
+    """Whether a mode asks for it."""
+    return not mode or isinstance(assertion, Liveness) == (mode == "live")
 
 
 def properties(name: str, circuit: Any) -> List[Assertion]:

@@ -5,6 +5,7 @@ from pathlib import Path
 from typing import List, Sequence
 
 from aiger_check.asked.question import Question, Translation, question_of
+from aiger_check.front.asked import Asked
 from aiger_check.front.replay import Replay
 from aiger_check.front.second.beside import Second
 from aiger_check.front.second.comparison import Design
@@ -13,6 +14,10 @@ from aiger_check.front.translation import Front
 from aiger_check.front.yosys import LIMIT, Yosys
 from aiger_check.programs import Programs
 from aiger_check.session import Session
+
+
+#: what there may be none of in a mode
+ABSENT = {"cover": "cover", "live": "liveness assertion"}
 
 
 def started(stack: contextlib.ExitStack, session: Session, program: str, files: List[str], place: Path) -> Yosys:
@@ -34,11 +39,12 @@ def of_verilog(session: Session, programs: Programs) -> Question:
     """What is asked of the design that is given."""
     program, place, top = programs.yosys(), session.folder / "verilog", session.given.tops[0]
     with contextlib.ExitStack() as stack:
-        front = Front(started(stack, session, program, session.given.files, place), top, False, session.given.clocks)
+        asked, clocks = Asked(session.given.mode, session.given.cover_asserts), session.given.clocks
+        front = Front(started(stack, session, program, session.given.files, place), top, False, clocks, asked)
         assertions = front.translate()
     note_all(session, front)
     if not assertions:
-        session.notes.warn("there is no assertion")
+        session.notes.warn(f"there is no {ABSENT.get(session.given.mode, 'assertion')}")
     question = question_of(place / "model.aig", assertions)
     question.replay = Replay(program, session.children, place, top, front.clock, front.replays)
     question.translations = [translation(front)]

@@ -2,11 +2,12 @@
 
 import re
 import secrets
-from typing import Dict, List, Optional, Sequence, Set
+from typing import Callable, Dict, List, Optional, Sequence
 
-from aiger_check.answers import Assertion, Liveness
+from aiger_check.answers import Assertion, Cover, LeftSide, Liveness
 from aiger_check.faults import Trouble, visible
 from aiger_check.front import defines, undefined
+from aiger_check.front.asked import Asked, MET
 from aiger_check.front.clocks import Clocks
 from aiger_check.front.drivers import Drivers
 from aiger_check.front.properties import LEFT_OUT, Lost, Property, properties, renamed
@@ -44,8 +45,9 @@ class Front:
         "opt_clean",
     )
 
-    def __init__(self, yosys: Yosys, top: str, keeps_outputs: bool = False, clocks: Sequence[str] = ()) -> None:
+    def __init__(self, yosys: Yosys, top: str, keeps_outputs: bool = False, clocks: Sequence[str] = (), asked: Asked = Asked()) -> None:
         self.yosys, self.top, self.sources, self.keeps_outputs = yosys, top, yosys.sources, keeps_outputs
+        self.asked = asked
         #: the inputs that are to be the only clocks, if any are named
         self.named_clocks = list(clocks)
         self.notes: List[str] = []
@@ -72,7 +74,8 @@ class Front:
         commands = (it for it in self.FLAT if not (self.keeps_outputs and it == "delete -output"))
         self.refuse_conflicts(self.yosys.do(*commands))
         netlist = self.yosys.netlist("flat")
-        module = netlist[top_of(netlist)]
+        self.module = top_of(netlist)
+        module = netlist[self.module]
         self.notes += map(visible, undriven(self.yosys.said, self.top, module, self.sources))
         clocks = Clocks(module)
         if self.named_clocks:
@@ -95,8 +98,10 @@ class Front:
         yosys.do(*self.GATES)
         self.refuse_loops(yosys.do("check"))
         # read again, since the model is to have the order of the text, of which another one is made
-        again = (f"write_rtlil {alias}/final.il", "design -reset", f"read_rtlil {alias}/final.il")
-        yosys.do(*again, f"write_aiger -symbols -map {alias}/model.map {alias}/model.aig")
+        yosys.do(f"write_rtlil {alias}/final.il")
+        self.change_text("final", "final", self.asked.text)
+        yosys.do("design -reset", f"read_rtlil {alias}/final.il")
+        yosys.do(f"write_aiger -symbols -map {alias}/model.map {alias}/model.aig")
 
     def read(self) -> None:
         """Reads the files, and looks at the properties before they are flattened."""
@@ -109,16 +114,16 @@ class Front:
             # what is made simpler here would be no more seen to depend on what it does
             "proc -noopt",
             # Yosys would merge what is equal
-            "setattr -set keep 1 t:$assert t:$assume t:$live t:$fair",
+            "setattr -set keep 1 t:$assert t:$assume t:$cover t:$live t:$fair",
         )
         modules = self.yosys.netlist("read")
         self.refuse_drivers(Drivers(modules, before))
         self.properties = list(properties(modules, top_of(modules), source))
         self.notes += map(visible, Lost(modules, source).notes())
         self.notes += map(visible, without_body(modules, self.sources))
-        left_out = self.left_out({it.kind for it in self.properties})
+        left_out = self.asked.left_out([it.kind for it in self.properties])
         for it in self.properties:
-            if it.kind in left_out:
+            if it.kind in left_out and self.asked.is_noted(it.kind):
                 named = visible(f"{self.top}.{it.name} ({self.place(it)})")
                 self.notes.append(f"{named} is left out: it is {LEFT_OUT[it.kind]}")
         self.yosys.do(f"delete {' '.join(f't:{kind}' for kind in left_out)}")
@@ -139,10 +144,6 @@ class Front:
             instead = "put the instance into the module itself"
             raise Trouble(visible(f"{source.place(bound)}: bind is not followed by Yosys: {instead}"))
         return source
-
-    def left_out(self, kinds: Set[str]) -> Sequence[str]:
-        """The kinds of properties of which nothing is said, where these are there: fairness is for liveness alone."""
-        return ("$cover",) if "$live" in kinds else ("$cover", "$fair")
 
     def refuse_drivers(self, drivers: Drivers) -> None:
         """Refuses what a constant and something else drive, of which Yosys says nothing."""
@@ -174,17 +175,27 @@ class Front:
     def assertions(self) -> List[Assertion]:
         """The assertions in the order of the source, each with its bad state or its justice property."""
         bad, live = self.positions("$assert", "$live")
-        asked = [it for it in self.properties if it.kind in ("$assert", "$live")]
-        if sorted([*bad, *live]) != sorted(it.cell for it in asked):
+        asked = [it for it in self.properties if it.kind in ("$assert", *self.asked.kinds)]
+        met = {it.cell for it in asked if it.cell + MET in bad}
+        wanted = [it.cell for it in asked if it.kind in self.asked.kinds]
+        if sorted([*bad, *live]) != sorted([*wanted, *(it + MET for it in met)]):
             raise Trouble("which property of the model is which assertion cannot be told")
         made: List[Assertion] = []
         for it in self.sorted(asked):
             named = f"{self.top}.{it.name}", self.place(it)
             if it.kind == "$live":
                 made.append(Liveness(*named, 0, it.cell, live[it.cell]))
-            else:
-                made.append(Assertion(*named, bad[it.cell], it.cell))
+            elif it.kind in self.asked.kinds:
+                made.append((Cover if it.kind == "$cover" else Assertion)(*named, bad[it.cell], it.cell))
+            if it.cell in met:
+                made.append(LeftSide(*named, bad[it.cell + MET], it.cell))
         return made
+
+    def change_text(self, name: str, other: str, change: Callable[[str, str], str]) -> None:
+        """Writes a text of the netlist by another one."""
+        given, made = (self.sources.folder / f"{it}.il" for it in (name, other))
+        text = given.read_text(encoding="utf-8", errors="surrogateescape")
+        made.write_text(change(text, self.module), encoding="utf-8", errors="surrogateescape")
 
     def sorted(self, asked: List[Property]) -> List[Property]:
         """Properties in the order of the source. The sort is stable: instances stay as they stand in the design."""
@@ -193,16 +204,14 @@ class Front:
     def positions(self, *kinds: str) -> List[Dict[str, int]]:
         """Of each kind of cell the property or the constraint that it is, by the cell's name: in a second model, of a
         text with the same cells in the same order, the value of each is an input by a name of its own."""
-        modules = self.yosys.netlist("final")
-        top = top_of(modules)
-        self.ports = modules[top]["ports"]
-        cells = [(name, it["type"]) for name, it in modules[top]["cells"].items() if it["type"] in kinds]
+        module = self.yosys.netlist("final")[self.module]
+        self.ports = module["ports"]
+        cells = [(name, it["type"]) for name, it in module["cells"].items() if it["type"] in kinds]
         if not cells:
             return [{} for _ in kinds]
         value, alias, folder = f"aiger_check_{secrets.token_hex(4)}", self.sources.alias, self.sources.folder
-        text = (folder / "final.il").read_text(encoding="utf-8", errors="surrogateescape")
-        told_text = with_inputs(text, top, [name for name, _ in cells], value)
-        (folder / "told.il").write_text(told_text, encoding="utf-8", errors="surrogateescape")
+        its = [name for name, _ in cells]
+        self.change_text("final", "told", lambda text, top: with_inputs(text, top, its, value))
         self.yosys.do(
             "design -push", f"read_rtlil {alias}/told.il", f"write_aiger -symbols {alias}/told.aig", "design -pop"
         )

@@ -3,7 +3,7 @@
 from pathlib import Path
 from typing import Dict, Optional
 
-from aiger_check.answers import Assertion, Assumption, Liveness, Pair, Verdict
+from aiger_check.answers import Assertion, Assumption, Cover, LeftSide, Liveness, Pair, Verdict
 from aiger_check.asked.question import Question
 from aiger_check.keep.journal import Journal
 from aiger_check.keep.keeper import Keeper
@@ -47,7 +47,7 @@ def keepers(folder: Path, question: Question, aiger: Aiger) -> Dict[type, Keeper
         return {Pair: of_two, Assumption: of_two}
     found: Dict[type, Keeper] = {}
     if model.circuit.bad or not live:
-        found[Assertion] = Keeper(folder, model.path, aiger)
+        found = dict.fromkeys((Assertion, Cover, LeftSide), Keeper(folder, model.path, aiger))
     if live:
         names = found[Assertion].names if found else set()
         found[Liveness] = KeeperOfLassos(folder, live, aiger, names)

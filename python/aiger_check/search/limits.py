@@ -16,6 +16,8 @@ class Limits:
     frames: int
     time: float
     limit: float
+    #: whether nothing is asked of runs of any length
+    is_bounded: bool = False
 
 
 @dataclass(frozen=True)

@@ -306,6 +306,8 @@ class Search:
         if not self.tools.solver:
             self.fails("there is no SAT solver to prove an invariant")
             return None
+        if self.tools.limits.is_bounded:
+            return None
         invariant = self.folder / "never.pla"
         invariant.write_text("".join(f"{row} 1\n" for row in rows))
         options = ("--invariant", invariant)

@@ -29,7 +29,7 @@ class Together(Search):
         """That none is; else the rows are kept for the single ones, if they are an invariant."""
         self.folder.mkdir()
         solver = self.tools.solver
-        if not solver or not solver.refutes:
+        if not solver or not solver.refutes or self.tools.limits.is_bounded:
             return None
         self.progress.tell(self.assertion, "invariant")
         alike = Alike(self.model, self.sides, self.tools)

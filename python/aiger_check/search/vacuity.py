@@ -100,7 +100,7 @@ class Keeping:
         if endless.soon():
             return
         self.never = self.within = self.end()
-        if self.within or self.is_held():
+        if self.within or self.tools.limits.is_bounded or self.is_held():
             return
         later = endless.later()
         if not later or later.answer is not Answer.REACHED:
@@ -193,6 +193,8 @@ class Vacuity:
 
     def applied(self, assertion: Assertion, verdict: Verdict) -> Verdict:
         """The verdict, or that it says nothing."""
+        if assertion.wants_run:
+            return verdict
         keeping = self.keepings.get(isinstance(assertion, Liveness))
         reason = keeping.reason(verdict.answer) if keeping and verdict.answer in KEPT else None
         return Verdict(Answer.VACUOUS, reason=reason) if reason else verdict
