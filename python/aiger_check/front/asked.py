@@ -71,6 +71,9 @@ class Reached:
         cell = CELL.match(line)
         if cell:
             self.inside, self.ports = (cell[1], cell[2]), {}
+            # attributes stand before what has them
+            while self.made[-1].startswith("  attribute "):
+                self.made.pop()
         elif self.inside and line == "  end":
             self.put(*self.inside)
             self.inside = None
@@ -95,12 +98,8 @@ class Reached:
         """An assertion that this is never 1."""
         self.count += 1
         inverse = f"\\aiger_check_not_{self.count}"
-        attributes = []
-        while self.made[-1].startswith("  attribute "):
-            attributes.append(self.made.pop())
         self.made.append(f"  wire {inverse}")
         self.cell("$_NOT_", f"{inverse}_cell", A=value, Y=inverse)
-        self.made += attributes[::-1]
         self.cell("$assert", name, A=inverse, EN=enabled)
 
     def cell(self, kind: str, name: str, **ports: str) -> None:

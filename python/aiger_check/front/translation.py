@@ -45,7 +45,9 @@ class Front:
         "opt_clean",
     )
 
-    def __init__(self, yosys: Yosys, top: str, keeps_outputs: bool = False, clocks: Sequence[str] = (), asked: Asked = Asked()) -> None:
+    def __init__(
+        self, yosys: Yosys, top: str, keeps_outputs: bool = False, clocks: Sequence[str] = (), asked: Asked = Asked()
+    ) -> None:
         self.yosys, self.top, self.sources, self.keeps_outputs = yosys, top, yosys.sources, keeps_outputs
         self.asked = asked
         #: the inputs that are to be the only clocks, if any are named
@@ -69,8 +71,11 @@ class Front:
         refuse_undeclared(self.yosys.said, self.sources)
         free = undefined.command(self.sources.folder, self.sources.alias)
         # the second front end begins with what is flat and not made simpler
-        flat = f"write_rtlil {self.sources.alias}/flat.il"
-        self.yosys.do("setattr -mod -unset keep_hierarchy", "flatten", free, flat)
+        flat = [f"write_rtlil {self.sources.alias}/flat.il"]
+        if "$cover" in self.asked.kinds:
+            flat = ["design -push-copy", "delete t:$cover", *flat, "design -pop"]
+        self.yosys.do("setattr -mod -unset keep_hierarchy", "flatten", free, *flat)
+        self.delete(self.later)
         commands = (it for it in self.FLAT if not (self.keeps_outputs and it == "delete -output"))
         self.refuse_conflicts(self.yosys.do(*commands))
         netlist = self.yosys.netlist("flat")
@@ -126,7 +131,14 @@ class Front:
             if it.kind in left_out and self.asked.is_noted(it.kind):
                 named = visible(f"{self.top}.{it.name} ({self.place(it)})")
                 self.notes.append(f"{named} is left out: it is {LEFT_OUT[it.kind]}")
-        self.yosys.do(f"delete {' '.join(f't:{kind}' for kind in left_out)}")
+        # the second front end is to see what a mode leaves out
+        self.later = [it for it in left_out if it in ("$assert", "$live")]
+        self.delete([it for it in left_out if it not in self.later])
+
+    def delete(self, kinds: Sequence[str]) -> None:
+        """Drops the properties of some kinds."""
+        if kinds:
+            self.yosys.do(f"delete {' '.join(f't:{kind}' for kind in kinds)}")
 
     def read_source(self) -> Source:
         """Reads the files. What Yosys parses and then forgets is refused."""
