@@ -97,15 +97,16 @@ class Lost:
     def __init__(self, modules: Dict[str, Any], source: Source) -> None:
         self.source = source
         self.used = {bare(module["attributes"].get("hdlname", name)) for name, module in modules.items()}
-        self.ranges: Dict[str, List[Range]] = {}
+        #: where cells came of, by each of its lines
+        self.ranges: Dict[Tuple[str, int], List[Range]] = {}
         for module in modules.values():
             for cell in module["cells"].values():
                 its = range_of(cell) if cell["type"] in PROPERTIES else None
-                if its:
-                    self.ranges.setdefault(its.file, []).append(its)
+                for line in range(its.first[0], its.last[0] + 1) if its else ():
+                    self.ranges.setdefault((its.file, line), []).append(its)
 
     def is_answered(self, word: Word) -> bool:
-        return any(it.has(word) for it in self.ranges.get(word.file, []))
+        return any(it.has(word) for it in self.ranges.get((word.file, word.line), []))
 
     def notes(self) -> Iterator[str]:
         """What is said of these."""
