@@ -1,6 +1,8 @@
 """AIGER files that are given."""
 
+import os
 import re
+import stat
 from pathlib import Path
 from typing import Any, List, Optional
 
@@ -15,6 +17,8 @@ from aiger_check.tools.aiger import Aiger, aigtools
 def copied(aiger: Aiger, name: str, path: Path) -> Any:
     """Writes a model that is given, in binary, and gives its circuit."""
     given = path.with_name(f"{path.stem}.given")
+    if stat.S_ISCHR(os.stat(name).st_mode):
+        raise Trouble(f"{visible(name)}: a device, which need not have an end")
     with open(name, "rb") as file:
         given.write_bytes(file.read())
     failure = aiger.to_binary(given, path)

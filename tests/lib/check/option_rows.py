@@ -179,6 +179,22 @@ def late_yosys(words, room):
     stand_ins.need_ended(room.folder / "begun", said)
 
 
+def late_pipe(room):
+    """A pipe into which nobody writes is waited for no longer than a while."""
+    os.mkfifo(room.here / "pipe")
+    said = room.run("--timeout", "1", "pipe", changes=model_rows.honest(room))
+    checked.refused(said, "no time left", status=checked.TIMEOUT)
+
+
+def device(words, room):
+    """A device is no file that has an end: it is refused, and no memory is filled."""
+    design_rows.need_tools("yosys")
+    put(room, {"m.sv": COUNTER})
+    for name in ("/dev/zero", "/dev/urandom", "/dev/null"):
+        said = room.run(*words, name, changes=model_rows.honest(room))
+        checked.refused(said, f"{name}: ")
+
+
 def late_but_broken(room):
     """A broken assertion counts before a late one; and a long time changes nothing."""
     changes, truths = model_rows.honest(room), model_rows_put(room, LATE)
@@ -468,6 +484,9 @@ def rows():
     for words in ([], ["--json"], ["--equal", "m.sv"]):
         yield f"no time left: Yosys hangs, {words}", each(late_yosys, words)
     yield "no time left, and something is broken", late_but_broken
+    yield "no time left, behind a pipe", late_pipe
+    yield "a device for a model", each(device, [])
+    yield "a device for a list", each(device, ["--top", "m", "m.sv", "-f"])
     yield "time enough, and kept", late_and_kept
     for which, outcomes, status in EXPECTED:
         yield f"expected of {which}: {outcomes}", each(expects, which, outcomes, status)
