@@ -13,6 +13,7 @@ from typing import Dict, List, NamedTuple, Optional
 from aiger_check.answers import Answer, Assertion, Liveness, NO_TIME, Verdict
 from aiger_check.asked import ask
 from aiger_check.asked.question import Question
+from aiger_check.doubts import KEPT
 from aiger_check.faults import Trouble
 from aiger_check.junit import Suite, report
 from aiger_check.keep.keeper import TOGETHER
@@ -135,13 +136,15 @@ class Run:
         found = None if isinstance(assertion, Liveness) else known.get(assertion.bad)
         verdict: Verdict = found or session.in_time(search.verdict, LATE)
         shown = session.in_time(lambda: self.replayed(question, assertion, verdict), None)
-        nothing: Dict[str, bool] = {}
-        others = session.in_time(lambda: self.by_seconds(question, assertion, verdict), nothing)
-        return Found(session.doubts.applied(assertion, verdict), shown, others)
+        others = session.in_time(lambda: self.by_seconds(question, assertion, verdict), None)
+        if others is None and verdict.answer in KEPT:
+            # whether there are doubts is not known
+            return Found(LATE, shown, {})
+        return Found(session.doubts.applied(assertion, verdict), shown, others or {})
 
     def by_seconds(self, question: Question, assertion: Assertion, verdict: Verdict) -> Dict[str, bool]:
         """Waits for the second front end, which may have doubts; and whether an assertion fails there too."""
-        found = {}
+        found: Dict[str, bool] = {}
         for second in question.seconds:
             second.wait()
             is_broken = not isinstance(assertion, Liveness) and not assertion.wants_run

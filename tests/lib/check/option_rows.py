@@ -179,6 +179,21 @@ def late_yosys(words, room):
     stand_ins.need_ended(room.folder / "begun", said)
 
 
+def late_second(words, room):
+    """Where the second front end has not ended in time nothing is said to be kept, and what is broken is said."""
+    design_rows.need_tools(*design_rows.TOOLS)
+    put(room, {"m.sv": COUNTER.replace("endmodule", "  high: assert property (a < 4);\nendmodule")})
+    stand_ins.sleeping(room.folder / "slow", "iverilog", room.folder / "begun")
+    changes = {"PATH": f"{room.folder / 'slow'}:{os.environ['PATH']}"}
+    defined = ["-DSTART=1", "-DLAST=5", "-DTOP=5"]
+    said = room.run(*words, "--timeout", "6", "--top", "m", *defined, "m.sv", changes=changes)
+    found = {it.name: it.answer for it in checked.answers_of(said)}
+    checked.need(found["m.low"] == "unknown" and found["m.high"] in ("reached", "unknown"), "another answer", said)
+    due = checked.BROKEN if found["m.high"] == "reached" else checked.TIMEOUT
+    checked.need(said.status == due, f"status {due} is due", said)
+    stand_ins.need_ended(room.folder / "begun", said)
+
+
 def late_pipe(room):
     """A pipe into which nobody writes is waited for no longer than a while."""
     os.mkfifo(room.here / "pipe")
@@ -485,6 +500,8 @@ def rows():
         yield f"no time left: Yosys hangs, {words}", each(late_yosys, words)
     yield "no time left, and something is broken", late_but_broken
     yield "no time left, behind a pipe", late_pipe
+    for words in ([], ["--json"]):
+        yield f"no time left, the second front end hangs, {words}", each(late_second, words)
     yield "a device for a model", each(device, [])
     yield "a device for a list", each(device, ["--top", "m", "m.sv", "-f"])
     yield "time enough, and kept", late_and_kept
