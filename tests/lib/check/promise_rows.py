@@ -166,6 +166,42 @@ def goes_out(room):
     checked.need(marked is not None and not behind, f"{unnamed} is 1 first at {marked}", dump)
 
 
+CLOCKED_BY = """module m #(parameter N = 3, parameter [7:0] W = 1) (input clk, input [1:0] other, input d);
+  reg [3:0] a = 0;
+  always @(posedge clk) a <= a == N ? 0 : a + W;
+  low: assert property (a < 5);
+endmodule
+"""
+# what is given of clocks and parameters, and in which step the assertion fails or what is said
+GIVEN = {
+    "the clock": (["--clock", "clk"], None), "a clock and another": (["--clock", "other[1]", "--clock", "clk"], None),
+    "another clock": (["--clock", "other"], "clk is a clock too"), "a clock that is none": (["--clock", "none"], "no such input"),
+    "an output for a clock": (["--clock", "a"], "no such input"), "a parameter": (["-P", "N=7"], 5),
+    "two parameters": (["-P", "N=9", "-P", "W=8'd3"], 2), "a parameter in bits": (["-P", "N=4'b0111"], 5),
+    "a parameter twice": (["-P", "N=1", "-P", "N=7"], 5), "a parameter that is none": (["-P", "M=7"], "no such parameter"),
+    "a parameter with words": (["-P", "N=7 shell touch hacked"], "is not"), "a parameter that is a sum": (["-P", "N=3+4"], "is not"),
+}
+
+
+def given(words, due, room):
+    """Parameters of the top module, and clocks that are named."""
+    design_rows.need_tools(*design_rows.TOOLS)
+    put(room, {"m.sv": CLOCKED_BY})
+    said = room.run(*words, "--top", "m", "m.sv")
+    if isinstance(due, str):
+        checked.refused(said, due)
+        return
+    checked.judge(said, [Truth("m.low", "m.sv:4", due)])
+
+
+def given_of_two(words, status, due, room):
+    """They are of both designs."""
+    design_rows.need_tools(*design_rows.TOOLS)
+    put(room, {"m.sv": CLOCKED_BY, "n.sv": CLOCKED_BY.replace("N = 3", "N = 4")})
+    said = room.run("--equal", *words, "--top", "m", "m.sv", "n.sv")
+    checked.need(said.status == status and due in said.out + said.err, f"{due} is due", said)
+
+
 def rows():
     each = functools.partial
     for name in ("m.v", "m.sv", "m.vh", "m.svh", "M.SV", "a.b.v"):
@@ -184,4 +220,12 @@ def rows():
             yield f"promised: {name} for {which}", each(without_refutation, name, which)
     for called, of in TWO.items():
         yield f"promised of two: {called}", each(of_two, *of)
+    for called, of in GIVEN.items():
+        yield f"promised: {called}", each(given, *of)
+    for words, status, due in (
+        (["-P", "N=2"], checked.KEPT, "equal"), ([], checked.KEPT, "equal"), (["--clock", "clk"], checked.KEPT, "equal"),
+        (["--clock", "d"], checked.TROUBLE, "clk is a clock too"), (["-P", "K=1"], checked.TROUBLE, "no such parameter"),
+        (["-P", "N=8"], checked.KEPT, "equal"),
+    ):
+        yield f"promised of two: {words}", each(given_of_two, words, status, due)
     yield "promised: from where on it never comes", goes_out
