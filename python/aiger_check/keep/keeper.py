@@ -30,6 +30,7 @@ class Keeper:
         #: of each kept model the line that says its digest
         self.digests: List[str] = []
         folder.mkdir(parents=True, exist_ok=True)
+        self.remove(TOGETHER)
         self.model = self.put_model(self.called, model)
         #: the words by which all of it is asked for again
         self.again = [self.model]

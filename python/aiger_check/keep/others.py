@@ -6,7 +6,7 @@ from typing import Any, Dict, List, Set
 
 from aiger_check.answers import Assertion, Verdict
 from aiger_check.equality.sides import Sides
-from aiger_check.keep.keeper import Keeper, TOGETHER
+from aiger_check.keep.keeper import Keeper
 from aiger_check.model.circuit import Model
 from aiger_check.tools.aiger import Aiger, aigtools
 
@@ -19,9 +19,6 @@ class KeeperOfTwo(Keeper):
     def __init__(self, folder: Path, model: Path, aiger: Aiger, sides: Sides) -> None:
         super().__init__(folder, model, aiger)
         self.sides = sides
-        # no pair may have the name of what shows all
-        self.names.add(TOGETHER)
-        self.remove(TOGETHER)
         self.digests.clear()
         self.two = [self.put_model("first", sides.first.path), self.put_model("second", sides.second.path)]
         self.again = ["--equal", *["--by-name"] * sides.by_name, *self.two]

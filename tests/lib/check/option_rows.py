@@ -432,6 +432,21 @@ def kept_commands_of_model(room):
     checked.need("aigunroll" in listed_ and "cadical" in listed_ and str(room.temporary) not in listed_, listed_, said)
 
 
+def kept_together_twice(room):
+    """So does what showed that no bad state is reached."""
+    changes, kept = model_rows.honest(room), room.here / "kept"
+    room.may_write.add("kept")
+    put(room, {"model.aag": "aag 6 2 2 0 2 2\n2\n4\n6 12 1\n8 10\n10\n8\n10 6 8\n12 6 2\n"})
+    first = room.run("--keep", "kept", "model.aag", changes=changes)
+    checked.need(first.status == checked.KEPT, "it is broken", first)
+    was_there = (kept / "together.drat").exists()
+    put(room, {"model.aag": "aag 2 2 0 0 0 2\n2\n4\n2\n4\n"})
+    said = room.run("--keep", "kept", "model.aag", changes=changes)
+    names = {it.name for it in kept.iterdir() if it.name.endswith(checked.KEPT_OF_ONE)}
+    checked.need(names == {f"b{at}.{it}" for at in (0, 1) for it in ("aiw", "vcd")}, f"kept {names}", said)
+    checked.need(was_there, "nothing showed all at once", first)
+
+
 NOTED = """module m(input clk, input two, input d);
   reg a = 0, b = 0;
   always @(posedge clk) a <= d;
@@ -518,6 +533,7 @@ def rows():
         yield f"kept twice: {first!r}, then {second!r}", each(kept_twice, first, second)
     yield "kept twice: then unknown", kept_twice_and_unknown
     yield "kept twice: all pairs, then none", kept_of_all_twice
+    yield "kept twice: all bad states, then none", kept_together_twice
     yield "kept commands of a design", each(kept_commands, ["a.sv"], model_again)
     two = "assertion low: equal\n1 pair: 1 equal\n"
     yield "kept commands of two designs", each(kept_commands, ["--equal", "a.sv", "b.sv"], lambda kept: two)
