@@ -60,7 +60,7 @@ def seconds(session: Session, program: str, fronts: Sequence[Front]) -> List[Sec
     for at, front in enumerate(fronts):
         design = Design(front.sources, front.top, front.properties, bool(front.reason), front.asynchronous)
         second = Second(design, program, session.children, session.folder / f"second{at}", session.doubts)
-        second.is_of_all = session.given.equal
+        second.wanted, second.is_of_all = session.given.second, session.given.equal
         found.append(second.start())
     return found
 

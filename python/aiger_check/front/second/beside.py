@@ -14,6 +14,7 @@ from aiger_check.front.second.faults import Refused, Unable
 from aiger_check.front.second.findings import Findings, Report
 from aiger_check.front.second.icarus import Icarus, icarus
 from aiger_check.front.second.probes import Probes
+from aiger_check.front.second.verilator import verilator
 from aiger_check.front.second.witness import witness_of
 from aiger_check.model.circuit import Model
 from aiger_check.tools.aiger import aigtools
@@ -21,6 +22,8 @@ from aiger_check.tools.processes import Children
 
 #: what all of it may take
 LIMIT = 10.0
+#: and what a simulator may that builds a program
+LONG = 90.0
 NOT_ASKED = "no second front end was asked"
 
 
@@ -35,6 +38,8 @@ class Second:
     #: a folder that is to be made
     folder: Path
     doubts: Doubts
+    #: which simulator is wanted, if one is
+    wanted: str = ""
     #: whether doubts are of all that is asked
     is_of_all: bool = False
     report: Report = field(default_factory=Report)
@@ -61,11 +66,7 @@ class Second:
         """Compares, whatever comes of it: what fails here says nothing of the design."""
         try:
             self.folder.mkdir()
-            simulator = icarus(self.children, self.folder, LIMIT)
-            if simulator:
-                self.by(simulator)
-            else:
-                self.report.notes.append(f"{NOT_ASKED}: iverilog is not installed")
+            self.by_first()
         except (Stopped, MemoryError):
             self.report.notes.append(NOT_ASKED)
         except (Unable, Trouble) as why:
@@ -77,15 +78,33 @@ class Second:
         for reason, cells in self.report.doubts:
             self.doubts.add(reason, None if self.is_of_all else cells)
 
-    def by(self, simulator: Icarus) -> None:
+    def by_first(self) -> None:
+        """Asks Icarus, or Verilator where that is not there or cannot read the design."""
+        first = icarus(self.children, self.folder, LIMIT) if self.wanted != "verilator" else None
+        other = verilator(self.children, self.folder, LONG) if self.wanted != "icarus" else None
+        missing = {"icarus": "iverilog", "verilator": "verilator"}.get(self.wanted, "neither iverilog nor verilator")
+        if not first and not other:
+            raise Unable(f"{missing} is not installed" if self.wanted else f"{missing} is installed")
+        try:
+            if first:
+                return self.by(first, LIMIT)
+        except Refused as why:
+            if not other:
+                raise Unable(f"Icarus does not read the design: {why}") from why
+        if other:
+            self.by(other, LONG)
+
+    def by(self, simulator: Icarus, limit: float) -> None:
         probes = Probes(self.yosys, self.children, self.design.sources.folder)
-        comparison = Comparison(self.design, simulator, probes, self.folder, time.monotonic() + LIMIT)
+        comparison = Comparison(self.design, simulator, probes, self.folder, time.monotonic() + limit)
         try:
             compared = comparison.compared()
         except Refused as why:
             words = comparison.with_places(str(why))
-            if why.is_limit:
+            if why.is_limit and not simulator.has_x:
                 raise Unable(f"{simulator.called} does not read the design: {words}") from why
+            if why.is_limit:
+                raise Refused(words, True) from why
             self.report.doubts.append((f"{simulator.called} refuses what Yosys takes: {words}", None))
             return
         self.report, self.comparison = Findings(comparison, compared, self.is_of_all).report(), comparison

@@ -24,13 +24,13 @@ class Finding:
     model: str
 
 
-def kind_of(design: str, model: int, opened: int) -> Optional[str]:
+def kind_of(design: str, model: int, opened: int, has_x: bool = True) -> Optional[str]:
     """Of a bit what is wrong, if anything is: what the simulation says, and the model; and what the model says where
     nothing is known of what a simulator cannot set."""
     if design == "x":
         return DECIDED if opened != X else None
     if model == X:
-        return OPEN
+        return OPEN if has_x else None
     return DIFFERS if opened != X and int(design) != model else None
 
 
@@ -46,6 +46,8 @@ class Signals:
     probed: Probed
     prefix: str
     variables: Dict[str, Variable]
+    #: whether the simulator knows x
+    has_x: bool
     findings: Dict[Tuple[str, str], Finding] = field(default_factory=dict)
     #: the bits of which neither knows anything in some step
     unknown: Set[Place] = field(default_factory=set)
@@ -93,7 +95,7 @@ class Signals:
             design = values.bit(code, at)
             if is_unknown(design, opened[output]):
                 self.unknown.add((name, at))
-            kinds.add(kind_of(design, model[output], opened[output]))
+            kinds.add(kind_of(design, model[output], opened[output], self.has_x))
         for kind in kinds - {None}:
             if kind and (kind, name) not in self.findings:
                 shown = "".join(values.bit(code, at) for at, _ in reversed(kept))

@@ -167,7 +167,8 @@ class Comparison:
     def is_set(self, name: str, bit: int) -> bool:
         """Whether the design itself gives a bit its first value."""
         variable = self.variables.get(f"{SCOPE}.{name}")
-        return variable is not None and not self.is_global and self.values.bit(variable.code, bit) != "x"
+        is_known = variable is not None and not self.is_global and self.simulator.has_x
+        return is_known and variable is not None and self.values.bit(variable.code, bit) != "x"
 
     def add_shown(self, found: Dict[str, Start]) -> None:
         """With several clocks a register is no latch of the model: it starts as the model shows it."""
@@ -188,7 +189,8 @@ class Comparison:
         variable = self.variables.get(f"{SCOPE}.{name}")
         if not variable or variable.kind not in ("reg", "logic", "integer", "int", "bit", "wire"):
             return None
-        is_net = variable.kind == "wire"
+        # Verilator calls all a wire
+        is_net = variable.kind == "wire" if self.simulator.has_x else is_free
         return Start(variable.path[2:], variable.width, is_net) if is_free or not is_net else None
 
     def run(self, number: int) -> None:
@@ -242,7 +244,7 @@ class Comparison:
         return fails if fails or witness.is_whole and not self.is_global else None
 
     def judged(self) -> Compared:
-        signals = Signals(self.probed, f"{SCOPE}.", self.variables)
+        signals = Signals(self.probed, f"{SCOPE}.", self.variables, self.simulator.has_x)
         for number, run in enumerate(self.runs):
             look = [1 + PERIOD * step + LOOK for step in range(len(run.drawn.inputs))]
             signals.compare(number, run.drawn, Waves(run.waves), look)
@@ -287,7 +289,7 @@ class Comparison:
         for number, (run, worths) in enumerate(zip(self.runs, self.worths)):
             trace = run.traces.get(where, [])
             for step, (design, (model, opened)) in enumerate(zip(trace, worths.of(cell, self.behind(where)))):
-                kind = kind_of(design, model, opened) if design != UNKNOWN else None
+                kind = kind_of(design, model, opened, self.simulator.has_x) if design != UNKNOWN else None
                 if kind and kind not in found:
                     found[kind] = Finding(kind, "", cell, step, number, design, "01x"[model])
         return list(found.values())

@@ -13,6 +13,7 @@ SCOPE = "second_tb.dut"
 
 def inside(scope: str) -> str:
     """A scope of the simulation as one of the design."""
+    scope = scope[4:] if scope.startswith("TOP.") else scope
     return scope[len(SCOPE) + 1 :].replace("\\", "").replace(" .", ".").strip()
 
 

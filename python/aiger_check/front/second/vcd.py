@@ -35,16 +35,17 @@ class Waves:
                 self.changes.append((now, code.strip(), value.lower()))
             elif first == "#":
                 now = int(line[1:])
-            elif line.startswith("$"):
+            elif line.lstrip().startswith("$"):
                 self.declare(line.split(), scopes)
 
     def declare(self, words: List[str], scopes: List[str]) -> None:
         if words[0] == "$scope":
-            scopes.append(words[2].lstrip("\\"))
+            # Verilator has a scope around all
+            scopes.append("" if not scopes and words[2] == "TOP" else words[2].lstrip("\\"))
         elif words[0] == "$upscope" and scopes:
             scopes.pop()
         elif words[0] == "$var":
-            path = (*scopes, words[4].lstrip("\\"))
+            path = (*filter(None, scopes), words[4].lstrip("\\"))
             self.variables.setdefault(".".join(path), Variable(words[3], words[1], int(words[2]), path))
 
 
