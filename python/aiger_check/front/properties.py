@@ -102,8 +102,12 @@ class Lost:
         for module in modules.values():
             for cell in module["cells"].values():
                 its = range_of(cell) if cell["type"] in PROPERTIES else None
-                for line in range(its.first[0], its.last[0] + 1) if its else ():
-                    self.ranges.setdefault((its.file, line), []).append(its)
+                if its:
+                    self.add(its)
+
+    def add(self, its: Range) -> None:
+        for line in range(its.first[0], its.last[0] + 1):
+            self.ranges.setdefault((its.file, line), []).append(its)
 
     def is_answered(self, word: Word) -> bool:
         return any(it.has(word) for it in self.ranges.get((word.file, word.line), []))

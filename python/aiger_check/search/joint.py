@@ -77,12 +77,19 @@ class Joint(Search):
         few, more = [it for it in steps if it <= FEW][-1:], [it for it in steps if it > FEW]
         while len(self.open) > 1:
             count = len(self.open)
-            verdict = self.bounded(few) or self.by_abc() or self.bounded(more) or self.none_within()
+            verdict = self.bounded(few) or self.by_itself() or self.by_abc() or self.bounded(more) or self.none_within()
             if not verdict or verdict.answer is not Answer.REACHED:
                 return self.of_rest(verdict) if verdict else None
             if len(self.open) == count:
                 return None
         return None
+
+    def by_itself(self) -> Optional[Verdict]:
+        # the search has a model of its own, of which latches are the same
+        self.model, either = self.source, self.model
+        verdict = super().by_itself()
+        self.model = either
+        return verdict
 
     def of_rest(self, verdict: Verdict) -> Verdict:
         """An answer of all that is open."""
@@ -94,6 +101,9 @@ class Joint(Search):
         verdict = self.by_invariant([])
         del self.reasons[reasons:]
         return self.of_rest(verdict) if verdict else None
+
+    def asked_literals(self) -> List[int]:
+        return [self.source.circuit.bad[at] for at in self.open]
 
     def take(self) -> None:
         """Makes the models of what is open: the rest of the model, and one for the search that reaches either."""

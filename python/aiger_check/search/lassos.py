@@ -36,6 +36,9 @@ class Lassos(Search):
         found = super().verdict()
         return self.followed(found) if found.witness else found
 
+    def by_itself(self) -> Optional[Verdict]:
+        return None
+
     def by_invariant(self, rows: Sequence[str]) -> Optional[Verdict]:
         return super().by_invariant(self.goals.invariant(rows))
 

@@ -9,14 +9,16 @@ from typing import Any, Dict, List, Optional, Sequence, Set, Tuple
 from aiger_check.answers import Answer, Assertion, Assumption, Pair, Verdict
 from aiger_check.equality.alike import Equality
 from aiger_check.equality.sweep import Sweep
+from aiger_check.faults import Trouble
 from aiger_check.model.circuit import Model
+from aiger_check.model.cubes import Cubes
 from aiger_check.model.for_abc import ForAbc
 from aiger_check.model.part import Part
 from aiger_check.report import Progress
 from aiger_check.search.limits import FEW, Target, Tools, steps_up_to
 from aiger_check.tools.aiger import aiger_failure
 from aiger_check.tools.processes import Finished, discard
-from aiger_check.tools.solvers import Said, clause_count
+from aiger_check.tools.solvers import Said, Solver, clause_count
 
 
 class Search:
@@ -31,7 +33,7 @@ class Search:
         self.model, self.whole = model, Target(model.path, assertion.option)
         self.left = tools.limits.limit
         #: what aiger says of witnesses
-        self.steps: Dict[Path, Optional[int]] = {}
+        self.steps: Dict[Path, int] = {}
         self.refuted = 0
         #: what is shown of it beside others, where nothing more can be shown of it alone
         self.bound: Optional[Verdict] = None
@@ -46,6 +48,13 @@ class Search:
         self.is_undecided = False
         self.reasons: List[str] = []
         self.notes: List[str] = []
+
+    @property
+    def solver(self) -> Solver:
+        """The solver, which is asked for where there is one."""
+        if not self.tools.solver:
+            raise Trouble("there is no SAT solver")
+        return self.tools.solver
 
     def prepare(self) -> Optional[str]:
         """Makes what is searched, or tells why it cannot be made."""
@@ -65,6 +74,7 @@ class Search:
             self.without_latches()
             or self.bounded(steps[:few])
             or self.by_rows()
+            or self.by_itself()
             or self.by_abc()
             or self.bounded(steps[few:])
             or self.none_within()
@@ -102,7 +112,7 @@ class Search:
 
     def ask(self, target: Target, name: str, what: str, *options: Any) -> Said:
         """What the solver says of the clauses that aiger writes by these options; if nothing, the reason is noted."""
-        solver, limit, clauses = self.tools.solver, self.tools.limits.limit, self.folder / f"{name}.cnf"
+        solver, limit, clauses = self.solver, self.tools.limits.limit, self.folder / f"{name}.cnf"
         if self.left <= 0:
             self.fails(f"no answer for {what} in {limit:g} s")
             return Said.NOTHING
@@ -119,7 +129,7 @@ class Search:
 
     def is_shown(self, claim: str, name: str, *options: Any) -> bool:
         """Whether aiger says this of the model by the solver's refutation; if not, the reason is noted."""
-        solver = self.tools.solver
+        solver = self.solver
         if not solver.refutes:
             self.fails(f"{solver.kind} writes no refutation, as cadical does")
             return False
@@ -158,7 +168,7 @@ class Search:
         told = self.unroll(self.smaller, "--frames", count, "--answer", answer, self.smaller.path, smaller)
         witness = self.written(self.widened(smaller.read_text())) if told.status == 0 else None
         if not witness:
-            self.fails(f"the answer of {self.tools.solver.kind} for {what} is wrong")
+            self.fails(f"the answer of {self.solver.kind} for {what} is wrong")
             return Said.NOTHING, None
         return said, witness
 
@@ -172,10 +182,11 @@ class Search:
             return None
         path = self.folder / f"run{secrets.token_hex(4)}.aiw"
         path.write_text(text)
-        self.steps[path] = self.tools.aiger.confirmed(self.model.path, path)
-        if self.steps[path] is None:
+        step = self.tools.aiger.confirmed(self.model.path, path)
+        if step is None:
             discard(path)
             return None
+        self.steps[path] = step
         return path
 
     def step(self, witness: Path) -> int:
@@ -215,7 +226,7 @@ class Search:
     def is_none_within(self, count: int) -> bool:
         """Whether there is no run of at most so many steps: that is shown of the model."""
         name, options = f"within{count}", ("--frames", count)
-        if self.tools.solver.refutes:
+        if self.solver.refutes:
             if self.ask(self.whole, name, f"{count} steps", *options) is not Said.UNSATISFIABLE:
                 return False
         return self.is_shown(f"none within {count}", name, *options)
@@ -248,7 +259,7 @@ class Search:
         self.left = given = min(left, self.SHORT)
         verdict = self.by_invariant(rows)
         self.is_undecided, self.left = self.left <= 0, left - given + self.left
-        if verdict or not self.is_undecided:
+        if verdict or not self.is_undecided or not self.halves:
             return verdict
         self.reasons.clear()
         first_gates, equalities = self.halves
@@ -261,7 +272,7 @@ class Search:
         if self.unroll(self.whole, "--invariant", invariant, "--cnf", self.whole.path, clauses).status != 0:
             return None
         begun = time.monotonic()
-        sweep = Sweep(self.tools.solver, clauses, first_gates, equalities, self.left)
+        sweep = Sweep(self.solver, clauses, first_gates, equalities, self.left)
         is_refuted = sweep.refutes(self.folder / "never.drat")
         self.left -= time.monotonic() - begun
         if not is_refuted or not self.is_shown("never", "never", "--invariant", invariant):
@@ -276,6 +287,20 @@ class Search:
         verdict = self.by_gates(self.rows) if self.halves else self.by_invariant(self.rows)
         del self.reasons[reasons:]
         return verdict
+
+    def by_itself(self) -> Optional[Verdict]:
+        """What is shown by induction: that its own bad state, as rows of latches, is an invariant."""
+        rows = Cubes(self.model).rows(self.asked_literals())
+        if not rows or self.halves or not self.tools.solver:
+            return None
+        reasons = len(self.reasons)
+        verdict = self.by_invariant(rows)
+        del self.reasons[reasons:]
+        return verdict
+
+    def asked_literals(self) -> List[int]:
+        """The literals that are never to be 1."""
+        return [self.model.circuit.bad[self.assertion.bad]]
 
     def by_abc(self) -> Optional[Verdict]:
         """What ABC's pdr shows: an invariant, or a run."""
