@@ -120,7 +120,7 @@ class Run:
         folder, progress = session.folder / TOGETHER, session.progress
         if question.sides and asked:
             together = Together(question.sides, question.model, tools, folder, progress)
-            of_all = together.verdict()
+            of_all = together.of_all()
             for search in asked:
                 search.rows, search.halves = together.rows, together.halves
             return {it.assertion.bad: replace(of_all) for it in asked} if of_all else {}

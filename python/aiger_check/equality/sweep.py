@@ -87,9 +87,10 @@ class Sweep:
             self.add(self.held)
         for one, other, opposite, later in self.equalities:
             variable, literal = other + 2, (-1 if opposite else 1) * (one + 2 if one >= 0 else self.FALSE)
-            for sign in (1, -1) if later is not None else ():
-                self.add(-variable, literal, sign * (later + 2))
-                self.add(variable, -literal, sign * (later + 2))
+            at_first = () if later is None else (later + 2, -later - 2)
+            for first in at_first:
+                self.add(-variable, literal, first)
+                self.add(variable, -literal, first)
             self.merge(variable, literal)
         self.simulate()
 
@@ -233,7 +234,8 @@ class Window:
     difference of each (iCNF)."""
 
     def __init__(self, sweep: Sweep, pairs: List[Tuple[int, int]], depth: int) -> None:
-        self.sweep, self.numbers, self.variables = sweep, {}, [0]
+        self.sweep, self.variables = sweep, [0]
+        self.numbers: Dict[int, int] = {}
         self.lines, self.cubes = ["p inccnf", f"{-self.number(Sweep.FALSE)} 0"], []
         ends = [(variable, sweep.find(literal)) for variable, literal in pairs]
         layer, done = [abs(it) for pair in ends for it in pair], {Sweep.FALSE}

@@ -61,7 +61,7 @@ class ForAbc:
             gates=aigtools().Entries(aigtools().Gate, gates.words),
         )
 
-    def states(self, now: array, gates: Gates, bad: int, first: int) -> Tuple[int, List[Tuple[int, int, int]]]:
+    def states(self, now: Any, gates: Gates, bad: int, first: int) -> Tuple[int, List[Tuple[int, int, int]]]:
         """The output and the latches, by the literal that each variable has now."""
         begun = first if self.begins else 1
         failed = first + 2 * self.columns.index(FAILED) if FAILED in self.columns else 0
@@ -76,17 +76,18 @@ class ForAbc:
             elif column is FAILED:
                 later = gates.either(failed, gates.both(begun, held ^ 1))
             else:
-                literal = self.model.latches[column.latch].next
+                latch: int = column.latch or 0
+                literal = self.model.latches[latch].next
                 later = now[literal >> 1] ^ literal & 1 ^ column.negated
                 if self.begins:
-                    start = gates.both(begun ^ 1, self.start(column.latch))
+                    start = gates.both(begun ^ 1, self.start(latch))
                     later = gates.either(gates.both(begun, later), start)
             latches.append((first + 2 * at, later, 0))
         return output, latches
 
     def start(self, latch: int) -> int:
         """The literal of what a latch starts at."""
-        reset = self.model.latches[latch].reset
+        reset: int = self.model.latches[latch].reset
         return reset if reset < 2 else 2 * (len(self.inputs) + self.open.index(latch) + 1)
 
     def invariant(self, rows: Iterable[str]) -> List[str]:

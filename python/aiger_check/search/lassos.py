@@ -23,7 +23,8 @@ class Lassos(Search):
     MOST = 100000
 
     def prepare(self) -> Optional[str]:
-        self.source, self.goals = self.model, Goals(self.model, self.assertion.justice)
+        _, justice = self.assertion.option
+        self.source, self.goals = self.model, Goals(self.model, justice)
         self.smaller, live = Target(self.folder / "goals.aig", ("--justice", 0)), self.folder / "live.aig"
         self.smaller.path.write_bytes(self.goals.circuit().write())
         reason = self.tools.aiger.with_loop(self.smaller.path, 0, live)
@@ -34,7 +35,7 @@ class Lassos(Search):
 
     def verdict(self) -> Verdict:
         found = super().verdict()
-        return self.followed(found) if found.witness else found
+        return self.followed(found.witness) if found.witness else found
 
     def by_itself(self) -> Optional[Verdict]:
         return None
@@ -48,11 +49,11 @@ class Lassos(Search):
     def length(self, witness: Path) -> int:
         return len(witness.read_text().splitlines()) - 4
 
-    def followed(self, found: Verdict) -> Verdict:
+    def followed(self, found: Path) -> Verdict:
         """The lasso of the model, by that of its part: where more than the part has to come back it goes round more
         often, as far as steps and time allow."""
-        _, _, state, *steps, _, _ = found.witness.read_text().split("\n")
-        start, end = self.step(found.witness), time.monotonic() + self.tools.limits.time
+        _, _, state, *steps, _, _ = found.read_text().split("\n")
+        start, end = self.step(found), time.monotonic() + self.tools.limits.time
         known, stem, loop = dict(zip(self.goals.latches, state)), steps[:start], steps[start:]
         self.model = self.source
 
@@ -73,7 +74,7 @@ class Lassos(Search):
             if shorter:
                 discard(witness)
             too_few, rounds, witness = (too_few, fewer, shorter) if shorter else (fewer, rounds, witness)
-        return self.shortened(found.steps, witness)
+        return self.shortened(self.length(found), witness)
 
     def shortened(self, least: int, witness: Path) -> Verdict:
         """The shortest lasso of the model, by one of it, and by how many steps that of its part has."""
@@ -82,7 +83,7 @@ class Lassos(Search):
             self.notes.clear()
             if steps <= self.tools.limits.frames:
                 self.smaller = self.whole
-                witness = self.shortest(witness).witness
+                witness = self.shortest(witness).witness or witness
             else:
                 self.note_longer()
         return Verdict(Answer.REACHED, steps=self.step(witness), witness=witness)

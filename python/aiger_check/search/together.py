@@ -25,7 +25,7 @@ class Together(Search):
         super().__init__(Assertion("all", "together", 0), model, tools, folder, progress)
         self.whole, self.sides = Target(model.path), sides
 
-    def verdict(self) -> Optional[Verdict]:
+    def of_all(self) -> Optional[Verdict]:
         """That none is; else the rows are kept for the single ones, if they are an invariant."""
         self.folder.mkdir()
         solver = self.tools.solver
