@@ -33,6 +33,8 @@ def note_all(session: Session, front: Front) -> None:
     """Says what came up in the translation: all of it may change what an answer means."""
     for words in (*(f"Yosys: {line}" for line in front.yosys.warnings()), *front.notes):
         session.notes.warn(words)
+    for reason, cells in front.doubts:
+        session.doubts.add(reason, None if session.given.equal else cells)
 
 
 def of_verilog(session: Session, programs: Programs) -> Question:

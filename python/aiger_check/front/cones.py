@@ -1,6 +1,6 @@
 """What the cells of a flat design depend on."""
 
-from typing import Any, Dict, Iterable, List, Set
+from typing import Any, Dict, Iterable, List, Sequence, Set
 
 #: a bit of a netlist in JSON: a number, or "0", "1", "x", "z"
 Bit = Any
@@ -46,3 +46,12 @@ class Cones:
             waiting += [it for it in more if it not in seen]
             seen.update(more)
         return found
+
+    def depending(self, bits: Set[Bit], asked: Sequence[str], assumed: Sequence[str]) -> List[str]:
+        """The cells of the kinds that are asked which depend on one of these bits; all where an assumption does."""
+        kinds = {name: cell["type"] for name, cell in self.cells.items()}
+        conditions = [name for name, kind in kinds.items() if kind in assumed]
+        wanted = [name for name, kind in kinds.items() if kind in asked]
+        if self.bits(conditions) & bits:
+            return wanted
+        return [name for name in wanted if self.bits([name]) & bits]

@@ -2,13 +2,14 @@
 
 import re
 import secrets
-from typing import Callable, Dict, List, Optional, Sequence
+from typing import Any, Callable, Dict, List, Optional, Sequence, Tuple
 
 from aiger_check.answers import Assertion, Cover, LeftSide, Liveness
 from aiger_check.faults import Trouble, visible
-from aiger_check.front import defines, undefined
+from aiger_check.front import defines, processes, undefined
 from aiger_check.front.asked import Asked, MET
 from aiger_check.front.clocks import Clocks
+from aiger_check.front.cones import Cones
 from aiger_check.front.drivers import Drivers
 from aiger_check.front.properties import LEFT_OUT, Lost, Property, properties, renamed
 from aiger_check.front.told import told_positions, with_inputs
@@ -16,6 +17,8 @@ from aiger_check.front.undriven import refuse_undeclared, undriven, without_body
 from aiger_check.front.words import Source
 from aiger_check.front.yosys import Yosys, bare, quoted, top_of
 from aiger_check.model.circuit import Model
+
+ASKED, ASSUMED = ("$assert", "$live"), ("$assume", "$fair")
 
 
 class Front:
@@ -57,6 +60,8 @@ class Front:
         self.reason: Optional[str] = None
         self.clock: Optional[str] = None
         self.replays = False
+        #: reasons by which the model may not be the design, each with the cells on which it bears
+        self.doubts: List[Tuple[str, List[str]]] = []
 
     def translate(self) -> List[Assertion]:
         """Writes model.aig into the folder of the sources, and gives its assertions."""
@@ -75,6 +80,8 @@ class Front:
         if "$cover" in self.asked.kinds:
             flat = ["design -push-copy", "delete t:$cover", *flat, "design -pop"]
         self.yosys.do("setattr -mod -unset keep_hierarchy", "flatten", free, *flat)
+        if self.suspected:
+            self.doubt(self.yosys.netlist("whole"))
         self.delete(self.later)
         commands = (it for it in self.FLAT if not (self.keeps_outputs and it == "delete -output"))
         self.refuse_conflicts(self.yosys.do(*commands))
@@ -90,6 +97,16 @@ class Front:
         self.clocks = clocks.inputs()
         kinds = {cell["type"] for cell in module["cells"].values()}
         self.replays = self.clock is not None and "$initstate" not in kinds
+
+    def doubt(self, modules: Dict[str, Any]) -> None:
+        """Finds the assertions that depend on what a simulation may take in another way, before Yosys simplifies."""
+        module = modules[top_of(modules)]
+        cones = Cones(module)
+        for doubt in self.suspected:
+            nets = (net["bits"] for name, net in module["netnames"].items() if name.split(".")[-1] in doubt.nets)
+            # a constant is no net
+            bits = {bit for its in nets for bit in its if not isinstance(bit, str)}
+            self.doubts.append((visible(doubt.reason), cones.depending(bits, ASKED, ASSUMED)))
 
     def write(self, reason: Optional[str]) -> None:
         """Writes model.aig, whose steps are those of a global clock where there is a reason for it."""
@@ -125,6 +142,7 @@ class Front:
         self.refuse_drivers(Drivers(modules, before))
         self.properties = list(properties(modules, top_of(modules), source))
         self.notes += map(visible, Lost(modules, source).notes())
+        self.suspected = list(processes.doubts(source, modules))
         self.notes += map(visible, without_body(modules, self.sources))
         left_out = self.asked.left_out([it.kind for it in self.properties])
         for it in self.properties:

@@ -26,11 +26,12 @@ class Word(NamedTuple):
     file: str
     line: int
     column: int
+    #: where it stands in the text behind the preprocessor
+    offset: int
 
 
-def words(dump: str) -> Iterator[Word]:
-    """The words of what Yosys says of its preprocessor's work."""
-    text = dump.partition(BEGIN)[2].rpartition(END)[0]
+def words(text: str) -> Iterator[Word]:
+    """The words of a text behind the preprocessor."""
     file, line, start, above = "", 1, 0, []
     for piece in PIECE.finditer(text):
         kind, its = piece.lastgroup, piece[0]
@@ -41,7 +42,7 @@ def words(dump: str) -> Iterator[Word]:
             file, line = above.pop()
             start = piece.end()
         elif kind not in ("comment", "line"):
-            yield Word(its, file, line, piece.start() - start + 1)
+            yield Word(its, file, line, piece.start() - start + 1, piece.start())
         if kind in ("comment", "line", "string") and "\n" in its:
             line += its.count("\n")
             start = piece.start() + its.rindex("\n") + 1
@@ -71,7 +72,10 @@ class Source:
 
     def __init__(self, sources: Sources, dumps: List[str]) -> None:
         self.sources = sources
-        self.words = [word for name in dumps for word in words(text_of_dump(sources, name))]
+        texts = [text_of_dump(sources, name) for name in dumps]
+        #: of each file its text and its words
+        self.dumps = [(text, list(words(text))) for text in texts]
+        self.words = [word for _, its in self.dumps for word in its]
         self.parts = list(parts(self.words))
         self.properties: Dict[str, List[Word]] = {}
         for word in self.words:
@@ -86,4 +90,6 @@ class Source:
 
 
 def text_of_dump(sources: Sources, name: str) -> str:
-    return (sources.folder / name).read_text(encoding="latin-1")
+    """What Yosys says of its preprocessor's work."""
+    text = (sources.folder / name).read_text(encoding="latin-1")
+    return text.partition(BEGIN)[2].rpartition(END)[0]
