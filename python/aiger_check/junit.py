@@ -39,7 +39,7 @@ def report(suite: Suite, answered: Sequence[Answered], status: Status) -> bytes:
         add_test(root, suite.name, it)
     if suite.trouble is not None:
         test = ElementTree.SubElement(root, "testcase", classname=visible(suite.name), name=PROGRAM)
-        add_fault(test, Status.TROUBLE, suite.trouble)
+        add_fault(test, Status.TIMEOUT if status is Status.TIMEOUT else Status.TROUBLE, suite.trouble)
     if suite.notes:
         ElementTree.SubElement(root, "system-err").text = "".join(f"{visible(it)}\n" for it in suite.notes)
     counts = {"tests": "testcase", "failures": "testcase/failure", "errors": "testcase/error"}

@@ -18,7 +18,7 @@ from aiger_check.faults import Trouble
 from aiger_check.junit import Suite, report
 from aiger_check.keep.keeper import TOGETHER
 from aiger_check.keep.keepers import Keepers
-from aiger_check.keep.whole import put_whole
+from aiger_check.keep.whole import is_special, put_whole
 from aiger_check.programs import Programs
 from aiger_check.report import show
 from aiger_check.search.joint import Joint
@@ -59,12 +59,16 @@ class Run:
         # what is blocked here would be in the programs that are started
         signal.pthread_sigmask(signal.SIG_UNBLOCK, SIGNALS)
         self.session.start()
+        if self.given.junit and not is_special(Path(self.given.junit)):
+            # so no report of an earlier run stands there, whatever ends this one
+            self.write_report(Status.TROUBLE, "the run has not ended")
         try:
             status = self.checked()
         except (Trouble, OSError) as why:
             self.write_report(Status.TROUBLE, str(why))
             raise
-        self.write_report(status)
+        is_answered = self.tally.answered and status is not Status.TROUBLE
+        self.write_report(status, None if is_answered else "; ".join(self.session.notes.all) or "there is no answer")
         return status
 
     @property

@@ -11,13 +11,18 @@ from aiger_check.faults import Trouble, visible
 def put_whole(place: Path, data: bytes, mode: int = 0o666) -> Path:
     """Writes a file beside its place, and renames it into that. A device or a pipe stays what it is."""
     try:
-        if place.exists() and not place.is_file():
+        if is_special(place):
             place.write_bytes(data)
         else:
             put_beside(place, data, mode)
     except OSError as why:
         raise Trouble(f"{visible(str(place))}: {why.strerror}") from why
     return place
+
+
+def is_special(place: Path) -> bool:
+    """Whether something is there that is no file."""
+    return place.exists() and not place.is_file()
 
 
 def put_beside(place: Path, data: bytes, mode: int) -> None:

@@ -316,6 +316,29 @@ def junit_of_unknown(room):
     checked.need(said.status == checked.TROUBLE, "another status", said)
 
 
+def junit_without_answer(room):
+    """Where there is no answer, or no end, the report has an error, and none of an earlier run is left."""
+    changes = model_rows.honest(room)
+    room.may_write.add("report.xml")
+    put(room, {"none.aag": "aag 1 1 0 0 0\n2\n", "model.aag": TEXTS[NEVER][0]})
+    os.mkfifo(room.here / "pipe")
+    for words, kind, part in (
+        (["none.aag"], "error", "bad state"), (["--equal", "none.aag", "none.aag"], "error", "no output"),
+        (["--timeout", "1", "pipe"], "error", "not ended"),
+    ):
+        room.run("--junit", "report.xml", "model.aag", changes=changes)
+        checked.need(not read_report(room).findall("testcase/error"), "an error of an answer")
+        said = room.run("--junit", "report.xml", *words, changes=changes)
+        (error,) = read_report(room).findall("testcase/error")
+        checked.need(error.get("type") == kind and part in error.get("message"), f"another error {error.attrib}", said)
+    put(room, {"m.sv": COUNTER})
+    slow = stand_ins.sleeping(room.folder / "slow", "yosys", room.folder / "begun")
+    words = ["--timeout", "1", "--junit", "report.xml", "--top", "m", "m.sv"]
+    said = room.run(*words, changes={**changes, "YOSYS": slow})
+    (error,) = read_report(room).findall("testcase/error")
+    checked.need(error.get("type") == "timeout" and "no time left" in error.get("message"), "another error", said)
+
+
 ODD = "<&>\"' \x01\x1b]]> \N{SNOWMAN} \udcff"
 
 
@@ -527,6 +550,7 @@ def rows():
         yield f"JUnit of {which}", each(junit, which)
     yield "JUnit of a design", junit_of_design
     yield "JUnit of what is unknown", junit_of_unknown
+    yield "JUnit without an answer", junit_without_answer
     yield "JUnit of odd names", junit_of_odd_names
     yield "JUnit of two designs", junit_of_two
     for first, second in ((NEVER_BAD, REACHED_BAD), (REACHED_BAD, NEVER_BAD), (NEVER_BAD, NEVER_BAD)):
