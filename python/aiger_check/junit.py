@@ -10,9 +10,8 @@ from aiger_check.faults import visible
 from aiger_check.statuses import Status, outcome_of, status_of_one
 from aiger_check.tallies import Answered
 
-#: an answer that is none of these is a failure or an error of its test
-CALLED = {
-    Status.BROKEN: "reached",
+#: what is an error of a test, and of which type
+ERRORS = {
     Status.VACUOUS: "vacuous",
     Status.UNKNOWN: "unknown",
     Status.TIMEOUT: "timeout",
@@ -39,7 +38,8 @@ def report(suite: Suite, answered: Sequence[Answered], status: Status) -> bytes:
         add_test(root, suite.name, it)
     if suite.trouble is not None:
         test = ElementTree.SubElement(root, "testcase", classname=visible(suite.name), name=PROGRAM)
-        add_fault(test, Status.TIMEOUT if status is Status.TIMEOUT else Status.TROUBLE, suite.trouble)
+        kind = ERRORS.get(status, ERRORS[Status.TROUBLE])
+        ElementTree.SubElement(test, "error", type=kind, message=visible(suite.trouble))
     if suite.notes:
         ElementTree.SubElement(root, "system-err").text = "".join(f"{visible(it)}\n" for it in suite.notes)
     counts = {"tests": "testcase", "failures": "testcase/failure", "errors": "testcase/error"}
@@ -50,13 +50,20 @@ def report(suite: Suite, answered: Sequence[Answered], status: Status) -> bytes:
 def add_test(root: ElementTree.Element, name: str, it: Answered) -> None:
     """Adds the test that an assertion is."""
     assertion, verdict = it
-    named = {"classname": visible(name), "name": visible(assertion.name), **place_of(assertion)}
+    named = {"classname": visible(name), "name": visible(called(assertion)), **place_of(assertion)}
     test = ElementTree.SubElement(root, "testcase", named)
-    status = status_of_one(assertion, verdict)
-    if status in CALLED:
-        add_fault(test, status, assertion.said(verdict))
+    status, said = status_of_one(assertion, verdict), visible(assertion.said(verdict))
+    if status is Status.BROKEN:
+        ElementTree.SubElement(test, "failure", type=assertion.called(verdict.answer), message=said)
+    elif status in ERRORS:
+        ElementTree.SubElement(test, "error", type=ERRORS[status], message=said)
     else:
-        ElementTree.SubElement(test, "system-out").text = visible(assertion.said(verdict))
+        ElementTree.SubElement(test, "system-out").text = said
+
+
+def called(assertion: Assertion) -> str:
+    """The name of a test; several kinds may have one name."""
+    return assertion.name if assertion.listed in ("assertions", "pairs") else f"{assertion.unit} {assertion.name}"
 
 
 def place_of(assertion: Assertion) -> Dict[str, str]:
@@ -65,8 +72,3 @@ def place_of(assertion: Assertion) -> Dict[str, str]:
     if match:
         return {"file": visible(match[1]), "line": match[2]}
     return {"file": visible(assertion.place)} if assertion.shown() else {}
-
-
-def add_fault(test: ElementTree.Element, status: Status, words: str) -> None:
-    kind = "failure" if status is Status.BROKEN else "error"
-    ElementTree.SubElement(test, kind, type=CALLED[status], message=visible(words))
