@@ -24,6 +24,10 @@ Options:
                            beside the list
       --clock <NAME>       This input is a clock, and no other is but those that
                            are named so
+      --mode <MODE>        Ask less: bmc (assertions within K steps), prove
+                           (assertions), live (liveness), cover (covers)
+      --cover-asserts      Say of each assertion under a condition too whether
+                           a run meets that
       --frames <K>         Search runs of at most K steps (default: 50)
       --time <SECONDS>     Limit of ABC's pdr for one assertion (default: 30)
       --limit <SECONDS>    Limit of the SAT solver for one assertion
@@ -61,6 +65,15 @@ For liveness, as of assert property (s_eventually e), it is one of these.
   vacuous, unknown    as above
 assume property (s_eventually e) is fairness, which liveness may build on.
 
+With --mode cover each cover has one of these answers.
+  covered at N      a run reaches it at step N, the least; with --keep it is
+                    there
+  never             no run, of any length, reaches it
+  none within K     no run of at most K steps does
+  unknown           as above
+With --cover-asserts the left side of an assertion, as a in if (a) assert (b),
+is met at N, never met, not met within K or unknown.
+
 The assertions of an AIGER file are its bad states and its justice properties,
 by symbol, or as b0, b1, .., j0, j1, ..
 
@@ -95,11 +108,11 @@ yosys, berkeley-abc and cadical.
 
 Exit status:
   0  each answer is never or none within K; holds, no lasso within K; equal,
-     equal for K steps, holds
+     equal for K steps, holds; covered, met
   1  an assertion is broken, whatever the others are: reached at N, lasso at S;
-     a pair differs; an assumption fails
+     a pair differs; an assumption fails; a cover is not covered
   2  the command line was refused
-  3  an answer is vacuous
+  3  an answer is vacuous, or a left side is not met
   4  an answer is unknown
   8  the time of --timeout was over before all was answered
   16 there is no answer: no assertion or pair, a tool fails or is missing, or a
