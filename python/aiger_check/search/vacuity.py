@@ -52,6 +52,7 @@ class Long(Search):
 
     def run_of(self, count: int) -> Optional[Path]:
         """The witness of such a run, if there is one."""
+        self.left = min(self.left, self.tools.limits.time)
         self.folder.mkdir()
         self.prepare()
         said, witness = self.within(count)

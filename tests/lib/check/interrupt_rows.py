@@ -7,7 +7,7 @@ import sys
 import time
 
 from lib.check import checked, design_rows, designs, model_rows, stand_ins
-from lib.check.model_rows import LATE, TOKENS
+from lib.check.model_rows import LATE, RING
 
 STATUSES = {signal.SIGINT: 130, signal.SIGTERM: 143}
 # they end a program that does not take them
@@ -31,7 +31,7 @@ def has_numbers(begun):
 def slept(room, name):
     """The words and changes of a run in which this tool sleeps, and the file that tells its processes."""
     begun, changes = room.folder / "begun", model_rows.honest(room)
-    (room.here / "model.aag").write_text(model_rows.TEXTS[LATE if name == "AIGER" else TOKENS][0], encoding="ascii")
+    (room.here / "model.aag").write_text(model_rows.TEXTS[LATE if name == "AIGER" else RING][0], encoding="ascii")
     called = {"SOLVER": "cadical", "ABC": "berkeley-abc", "YOSYS": "yosys", "AIGER": "aiger"}[name]
     changes[name] = stand_ins.sleeping(room.folder / "slow", called, begun)
     words = ["model.aag"]
@@ -115,7 +115,7 @@ def ended_reader(room):
 def ignored(room):
     """Where SIGINT is ignored from the first, as behind nohup and &, the run goes on or ends: nothing is left."""
     changes = model_rows.honest(room)
-    (room.here / "model.aag").write_text(model_rows.TEXTS[TOKENS][0], encoding="ascii")
+    (room.here / "model.aag").write_text(model_rows.TEXTS[RING][0], encoding="ascii")
     words = ["bash", "-c", 'trap "" INT; "$@" & wait $!', "-", sys.executable, checked.CHECK, "model.aag"]
     ran = subprocess.run(words, cwd=room.here, env=room.settings(changes), capture_output=True, check=False, text=True)
     checked.need(ran.returncode == 0 and "never" in ran.stdout, "another answer", ran)

@@ -15,12 +15,20 @@ MODELS = reached.all_models(BY_CHANCE)
 
 # of each model its text, and the first step of each bad state
 NEVER, TOGGLE, TOKENS, LATE = "never", "toggle", "tokens", "late"
+RING, MOVED = "a ring", "a ring that an input moves"
 TEXTS = {
     # no two of the four values of two inputs are at once: that needs a lemma
     NEVER: ("aag 9 2 0 0 7 1\n2\n4\n18\n6 5 3\n8 5 2\n10 4 3\n12 4 2\n14 9 7\n16 13 11\n18 16 14\n", [None]),
     TOGGLE: ("aag 1 0 1 0 0 1\n2 3\n2\n", [1]),
     # two latches that exchange their values, of which one starts at 1
     TOKENS: ("aag 3 0 2 0 1 1\n2 4 1\n4 2\n6\n6 4 2\n", [None]),
+    # three of which one starts at 1: that two are never both 1 is no invariant by itself
+    RING: ("aag 4 0 3 0 1 1\n2 6 1\n4 2\n6 4\n8\n8 4 2\n", [None]),
+    MOVED: (
+        "aag 14 1 3 0 10 1\n2\n4 15 1\n6 21\n8 27\n28\n10 8 2\n12 4 3\n14 13 11\n16 4 2\n18 6 3\n20 19 17\n22 6 2\n24 8 3\n"
+        "26 25 23\n28 6 4\n",
+        [None],
+    ),
     LATE: ("aag 4 1 3 0 0 2\n2\n4 2\n6 4\n8 6\n8\n9\n", [3, 0]),
     "an input": ("aag 1 1 0 0 0 1\n2\n2\n", [0]),
     "constants": ("aag 0 0 0 0 0 2\n0\n1\n", [None, 0]),

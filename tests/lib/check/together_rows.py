@@ -128,6 +128,31 @@ def of_design(count, which, room):
     checked.judge_kept(room, room.here / "kept", found, said)
 
 
+# of each model its text, and what is said of it where ABC is not there: an assertion that is inductive needs no ABC
+INDUCTIVE = {
+    "two tokens that change places": (model_rows.TEXTS[model_rows.TOKENS][0], "never"),
+    "a latch that stays": ("aag 1 0 1 0 0 1\n2 2\n2\n", "never"),
+    "a latch that a constraint keeps at 1": ("aag 2 1 1 0 0 1 1\n2\n4 3 1\n5\n3\n", "never"),
+    "two that follow one another": ("aag 4 1 2 0 1 1\n2\n4 2\n6 4\n8\n8 6 5\n", "reached at 2"),
+    "two that are shown side by side": ("aag 2 0 2 0 0 2\n2 4\n4 2\n2\n4\n", "never"),
+    "a ring, of which the states before are not enough": (model_rows.TEXTS[model_rows.RING][0], "none within 8"),
+    "what depends on an input": ("aag 3 1 1 0 1 1\n2\n4 4\n6\n6 4 2\n", "never"),
+}
+
+
+def inductive(which, room):
+    """What is shown without ABC, and kept and checked again."""
+    text, answer = INDUCTIVE[which]
+    (room.here / "model.aag").write_text(text, encoding="ascii")
+    room.may_write.add("kept")
+    changes = {**model_rows.honest(room), "ABC": "none"}
+    said = room.run("--frames", "8", "--keep", "kept", "model.aag", changes=changes)
+    found = checked.of_lines(said)
+    lines = [it.partition("): ")[2].partition(",")[0] for it in said.out.splitlines()[:-1]]
+    checked.need(set(lines) == {answer}, f"{answer} is due", said)
+    checked.judge_kept(room, room.here / "kept", found, said)
+
+
 def lying(name, said, room):
     """A tool that lies: no line is wrong."""
     made = many(random.Random(3), 6)
@@ -150,6 +175,8 @@ def rows():
         yield f"together: few programs for {count}", each(few_programs, count, most)
     for which in ("all", "some", "one", "none"):
         yield f"together: a design of which {which} hold", each(of_design, 10, which)
+    for which in INDUCTIVE:
+        yield f"by induction: {which}", each(inductive, which)
     for said in stand_ins.SOLVER_LIES:
         yield f"together: the solver gives {said}", each(lying, "SOLVER", said)
     for said in stand_ins.ABC_LIES:

@@ -6,7 +6,7 @@ import shutil
 import subprocess
 
 from lib.check import checked, design_rows, model_rows, stand_ins
-from lib.check.model_rows import LATE, NEVER, TOGGLE, TOKENS
+from lib.check.model_rows import LATE, MOVED, NEVER, RING, TOGGLE
 
 CONSTRAINED = "a constraint of a latch"
 BASICS = ["python3", "bash", "sh", "env", "sleep"]
@@ -54,7 +54,7 @@ def with_few(kept, which, way, room):
 
 def by_other_name(room):
     """ABC may be called abc."""
-    truths = put(room, TOKENS)
+    truths = put(room, RING)
     tools = all_tools(room)
     tools["abc"] = tools.pop("berkeley_abc")
     said = room.run("model.aag", changes={**NOTHING, "PATH": few(room, **tools)})
@@ -191,7 +191,7 @@ AIGER = {
 
 def slow(name, words, changes, way, room):
     """A tool that sleeps is ended at its limit, with its own child."""
-    truths, begun = put(room, TOKENS), room.folder / "begun"
+    truths, begun = put(room, RING), room.folder / "begun"
     tools = {**model_rows.honest(room), name: stand_ins.sleeping(room.folder / "slow", changes, begun)}
     said = room.run("--frames", "8", *words, "model.aag", changes=tools)
     checked.judge(said, truths, way, 8)
@@ -221,7 +221,7 @@ def slow_from_two(room):
 
 def chatty(name, room):
     """Tools that say very much before they end."""
-    truths = put(room, TOKENS)
+    truths = put(room, RING)
     script = "solver.py" if name == "SOLVER" else "abc.py"
     honest = stand_ins.runs(script).removeprefix("exec ")
     body = f'yes "c a line" | head -n 200000 >&2; {honest} "$@"'
@@ -232,7 +232,7 @@ def chatty(name, room):
 
 def no_program(name, file, room):
     """A variable names what is no program."""
-    truths = put(room, TOKENS)
+    truths = put(room, RING)
     (room.folder / "cadical").write_text("no program\n", encoding="ascii")
     (room.folder / "folder").mkdir()
     (room.folder / "broken").write_text("#!/no such program\n", encoding="ascii")
@@ -263,23 +263,23 @@ def rows():
     for at, said in enumerate(stand_ins.SOLVER_LIES):
         for which in (NEVER, [LATE, CONSTRAINED][at % 2]):
             yield f"of {which} the solver gives {said}", each(lying_solver, said, which, at % 4 < 2)
-    for said, which in itertools.product(stand_ins.ABC_LIES, [TOKENS, LATE]):
+    for said, which in itertools.product(stand_ins.ABC_LIES, [RING, LATE]):
         yield f"of {which} ABC gives {said}", each(lying_abc, said, which)
-    for which in (NEVER, LATE, TOKENS, TOGGLE, CONSTRAINED):
+    for which in (NEVER, LATE, RING, TOGGLE, CONSTRAINED):
         yield f"the solver turned round, of {which}", each(turned_solver, which)
         yield f"rows that are not proved, of {which}", each(unproved_rows, which)
-    for (called, (word, words, status)), which in itertools.product(AIGER.items(), [TOKENS, LATE]):
+    for (called, (word, words, status)), which in itertools.product(AIGER.items(), [RING, LATE]):
         yield f"{called}, of {which}", each(failing_aiger, word, words, status, which)
     for called, (body, patterns) in YOSYS.items():
         yield f"Yosys {called}", each(by_yosys, body, patterns)
-    for which in (TOKENS, LATE, CONSTRAINED):
+    for which in (RING, LATE, CONSTRAINED):
         yield f"no ABC, of {which}", each(with_few, ["aiger", "cadical"], which, checked.BOUNDED)
         yield f"no solver, of {which}", each(with_few, ["aiger", "berkeley_abc"], which, checked.SAFE)
         yield f"neither ABC nor a solver, of {which}", each(with_few, ["aiger"], which, checked.SAFE)
         yield f"no Yosys, of {which}", each(with_few, ["aiger", "berkeley_abc", "cadical"], which, checked.EXACT)
-    yield f"simplified clauses of {TOKENS}", each(bounded, TOKENS, True, False)
-    yield f"an aiger that does not simplify, of {TOKENS}", each(bounded, TOKENS, False, True)
-    yield "plain clauses where most gates stay", each(bounded, "a latch that a constraint keeps at 1", False, False)
+    yield f"simplified clauses of {RING}", each(bounded, RING, True, False)
+    yield f"an aiger that does not simplify, of {RING}", each(bounded, RING, False, True)
+    yield "plain clauses where most gates stay", each(bounded, MOVED, False, False)
     yield "ABC by its other name", by_other_name
     yield "no aiger", each(without_aiger, {})
     yield "an aiger that is not there", each(without_aiger, {"AIGER": "/no/such/aiger"})

@@ -13,7 +13,7 @@ from lib.check.checked import Truth
 BY_CHANCE, FRAMES = 80, 50
 COUNTER = "reg [3:0] c = 0; always @(posedge clk) c <= c + 1;"
 WIDE = "reg [31:0] c = 0; always @(posedge clk) c <= c + 1;"
-FOR_EVER = "cannot be kept for ever"
+FOR_EVER = "for ever"
 FIRST = "contradict one another in the first step"
 
 
@@ -166,7 +166,7 @@ SIDES = "module m(input clk, a, b, output reg [3:0] c = 0); always @(posedge clk
 PAIRS = {
     "a counter that may not go on": (SIDES.format("1", "assume property (c != 2);"), SIDES.format("1", ""), [beyond(1)] * 4),
     "a clocked contradiction": (
-        SIDES.format("1", "always @(posedge clk) begin assume (a); assume (!a); end"), SIDES.format("3", ""), [FIRST] * 4
+        SIDES.format("1", "always @(posedge clk) begin assume (a); assume (!a); end"), SIDES.format("1", ""), [beyond(0)] * 4
     ),
     "a difference before it": (SIDES.format("1", "assume property (c != 2);"), SIDES.format("3", ""), [beyond(1), "differs at 1", beyond(1), beyond(1)]),
     "an assumption of the second": (
