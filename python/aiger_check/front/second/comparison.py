@@ -253,7 +253,9 @@ class Comparison:
         found.signals, found.unknown = signals.compared, signals.unknown
         inputs = {place[0] for place in self.probed.inputs if place}
         clocks = named_nets(self.probed, self.clock) if self.clock else []
-        found.other_names = sorted(set(self.probed.widths) - signals.compared - inputs - set(clocks))
+        others = set(self.probed.widths) - signals.compared - inputs - set(clocks)
+        # what functions have within is Yosys's own
+        found.other_names = sorted(it for it in others if "$" not in it)
         self.judge_assertions(found)
         return found
 
