@@ -55,6 +55,20 @@ def sure(text, room):
     checked.need([it.answer for it in checked.answers_of(said)] == ["never"], "it is not shown", said)
 
 
+FILL = "integer i, j; initial for (i = 0; i < 3; i = i + 1) for (j = 0; j < 4; j = j + 1)"
+ARRAYS = {
+    "an inner index": f"reg [1:0] w [0:2][0:3]; {FILL} w[i][j] = 0; x: assert property (w[0][d[2:0]] == 0);",
+    "the inner one of three": "reg w [0:1][0:2][0:1]; x: assert property (w[0][s][0] == w[0][s][0] || d > 15);\n"
+    "always @(posedge clk) w[0][s][1] <= w[0][s][0];",
+    "a size by its number": "reg w [2][3]; always @(posedge clk) w[0][s] <= 1; x: assert property (w[1][0] || d <= 15);",
+    "where it is written": "reg w [0:2][0:2]; reg q = 0, r = 0; always @(posedge clk) begin w[0][s] <= d[0];\n"
+    "q <= w[1][0]; r <= w[1][0]; end x: assert property (q == r);",
+}
+SURE_ARRAYS = [
+    f"reg [1:0] w [0:2][0:3]; {FILL} w[i][j] = 0; x: assert property (w[1][s] == 0);",
+    "reg w [0:1][0:3]; reg q = 0, r = 0; always @(posedge clk) begin w[1][s] <= d[1]; q <= w[1][0]; r <= w[1][0]; end\n"
+    "x: assert property (q == r);",
+]
 PARAMETERS = {
     "W=4": ("reached", "reached", "never"),
     "W=2": ("never", "reached", "never"),
@@ -117,6 +131,10 @@ def rows():
         yield f"front: a race with {name}", each(doubted, inside(text + last + more), "write <=")
     for at, text in enumerate(NO_RACES):
         yield f"front: no race {at}", each(sure, inside(text))
+    for name, text in ARRAYS.items():
+        yield f"front: an array, {name}", each(doubted, inside(text), "an index of w may be out of range")
+    for at, text in enumerate(SURE_ARRAYS):
+        yield f"front: an index within {at}", each(sure, inside(text))
     for word, wanted in PARAMETERS.items():
         yield f"front: -P {word}", each(with_parameter, word, wanted)
     for word, message in NO_PARAMETERS.items():
