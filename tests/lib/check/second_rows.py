@@ -480,7 +480,8 @@ def lying(which, room):
     design_rows.placed(room)
     body, noted = SIMULATORS[which]
     simulator = stand_ins.put(room.folder / "other", "iverilog", body.format(real=shutil.which("iverilog")))
-    said = room.run("--top", "counter", "counter.sv", changes={"IVERILOG": simulator})
+    changes = {"IVERILOG": simulator, "VERILATOR": "no such program"}
+    said = room.run("--top", "counter", "counter.sv", changes=changes)
     checked.judge(said, design_rows.truths(designs.one("counter")))
     need(re.search(noted, said.err), f"{noted} is not said", said)
 
@@ -503,7 +504,8 @@ def sleeping(room):
     design_rows.need_tools(*TOOLS)
     design_rows.placed(room)
     begun = room.folder / "begun"
-    changes = {"IVERILOG": stand_ins.sleeping(room.folder / "slow", "iverilog", begun)}
+    slow = stand_ins.sleeping(room.folder / "slow", "iverilog", begun)
+    changes = {"IVERILOG": slow, "VERILATOR": "no such program"}
     said = room.run("--top", "counter", "counter.sv", changes=changes)
     checked.judge(said, design_rows.truths(designs.one("counter")))
     need("no second front end was asked" in said.err and "10 s" in said.err, "it is not said", said)
@@ -518,6 +520,28 @@ def without(changes, noted, words, room):
     checked.judge(said, design_rows.truths(designs.one("counter")))
     need(bool(noted) == ("second front end" in said.err), "another note", said)
     need(not noted or re.search(noted, said.err), f"{noted} is not said", said)
+
+
+def by_verilator(room):
+    """Where there is no Icarus, Verilator is asked, which knows no x."""
+    design_rows.need_tools("yosys", "berkeley-abc", "cadical", "verilator", "make", "g++")
+    put(room, WRONG["takes and for or"][1])
+    wrong = wrong_yosys(room, WRONG["takes and for or"][0])
+    said = room.run("--top", "m", "m.sv", changes={"IVERILOG": "no such program", "YOSYS": wrong})
+    if "took more than" not in said.err:
+        need("m.both differs at step" in said.out and "in Verilator" in said.out, "it is not found", said)
+
+
+def of_a_cover(room):
+    """A cover of a wrong model is not said to be never reached."""
+    design_rows.need_tools(*TOOLS)
+    put(
+        room,
+        "module m(input clk, input [1:0] a);\n  wire any = |a;\n  low: cover property (any && a == 1);\nendmodule\n",
+    )
+    wrong = wrong_yosys(room, "chtype -set $reduce_and t:$reduce_or")
+    said = room.run("--mode", "cover", "--top", "m", "m.sv", changes={"YOSYS": wrong})
+    need("never" not in said.out.splitlines()[0] and "m.any differs at step" in said.out, "it is said", said)
 
 
 def refused_option(room):
@@ -611,6 +635,8 @@ def rows():
     yield "no Icarus", each(without, missing, "no second front end was asked: .*iverilog", [])
     yield "no second front end is wanted", each(without, {}, "", ["--second", "none"])
     yield "another second front end", refused_option
+    yield "Verilator in the place of Icarus", by_verilator
+    yield "a cover that Icarus takes otherwise", of_a_cover
     yield "both waveforms where the two differ", kept_waves
     yield "two designs in Icarus", of_two
     yield "witnesses in Icarus", witnesses

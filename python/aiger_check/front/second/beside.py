@@ -44,6 +44,8 @@ class Second:
     is_of_all: bool = False
     report: Report = field(default_factory=Report)
     comparison: Optional[Comparison] = None
+    #: what is wrong first, of which it may not be known what depends on it
+    wrong: str = ""
     #: both waveforms of a run in which the two differ, by their names
     waves: Dict[str, Path] = field(default_factory=dict)
 
@@ -77,6 +79,8 @@ class Second:
             self.report.notes.append(f"{NOT_ASKED}: {type(why).__name__}: {visible(str(why))}")
         for reason, cells in self.report.doubts:
             self.doubts.add(reason, None if self.is_of_all else cells)
+        if self.wrong:
+            self.doubts.add_for_others(self.wrong, self.report.known)
 
     def by_first(self) -> None:
         """Asks Icarus, or Verilator where that is not there or cannot read the design."""
@@ -107,7 +111,8 @@ class Second:
                 raise Refused(words, True) from why
             self.report.doubts.append((f"{simulator.called} refuses what Yosys takes: {words}", None))
             return
-        self.report, self.comparison = Findings(comparison, compared, self.is_of_all).report(), comparison
+        findings = Findings(comparison, compared, self.is_of_all)
+        self.report, self.comparison, self.wrong = findings.report(), comparison, findings.first_wrong()
         if self.report.doubts:
             self.put_waves(comparison, compared.findings[0].run)
 

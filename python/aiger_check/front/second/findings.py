@@ -24,6 +24,8 @@ class Report:
     doubts: List[Tuple[str, Optional[List[str]]]] = field(default_factory=list)
     lines: Dict[str, List[str]] = field(default_factory=dict)
     notes: List[str] = field(default_factory=list)
+    #: the cells of which it is known what they depend on
+    known: List[str] = field(default_factory=list)
 
 
 class Depends:
@@ -92,6 +94,10 @@ class Findings:
             report.notes.append(self.agreement(report))
         return report
 
+    def first_wrong(self) -> str:
+        """What is wrong first, if anything is."""
+        return next((self.words(it) for it in self.ordered(DIFFERS, OPEN)), "")
+
     def ordered(self, *kinds: str) -> List[Finding]:
         """Those of some kinds, those before which on others depend. Where something is known in neither of the two that
         they depend on, an x in the simulation may be one that a value of it has not."""
@@ -112,6 +118,7 @@ class Findings:
             if finding and not of_all:
                 cells.setdefault(finding, []).append(cell)
         report.doubts += [(self.words(finding, "it"), its) for finding, its in cells.items()]
+        report.known = self.depends.properties(*PROPERTIES)
         if wrong and not report.doubts:
             report.notes.append(f"{self.words(wrong[0])}; no assertion depends on it")
 
