@@ -10,7 +10,7 @@ from xml.etree import ElementTree
 
 from lib.check import checked, design_rows, model_rows, stand_ins
 from lib.check.checked import Truth
-from lib.check.model_rows import LATE, NEVER, TEXTS, TOKENS
+from lib.check.model_rows import LATE, NEVER, RING, TEXTS, TOKENS
 
 COUNTER = """module m(input clk);
   reg [2:0] a = `START;
@@ -159,7 +159,7 @@ def model_rows_put(room, which):
 
 def late(name, words, room):
     """A tool that sleeps: what was found is said, the rest is unknown, in not much more than the time that was given."""
-    truths, begun = model_rows_put(room, TOKENS), time.monotonic()
+    truths, begun = model_rows_put(room, RING), time.monotonic()
     called = {"SOLVER": "cadical", "ABC": "berkeley-abc"}[name]
     changes = {**model_rows.honest(room), name: stand_ins.sleeping(room.folder / "slow", called, room.folder / "begun")}
     said = room.run("--timeout", "1", *words, "model.aag", changes=changes)

@@ -265,8 +265,8 @@ def by_chance(at, has_tools, frames, room):
 def bounded(frames, wanted, room):
     """Within a bound that the assumptions are kept for, something is said; beyond it not."""
     changes = {**model_rows.honest(room), "ABC": "none"}
-    # a counter of two latches that may not come to 3; and a latch that nothing changes, for which no invariant is found
-    text = "aag 8 0 3 0 5 1 1\n2 3\n4 10\n6 6\n12\n15\n8 2 4\n16 3 5\n10 9 17\n12 6 6\n14 2 4\n"
+    # a counter of two latches that may not come to 3, beside a ring of three, for which rows of its own are not enough
+    text = "aag 10 0 5 0 4 1 1\n2 3\n4 18\n6 10 1\n8 6\n10 8\n20\n13\n12 4 2\n16 5 3\n18 17 13\n20 8 6\n"
     (room.here / "model.aag").write_text(text, encoding="ascii")
     said = room.run("--frames", str(frames), "model.aag", changes=changes)
     answered([it.partition("): ")[2] for it in said.out.splitlines()[:-1]], wanted, said)
