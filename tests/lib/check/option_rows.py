@@ -162,7 +162,7 @@ def late(name, words, room):
     truths, begun = model_rows_put(room, RING), time.monotonic()
     called = {"SOLVER": "cadical", "ABC": "berkeley-abc"}[name]
     changes = {**model_rows.honest(room), name: stand_ins.sleeping(room.folder / "slow", called, room.folder / "begun")}
-    said = room.run("--timeout", "1", *words, "model.aag", changes=changes)
+    said = room.run("--timeout", "3", *words, "model.aag", changes=changes)
     found = checked.judge(said, truths, checked.SAFE)
     are_late = all(it.answer == "unknown" and it.reason == checked.LATE for it in found)
     checked.need(said.status == checked.TIMEOUT and are_late, "it is not late", said)
