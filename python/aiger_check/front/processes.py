@@ -4,6 +4,7 @@ another one assigns at the same edge."""
 import re
 from typing import Any, Dict, Iterator, List, NamedTuple, Sequence, Set, Tuple
 
+from aiger_check.front.arrays import Arrays, widths_of
 from aiger_check.front.second.statements import Process, Walk
 from aiger_check.front.second.tokens import Token, closing, tokens_of
 from aiger_check.front.words import Source, Word
@@ -115,10 +116,18 @@ def doubts(source: Source, modules: Dict[str, Any]) -> Iterator[Doubt]:
     for name, module in modules.items():
         its = nets.setdefault(bare(module["attributes"].get("hdlname", name)), set())
         its.update(re.split(r"\.", bare(it))[-1] for it in module["netnames"])
+    widths = widths_of(list(modules.values()))
     for dump, words in source.dumps:
-        for offset, doubt in Processes(dump, nets).doubts():
+        processes = Processes(dump, nets)
+        for offset, doubt in (*processes.doubts(), *of_arrays(processes.tokens, widths)):
             place = source.place(word_at(words, offset))
             yield doubt._replace(reason=f"{place}: {doubt.reason}")
+
+
+def of_arrays(tokens: Sequence[Token], widths: Dict[str, int]) -> Iterator[Tuple[int, Doubt]]:
+    for offset, name in Arrays(tokens, widths).doubtful():
+        reason = f"an index of {name} may be out of range, where Yosys takes another word"
+        yield offset, Doubt(reason, "", {name})
 
 
 def word_at(words: Sequence[Word], offset: int) -> Word:

@@ -2,7 +2,7 @@
 
 import re
 import secrets
-from typing import Any, Callable, Dict, List, Optional, Sequence, Tuple
+from typing import Any, Callable, Dict, List, Optional, Sequence, Set, Tuple
 
 from aiger_check.answers import Assertion, Cover, LeftSide, Liveness
 from aiger_check.faults import Trouble, visible
@@ -103,9 +103,7 @@ class Front:
         module = modules[top_of(modules)]
         cones = Cones(module)
         for doubt in self.suspected:
-            nets = (net["bits"] for name, net in module["netnames"].items() if name.split(".")[-1] in doubt.nets)
-            # a constant is no net
-            bits = {bit for its in nets for bit in its if not isinstance(bit, str)}
+            bits = bits_named(module, doubt.nets)
             self.doubts.append((visible(doubt.reason), cones.depending(bits, ASKED, ASSUMED)))
 
     def write(self, reason: Optional[str]) -> None:
@@ -250,3 +248,14 @@ class Front:
         return [
             told_positions(kind, {it: cell for it, cell, its in names if its == kind}, told, model) for kind in kinds
         ]
+
+
+def bits_named(module: Dict[str, Any], names: Set[str]) -> Set[Any]:
+    """The bits of all nets of these names, and of what is read of memories of these names."""
+    signals = [(name, net["bits"]) for name, net in module["netnames"].items()]
+    for cell in module["cells"].values():
+        if cell["type"].startswith("$memrd"):
+            signals.append((bare(cell["parameters"]["MEMID"]), cell["connections"]["DATA"]))
+    found = [bits for name, bits in signals if re.sub(r"\[.*", "", name.split(".")[-1]) in names]
+    # a constant is no net
+    return {bit for bits in found for bit in bits if not isinstance(bit, str)}
