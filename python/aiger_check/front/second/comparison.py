@@ -85,7 +85,8 @@ class Comparison:
                 break
             self.run(number)
         if not self.runs:
-            raise Unable("no run that keeps the assumptions was found")
+            is_late = time.monotonic() >= self.until
+            raise Unable("it takes too long" if is_late else "no run that keeps the assumptions was found")
         found = self.judged()
         if self.design.is_asynchronous and not self.is_global and time.monotonic() < self.until - 1:
             found.findings += self.between()
