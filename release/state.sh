@@ -91,10 +91,6 @@ write_pc() { sed "s|^prefix=.*|prefix=$1|; s|^libdir=.*|libdir=$2|" "$top/releas
 
 # write_check MODULES: the program aiger-check, for a folder beside which this one has aiger_check/ and aigtools.py
 write_check() {
-    cat << CHECK
-#!/bin/sh
-# Runs aiger_check of ../$1, with the program aiger beside this one, and leaves no other file there.
-here=\$(dirname "\$(readlink -f "\$0")")
-AIGER=\${AIGER:-\$here/aiger} exec python3 -B "\$here/../$1/aiger_check" "\$@"
-CHECK
+    sed "2s|.*|# Runs aiger_check of ../$1, with the program aiger beside this one, or the one that AIGER names.|
+        s|^modules=.*|modules=\$here/../$1|" "$top/aiger-check"
 }

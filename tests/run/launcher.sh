@@ -462,7 +462,8 @@ hold() {
     wait_for grep -q next "$work/err"
 }
 let_go() { rm -f "$work/slow" "$work/held"; }
-is_gone() { ! kill -0 "$(cat "$work/pid")" 2> /dev/null; }
+# is_gone: whether that process has ended. Where process 1 takes up nobody, as in a container, it stays as a zombie.
+is_gone() { ! grep -q '^State:[[:space:]]*[^ZX[:space:]]' "/proc/$(cat "$work/pid")/status" 2> /dev/null; }
 is_clean() { [ -z "$(ls -A "$TMPDIR")" ]; }
 # what is said till then, and after it
 holds="${begins}aiger: 1 of 3: next is proved\n"
