@@ -94,3 +94,9 @@ write_check() {
     sed "2s|.*|# Runs aiger_check of ../$1, with the program aiger beside this one, or the one that AIGER names.|
         s|^modules=.*|modules=\$here/../$1|" "$top/aiger-check"
 }
+
+# write_completions FOLDER: the completions for the shells, of the program aiger that lies there, and of aiger-check
+write_completions() {
+    "$top/release/completions.py" aiger "$1" "$1/aiger" &&
+        "$top/release/completions.py" aiger-check "$1" python3 -B "$top/python/aiger_check"
+}
