@@ -19,7 +19,8 @@ b' 01 0 \\n 1x x \\n.\\n'
 ...     print(refused.kind.name, refused.line, refused)
 NOT_VARIABLE 2 line 2: not a variable
 
-``read`` gives the circuit of a file as a ``Circuit``, which can be looked at, changed, stepped and written:
+``read`` gives the circuit of a file, by its bytes or by its name, as a ``Circuit``, which can be looked at, changed,
+stepped and written:
 
 >>> circuit = read(and_gate)
 >>> circuit
@@ -32,6 +33,13 @@ NOT_VARIABLE 2 line 2: not a variable
 b'aag 3 2 0 1 1\\n2\\n4\\n7\\n6 4 2\\n'
 >>> circuit.step([1, 1]).outputs
 b'\\x00'
+
+``named`` finds what a symbol names: a signal, all bits of a word, or a property, whose position the functions take:
+
+>>> lock = read(b"aag 1 0 1 0 0 1\\n2 3\\n2\\nb0 open\\n")
+>>> (open_,) = lock.named("open")
+>>> clauses(lock.write(), 2, bad=open_.position).splitlines()[0]
+b'p cnf 3 8'
 """
 
 import ctypes
@@ -41,13 +49,14 @@ import gzip
 import itertools
 import operator
 import os
+import re
 from array import array
 from collections.abc import Sequence
 from dataclasses import dataclass
 from pathlib import Path
 from typing import Any, Callable, Dict, Iterable, Iterator, List, Mapping, NamedTuple, Optional, Sized, Tuple, Union
 
-__all__ = ["JUSTICE", "LARGEST", "Circuit", "Entries", "Gate", "Kind", "Latch", "Refused", "Step", "Symbol"]
+__all__ = ["JUSTICE", "LARGEST", "Circuit", "Entries", "Gate", "Kind", "Latch", "Named", "Refused", "Step", "Symbol"]
 __all__ += ["answer", "clauses", "confirm", "convert", "dump", "invariant_clauses", "miter", "never", "read"]
 __all__ += ["refute", "simulate", "unroll", "version"]
 
@@ -708,6 +717,16 @@ class Symbol(NamedTuple):
     name: bytes
 
 
+class Named(NamedTuple):
+    """What has a name: the letter of its kind, as in a ``Symbol``, its position among those, its name, and its literals:
+    as many as it has for a justice property, and one for all else."""
+
+    kind: str
+    position: int
+    name: str
+    literals: Tuple[int, ...]
+
+
 class Step(NamedTuple):
     """The values of a step, a byte each: 0, 1, or 2 for x. ``values`` has that of each variable, and 0 of the constant;
     ``next`` is the state of the step that follows."""
@@ -903,6 +922,66 @@ class Circuit:
         """
         return read(self.write(ascii=True), ordered=True)
 
+    def named(self, name: str, kind: Optional[str] = None) -> List[Named]:
+        """What has this name. Where no symbol is this name, the bits of a word, ``name[0]`` and so on, lowest first; or
+        what has this letter and position, as b0. A KeyError where there is nothing.
+
+        kind   the letter of what alone is looked for: i, l, o, b, c, j or f
+
+        >>> circuit = read(b"aag 2 2 0 1 0 1\\n2\\n4\\n3\\n5\\ni0 key[1]\\ni1 key[0]\\no0 open\\n")
+        >>> circuit.named("open")
+        [Named(kind='o', position=0, name='open', literals=(3,))]
+        >>> [it.literals for it in circuit.named("key")]
+        [(4,), (2,)]
+        >>> circuit.named("b0")[0].literals
+        (5,)
+        """
+        form = re.compile(re.escape(name.encode("utf-8", "surrogateescape")) + rb"(?:\[(\d+)\])?")
+        matches = [(it, form.fullmatch(it.name)) for it in self.symbols if kind in (None, it.kind)]
+        found = [(it, match[1]) for it, match in matches if match]
+        those = [it for it, bit in found if bit is None]
+        if not those:
+            those = [it for it, _ in sorted(found, key=lambda it: (_KINDS[it[0].kind], int(it[1] or 0)))]
+        if not those and self._has(name[:1], name[1:]) and kind in (None, name[:1]):
+            those = [Symbol(name[:1], int(name[1:]), name.encode())]
+        if not those:
+            raise KeyError(name)
+        return [Named(*it[:2], it.name.decode("utf-8", "surrogateescape"), self._literals(*it[:2])) for it in those]
+
+    def value(self, step: Step, name: str, kind: Optional[str] = None) -> Optional[int]:
+        """The value that a signal or a word of this name has in a step, as a number; None where a bit of it is x.
+
+        >>> counter = Circuit(latches=[(2, 3, 0), (4, 6, 1)], gates=[(6, 4, 2)], symbols=[("l", 0, b"n[0]"), ("l", 1, b"n[1]")])
+        >>> counter.value(counter.step([]), "n")
+        2
+        """
+        those = self.named(name, kind)
+        kinds = {it.kind for it in those}
+        if len(kinds) > 1 or "j" in kinds:
+            raise ValueError(f"{name} is no signal alone; kind is one of {', '.join(sorted(kinds))}")
+        bits = [step.values[it.literals[0] // 2] for it in those]
+        if 2 in bits:
+            return None
+        return sum((bit ^ it.literals[0] & 1) << place for place, (bit, it) in enumerate(zip(bits, those)))
+
+    def _of_kind(self, kind: str) -> "Sequence[Any]":
+        """What there is of the kind of this letter: literals, latches, or for justice properties their sizes."""
+        found = (self.inputs, self.latches, self.outputs, self.bad, self.constraints, self.justice_sizes, self.fairness)
+        return found[_KINDS[kind]]
+
+    def _has(self, kind: str, position: str) -> bool:
+        """Whether there is something of this letter and position."""
+        is_number = re.fullmatch("0|[1-9][0-9]{0,9}", position)
+        return kind in _KINDS and bool(is_number) and int(position) < len(self._of_kind(kind))
+
+    def _literals(self, kind: str, position: int) -> Tuple[int, ...]:
+        """The literals of what has this letter and position."""
+        found = self._of_kind(kind)[position]
+        if kind != "j":
+            return (found.literal if kind == "l" else found,)
+        start = sum(self.justice_sizes[:position])
+        return tuple(self.justice_literals[start : start + found])
+
     def first_state(self) -> bytes:
         """A byte for each latch: its reset, or 2 where it is uninitialised.
 
@@ -962,9 +1041,10 @@ def _circuit(counts: _Counts, ordered: bool, words: memoryview, data: bytearray)
     return Circuit(counts.max_var, comment=comment, **fields)
 
 
-def read(data: Data, *, ordered: bool = False, max_var: int = LARGEST) -> Circuit:
+def read(data: Union[Data, str, "os.PathLike[str]"], *, ordered: bool = False, max_var: int = LARGEST) -> Circuit:
     """The circuit of an AIGER file, with variables and gates as they stand there.
 
+    data      the bytes of the file, or its name, as a string or a path
     ordered   as ``convert`` would write it in binary: see ``Circuit.ordered``
     max_var   refuse a file with a larger index, or with more of a kind
 
@@ -974,7 +1054,7 @@ def read(data: Data, *, ordered: bool = False, max_var: int = LARGEST) -> Circui
     >>> circuit.latches[0], circuit.symbols, circuit.comment
     (Latch(literal=2, next=3, reset=0), [Symbol(kind='l', position=0, name=b'bit')], b'toggle\\n')
     """
-    data = _bytes(data)
+    data = Path(data).read_bytes() if isinstance(data, (str, os.PathLike)) else _bytes(data)
     options, limit = _options((ordered, _ORDERED)), _number("max_var", max_var)
     counts, outcome, room, names = _Counts(), _Outcome(), _guessed_words(data), bytearray(len(data) + 1)
     while True:

@@ -328,6 +328,85 @@ def wrong(told, kind, entry=None):
     return told is not None and (told.kind.name, told.entry) == (kind, entry)
 
 
+# a counter of three bits, which its outputs show, their lowest bit negated; and what else has names
+NAMED = b"""aag 12 1 4 4 6 1 1 2 1
+2
+4 5
+6 12 1
+8 18
+20 20 20
+5
+6
+8
+20
+18
+20
+1
+2
+4
+6
+8
+12
+10 6 4
+12 15 11
+14 7 5
+18 25 23
+22 10 8
+24 11 9
+l0 n[0]
+l1 n[1]
+l2 n[2]
+l3 loose
+i0 n
+o0 m[0]
+o1 m[1]
+o2 m[2]
+o3 b0
+b0 never
+j1 \xff[7]
+f0 again
+"""
+
+
+def check_names():
+    """What is found by its name, and the values of words; files by their names."""
+    circuit = aigtools.read(NAMED)
+    for name, kind, wanted in (
+        ("n", None, [("i", 0, (2,))]),
+        ("n", "l", [("l", 0, (4,)), ("l", 1, (6,)), ("l", 2, (8,))]),
+        ("n[1]", None, [("l", 1, (6,))]),
+        ("m", None, [("o", 0, (5,)), ("o", 1, (6,)), ("o", 2, (8,))]),
+        ("never", None, [("b", 0, (18,))]),
+        ("b0", None, [("o", 3, (20,))]),
+        ("b0", "b", [("b", 0, (18,))]),
+        ("c0", None, [("c", 0, (20,))]),
+        ("j0", None, [("j", 0, (4,))]),
+        ("\udcff[7]", None, [("j", 1, (6, 8))]),
+        ("\udcff", "j", [("j", 1, (6, 8))]),
+        ("again", "f", [("f", 0, (12,))]),
+    ):
+        came = circuit.named(name, kind)
+        judge("what has a name", [(it.kind, it.position, it.literals) for it in came] == wanted, name, kind, came)
+    judge("the names of bits", [it.name for it in circuit.named("m")] == ["m[0]", "m[1]", "m[2]"])
+    for name, kind in (("", None), ("b1", None), ("b00", None), ("x0", None), ("n", "o"), ("m[3]", None), ("nn", None), ("j2", None)):
+        judge("no such name", refuses(KeyError, name, circuit.named, name, kind), name)
+    circuit, state = circuit.ordered(), None
+    for number in range(2, 12):
+        step = circuit.step([number % 3], state)
+        judge("the value of a word", circuit.value(step, "n", "l") == number % 8, number)
+        judge("with a bit negated", circuit.value(step, "m") == number % 8 ^ 1, number)
+        judge("of a signal", circuit.value(step, "n") == (None if number % 3 == 2 else number % 3), number)
+        judge("of what is not known", circuit.value(step, "loose") is None)
+        state = step.next
+    judge("no signal", refuses(ValueError, "no signal", circuit.value, step, "j0"))
+    with tempfile.TemporaryDirectory() as folder:
+        path = Path(folder, "named.aag")
+        path.write_bytes(NAMED)
+        for name in (path, str(path)):
+            judge("a file by its name", aigtools.read(name, ordered=True) == circuit, name)
+        judge("no file", refuses(FileNotFoundError, "none", aigtools.read, Path(folder, "none")))
+
+
 def check_wrong_circuits():
     """What is told of circuits that no file can have, and of values; what the module takes, and what it does not."""
     circuit = aigtools.Circuit
@@ -881,6 +960,7 @@ def main(folder, program):
     with tempfile.TemporaryDirectory() as work:
         check_circuits(work)
     check_wrong_circuits()
+    check_names()
     check_sizes(program)
     check_calls(folder)
     check_examples(folder, program)
