@@ -9,8 +9,9 @@ a folder and a variable hold for the next ones. Those with python3 are skipped w
 Python module, as the released one is while a version is made; tests/run/library.py sees that it is not. Those with
 aiger-check are skipped there too, and where a tool that it works with is not installed; so are those of docs/TOOLS.md.
 
-Then the commands of README's table run one after another, over a model whose bad state is never reached and over one in
-which it is, and all must do what the table says.
+Then the commands of README's table run one after another, over the example that its first row names, and do what the
+table says: once as printed, so that a run is found, and once over so few frames that there is none. A row that begins
+with `after 10` or `after 20` is for that status of the solver before it; after the other one it fails.
 
 The last line is 'N passed, M failed', with ', K skipped' behind it where something was skipped, and counts commands.
 """
@@ -34,7 +35,10 @@ TOOLS = "yosys", "berkeley-abc", "cadical"
 COMMAND = re.compile(r"^    \$ (.*)\n((?:    (?!\$ ).*\n)*)", re.M)
 SKIPPED = object()
 DISPLAY = re.compile(r"^\.Bd -literal.*\n((?:(?!\.Ed$).*\n)*)", re.M)
-TABLE_ROW = re.compile(r"^\|? ?`((?:aiger|cadical|berkeley-abc) .*?)` \|", re.M)
+TABLE = re.compile(r"^Command \| Result\n---\|---\n((?:`.*\n)+)", re.M)
+TABLE_ROW = re.compile(r"`(.*?)` \| (?:after (\d+): )?(.*)")
+# how many frames the table has, and so few that no run is found
+FRAMES, FEWER = 20, 2
 
 
 def commands(page):
@@ -46,18 +50,22 @@ def commands(page):
     return COMMAND.findall(text)
 
 
+def furnish(room, program):
+    """Puts what the commands of pages name into a folder, and gives the variables for them."""
+    shutil.copytree(TOP / "examples", Path(room) / "examples")
+    (Path(room) / "aiger").symlink_to(program)
+    for name in ("python", "aiger-check"):
+        (Path(room) / name).symlink_to(TOP / name)
+    path = f"{room}:{os.environ['PATH']}"
+    return {**os.environ, "PATH": path, "AIGER": program, "PYTHONDONTWRITEBYTECODE": "1"}
+
+
 def printed(program, words):
     """What each of the commands prints, in one shell."""
     script = "\n".join(f"{command}\nprintf '\\0'" for command in words)
     with tempfile.TemporaryDirectory() as room:
-        shutil.copytree(TOP / "examples", Path(room) / "examples")
-        (Path(room) / "aiger").symlink_to(program)
-        for name in ("python", "aiger-check"):
-            (Path(room) / name).symlink_to(TOP / name)
-        path = f"{room}:{os.environ['PATH']}"
-        variables = {**os.environ, "PATH": path, "AIGER": program, "PYTHONDONTWRITEBYTECODE": "1"}
-        how = {"cwd": room, "env": variables, "stdout": subprocess.PIPE, "stderr": subprocess.STDOUT, "text": True}
-        return subprocess.run(["bash", "-c", script], check=False, **how).stdout.split("\0")
+        how = {"cwd": room, "env": furnish(room, program), "stdout": subprocess.PIPE, "stderr": subprocess.STDOUT}
+        return subprocess.run(["bash", "-c", script], check=False, text=True, **how).stdout.split("\0")
 
 
 def has_module():
@@ -98,46 +106,55 @@ def judged(program, page, skips):
         yield None if is_same else f"{command} prints\n{came}and not\n{wanted}"
 
 
-# models for README's table: two latches that are never both 1; and an input behind two latches
-SAFE = b"aag 5 1 2 0 2 1\n2\n4 8\n6 4\n10\n8 2 5\n10 6 4\n"
-UNSAFE = b"aag 3 1 2 0 0 1\n2\n4 2\n6 4\n6\n"
-# what a command of the table prints, by a word of it; and those that only a run makes succeed, or only that there is
-# none
-PRINTS = {
-    "--refutation m20.drat": b"none within 20\n",
-    "--refutation m.drat": b"never\n",
-    "--witness": b"confirmed 2\n",
-}
-OF_RUN, OF_NONE = ("--answer", "--witness"), ("--refutation",)
+# what the example comes to, by the command that answers for all its bad states
+ANSWERS = "three (model.aag): never\nis two (model.aag): reached at 2\n2 assertions: 1 never, 1 reached\n"
 
 
-def table_row(command, folder, program, is_safe):
-    """What is wrong with a command of README's table, if anything is."""
-    left_out = OF_RUN if is_safe else OF_NONE
-    variables = {**os.environ, "PATH": f"{Path(program).parent}:{os.environ['PATH']}"}
-    ran = subprocess.run(["bash", "-c", command], cwd=folder, env=variables, capture_output=True, check=False)
-    if command.startswith(("cadical", "berkeley-abc")):
-        return None
-    if any(words in command for words in left_out):
-        return None if ran.returncode == 1 else f"{command} has status {ran.returncode} and not 1"
-    wanted = next((text for words, text in PRINTS.items() if words in command), ran.stdout)
-    is_right = ran.returncode == 0 and ran.stdout == wanted
-    return None if is_right else f"{command} has status {ran.returncode} and prints {ran.stdout!r}, {ran.stderr!r}"
+def wanted_statuses(command, result, is_for_this):
+    """With what a command of README's table may end."""
+    if not is_for_this:
+        return (1,)
+    if command.startswith("cadical"):
+        return tuple(map(int, re.findall(r"\b([12]0): ", result)))
+    return (1,) if command == "aiger-check model.aag" else (0,)
+
+
+def is_told(command, result, text):
+    """Whether what a command of README's table prints is what stands there, if anything does."""
+    if command == "aiger-check model.aag":
+        return text == ANSWERS
+    forms = re.findall(r"`(.*?)`", result.partition(";")[0]) if result.startswith("`") else []
+    forms = [re.sub(r"\b[KN]\b", r"\\d+", form) for form in forms]
+    return not forms or re.search(rf"^(?:.*: )?(?:{'|'.join(forms)})$", text, re.M) is not None
+
+
+def table_row(row, how, status):
+    """What is wrong with a row of README's table behind a solver's status, if anything is, and how it ends."""
+    command, after, result = row
+    is_for_this = not after or int(after) == status
+    ran = subprocess.run(["bash", "-c", command], check=False, capture_output=True, text=True, **how)
+    is_right = ran.returncode in wanted_statuses(command, result, is_for_this)
+    is_right = is_right and (not is_for_this or is_told(command, result, ran.stdout))
+    wrong = f"{command} has status {ran.returncode} and prints {ran.stdout!r}, {ran.stderr!r}"
+    return None if is_right else wrong, ran.returncode
 
 
 def table_rows(program):
-    """Of each command of README's table, over either model, what is wrong with it."""
-    found = TABLE_ROW.findall(README.read_text(encoding="utf-8"))
-    for is_safe in (True, False):
-        with tempfile.TemporaryDirectory() as folder:
-            (Path(folder) / "aiger").symlink_to(program)
-            model = SAFE if is_safe else UNSAFE
-            for name, text in {"model.aag": model, "new.aag": model, "steps.txt": b"1\n"}.items():
-                (Path(folder) / name).write_bytes(text)
-            # of a model with a run ABC's rows are no invariant
-            asked = found if is_safe else [it for it in found if not re.search(r"\bm\.(pla|cnf|drat)", it)]
-            here = Path(folder) / "aiger"
-            yield from [table_row(it, folder, here, is_safe) for it in asked] or ["README has no table"]
+    """Of each row of README's table, as printed and with fewer frames, what is wrong with it."""
+    table = TABLE.search(README.read_text(encoding="utf-8"))
+    if not table or not has_module():
+        yield SKIPPED if table else "README has no table"
+        return
+    for frames, wanted in ((FRAMES, 10), (FEWER, 20)):
+        text = re.sub(rf"(frames|within) {FRAMES}\b", rf"\1 {frames}", table[1])
+        with tempfile.TemporaryDirectory() as room:
+            how, status, statuses = {"cwd": room, "env": furnish(room, program)}, 0, []
+            for row in TABLE_ROW.findall(text):
+                wrong, ended = table_row(row, how, status)
+                status = ended if row[0].startswith("cadical") else status
+                statuses.append(ended)
+                yield wrong
+            yield None if wanted in statuses else f"no row of README's table ends with {wanted} over {frames} frames"
 
 
 def main(program, *pages):
