@@ -175,8 +175,8 @@ _WIDTHS = {"inputs": 1, "latches": 3, "outputs": 1, "bad": 1, "constraints": 1, 
 _WIDTHS.update({"justice_literals": 1, "fairness": 1, "gates": 3, "symbols": 4, "numbers": 1})
 
 # How many entries each has but the numbers, by the names of the header.
-_COUNTED = ("inputs", "latches", "outputs", "bad", "constraints", "justice", "justice_literals", "fairness", "gates")
-_COUNTED += ("symbols",)
+_COUNTED: Tuple[str, ...] = ("inputs", "latches", "outputs", "bad", "constraints", "justice", "justice_literals")
+_COUNTED += ("fairness", "gates", "symbols")
 
 
 class _Counts(ctypes.Structure):
@@ -298,7 +298,7 @@ def _address(output: bytearray) -> int:
 
 
 def _made(
-    room: int, call: Callable[[int, int, _Outcome], int], parts: Optional[Mapping[str, Sized]] = None
+    room: int, call: Callable[[int, int, _Outcome], Any], parts: Optional[Mapping[str, Sized]] = None
 ) -> Tuple[bytes, _Outcome]:
     """The text that a call makes, and its outcome. It is called again where a first guess of its length is short."""
     outcome = _Outcome()
@@ -409,9 +409,7 @@ def convert(
     )[0]
 
 
-def unroll(
-    data: Data, frames: int, *, ascii: bool = False, simplify: bool = False, max_var: int = LARGEST
-) -> bytes:
+def unroll(data: Data, frames: int, *, ascii: bool = False, simplify: bool = False, max_var: int = LARGEST) -> bytes:
     """The circuit of an AIGER file unrolled over 1 to 1000000 frames, as ``aiger aigunroll`` writes it.
 
     ascii      write ASCII, and not binary
@@ -738,12 +736,16 @@ class Step(NamedTuple):
     next: bytes
 
 
-def _words(given: Iterable[int]) -> array:
+# makes a named tuple of a plain one
+_NEW: Any = tuple.__new__
+
+
+def _words(given: Iterable[int]) -> "array[int]":
     """Numbers as an array of words; what is one stays it."""
     return given if isinstance(given, array) and given.typecode == "I" else array("I", given)
 
 
-class Entries(Sequence):
+class Entries(Sequence[Any]):
     """Latches or gates: a sequence of named tuples over the array ``words``, which has three numbers for each.
 
     >>> gates = Circuit(inputs=[2, 4], gates=[(6, 4, 2), (8, 7, 3)]).gates
@@ -762,7 +764,7 @@ class Entries(Sequence):
             given = given.words
         elif not isinstance(given, array):
             given = itertools.chain.from_iterable(entry(*numbers) for numbers in given)
-        self.words = _words(given)
+        self.words: "array[int]" = _words(given)
         if len(self.words) % 3:
             raise ValueError(f"{len(self.words)} words are not three for each {entry.__name__}")
 
@@ -772,7 +774,7 @@ class Entries(Sequence):
     def __iter__(self) -> Iterator[Any]:
         word = iter(self.words)
         # as map(self.entry, word, word, word), in half the time
-        return map(tuple.__new__, itertools.repeat(self.entry), zip(word, word, word))
+        return map(_NEW, itertools.repeat(self.entry), zip(word, word, word))
 
     def tuples(self) -> Iterator[Tuple[int, int, int]]:
         """The same entries as plain tuples.
@@ -784,7 +786,7 @@ class Entries(Sequence):
         word = iter(self.words)
         return zip(word, word, word)
 
-    def pairs(self) -> array:
+    def pairs(self) -> "array[int]":
         """What stands behind the literals, as one array with two numbers for each entry: the operands of a gate, or the
         next state and the reset of a latch.
 
@@ -802,7 +804,7 @@ class Entries(Sequence):
         return self.entry(*self.words[at : at + 3])
 
     def __eq__(self, other: Any) -> bool:
-        return self.words == other.words if isinstance(other, Entries) else list(self) == other
+        return bool(self.words == other.words if isinstance(other, Entries) else list(self) == other)
 
     def __repr__(self) -> str:
         return repr(list(self))
@@ -812,10 +814,14 @@ _LETTERS = "ilobcjf"
 _KINDS = {letter: number for number, letter in enumerate(_LETTERS)}
 
 # What is made of what a field is given.
-_FIELDS = {name: _words for name, width in _WIDTHS.items() if width == 1}
+_FIELDS: Dict[str, Callable[[Any], Any]] = {name: _words for name, width in _WIDTHS.items() if width == 1}
 _FIELDS["latches"] = lambda given: Entries(Latch, given)
 _FIELDS["gates"] = lambda given: Entries(Gate, given)
 _FIELDS["symbols"] = lambda given: [Symbol(*symbol) for symbol in given]
+
+
+# what a field has that is left out
+_NOTHING: Any = ()
 
 
 @dataclass(repr=False)
@@ -846,18 +852,18 @@ class Circuit:
     """
 
     max_var: Optional[int] = None
-    inputs: array = ()
-    latches: Entries = ()
-    outputs: array = ()
-    bad: array = ()
-    constraints: array = ()
-    justice_sizes: array = ()
-    justice_literals: array = ()
-    fairness: array = ()
-    gates: Entries = ()
-    symbols: List[Symbol] = ()
+    inputs: "array[int]" = _NOTHING
+    latches: Entries = _NOTHING
+    outputs: "array[int]" = _NOTHING
+    bad: "array[int]" = _NOTHING
+    constraints: "array[int]" = _NOTHING
+    justice_sizes: "array[int]" = _NOTHING
+    justice_literals: "array[int]" = _NOTHING
+    fairness: "array[int]" = _NOTHING
+    gates: Entries = _NOTHING
+    symbols: List[Symbol] = _NOTHING
     comment: Optional[bytes] = None
-    numbers: Optional[array] = None
+    numbers: "Optional[array[int]]" = None
 
     def __post_init__(self) -> None:
         if self.max_var is None:
@@ -872,20 +878,21 @@ class Circuit:
         counts = ((len(getattr(self, name) or ()), name) for name in _WIDTHS)
         return f"<Circuit: max_var {self.max_var}{''.join(f', {count} {name}' for count, name in counts if count)}>"
 
-    def _sections(self) -> Dict[str, array]:
+    def _sections(self) -> "Dict[str, array[int]]":
         """The words of the sections before the symbols."""
         sections = {name: getattr(self, name) for name in _WIDTHS if name not in ("symbols", "numbers")}
         return {**sections, "latches": self.latches.words, "gates": self.gates.words}
 
-    def _symbol_words(self) -> array:
+    def _symbol_words(self) -> "array[int]":
         words, start = array("I"), 0
         for kind, position, name in self.symbols:
             words.extend((_KINDS.get(kind, len(_LETTERS)), position, start, len(name)))
             start += len(name)
         return words
 
-    def _counts(self, sections: Dict[str, array], name_bytes: int = 0) -> _Counts:
-        counts = _Counts(_number("max_var", self.max_var), name_bytes=name_bytes)
+    def _counts(self, sections: "Dict[str, array[int]]", name_bytes: int = 0) -> _Counts:
+        largest: Any = self.max_var
+        counts = _Counts(_number("max_var", largest), name_bytes=name_bytes)
         for name, (section, words) in zip(_COUNTED, sections.items()):
             setattr(counts, name, len(words) // _WIDTHS[section])
         if self.comment is not None:
@@ -1018,14 +1025,15 @@ class Circuit:
 def _guessed_words(data: bytes) -> int:
     """How many words a file may come to: by its header, with some for symbols, and by its length."""
     counts = (int(word) for word in data[:120].split(b"\n")[0].split()[2:10] if word.isdigit())
-    told = sum(map(operator.mul, counts, (2, 4, 1, 4, 1, 1, 1, 1)))
+    told: int = sum(map(operator.mul, counts, (2, 4, 1, 4, 1, 1, 1, 1)))
     return min(told + len(data) // 4, 2 * len(data), _LARGEST_GUESS // 4) + 16
 
 
 def _circuit(counts: _Counts, ordered: bool, words: memoryview, data: bytearray) -> Circuit:
     """The circuit that words and bytes tell."""
     numbers = counts.inputs + counts.latches + counts.gates
-    fields, at = {}, 0
+    fields: Dict[str, Any] = {}
+    at = 0
     for (name, width), count in zip(_WIDTHS.items(), [*(getattr(counts, it) for it in _COUNTED), numbers]):
         fields[name] = array("I")
         fields[name].frombytes(words[at : at + 4 * width * count])

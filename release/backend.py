@@ -14,6 +14,7 @@ from typing import Any, Dict, Iterator, NamedTuple, Optional
 
 TOP = Path(__file__).resolve().parents[1]
 NAME, TAG = "aigtools", "py3-none-manylinux2014_x86_64"
+USAGE = "usage: release/wheel [FOLDER]     makes a wheel for pip of the released files in FOLDER, or here"
 LIBRARY = "libaigtools.so.1"
 MODULES = "lib/python3/dist-packages/"
 
@@ -80,7 +81,7 @@ def installed_files(data_folder: str) -> Iterator[File]:
     """The files of the wheel that release/install makes."""
     with tempfile.TemporaryDirectory() as room:
         below = Path(room, "aigtools")
-        command = [TOP / "release" / "install", "/aigtools", "--destdir", room]
+        command = [str(TOP / "release" / "install"), "/aigtools", "--destdir", room]
         subprocess.run(command, check=True, stdout=subprocess.DEVNULL, stderr=subprocess.DEVNULL)
         for path in sorted(it for it in below.rglob("*") if it.is_file()):
             name = path.relative_to(below).as_posix()
@@ -119,8 +120,9 @@ def build_wheel(
 
 def main(folder: str = ".") -> None:
     if folder.startswith("-"):
-        print("usage: release/wheel [FOLDER]     makes a wheel for pip of the released files in FOLDER, or here")
-        sys.exit(0 if folder == "--help" else 2)
+        is_help = folder in ("-h", "--help")
+        print(USAGE, file=sys.stdout if is_help else sys.stderr)
+        sys.exit(0 if is_help else 2)
     if not os.path.isdir(folder):
         sys.exit(f"wheel: there is no folder {folder}")
     print(os.path.join(folder, build_wheel(folder)))

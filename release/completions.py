@@ -100,15 +100,13 @@ def zsh_option(option: Option) -> str:
 def in_zsh(name: str, pages: Sequence[Page]) -> str:
     """The completions for zsh."""
     own, *commands = pages
-    lists = ["\n        ".join([*map(zsh_option, page.options), "'*:file:_files'"]) for page in pages]
+    lists = [
+        " \\\n        ".join(["_arguments -s", *map(zsh_option, page.options), "'*:file:_files'"]) for page in pages
+    ]
     if not commands:
-        return f"#compdef {name}\n# made of its --help\n_arguments -s \\\n        " + lists[0].replace("\n", " \\\n") + "\n"
+        return f"#compdef {name}\n# made of its --help\n{lists[0]}\n"
     described = "\n".join(f"    '{page.name}:{page.about}'" for page in commands)
-    cases = "\n".join(
-        f"    {page.name}) _arguments -s \\\n        " + of_page.replace("\n", " \\\n") + " ;;"
-        for page, of_page in zip(commands, lists[1:])
-        if page.options
-    )
+    cases = "\n".join(f"    {page.name}) {of_page} ;;" for page, of_page in zip(commands, lists[1:]) if page.options)
     return f"""#compdef {name}
 # made of its --help
 local -a commands

@@ -425,7 +425,7 @@ fi
 
 # --- a wheel, and pip ---
 check 'the help of release/wheel' same 'usage: release/wheel [FOLDER]' eval '"$tree/release/wheel" --help | cut -c 1-29'
-check 'another option of it' fails 2 '' "$tree/release/wheel" --all
+check 'another option of it' fails 2 'usage: release/wheel' "$tree/release/wheel" --all
 check 'no folder for it' fails 1 "wheel: there is no folder $work/none" "$tree/release/wheel" "$work/none"
 wheel=aigtools-$version-py3-none-manylinux2014_x86_64.whl
 mkdir "$work/wheels" "$work/wheels again"

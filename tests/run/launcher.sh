@@ -591,4 +591,44 @@ rm -rf "$out"
 wants '' "aiger: cannot create the folder $out\n" 125
 check 'a file in the place of out, where the program has to be proved' launch aigtoaig --ascii < "$work/small"
 
+# --- ./test and .ci/run without the kit, over scripts that test nothing ---
+rm -f "$out"
+mkdir -p "$tree/tests/run" "$tree/.ci"
+cp "$top/test" "$tree"
+cp "$top/.ci/run" "$tree/.ci"
+for name in "$top"/tests/run/*.*; do
+    printf '#!/bin/sh\necho 1 passed, 0 failed\n' > "$tree/tests/run/${name##*/}"
+    chmod +x "$tree/tests/run/${name##*/}"
+done
+echo 'aigtools_c:' >> "$tree/crates.txt"
+# ends WORD..: the first line that is said, and the last two, without the numbers
+ends() {
+    local status=0
+    env AIGER="$program" RT="$work/none" "$@" > "$work/said" || status=$?
+    head -n 1 "$work/said"
+    tail -n 2 "$work/said" | sed 's/^[1-9][0-9]* passed, 0 failed, [1-9][0-9]* skipped$/sums/'
+    return "$status"
+}
+why="there is no Rattle kit (no command $work/none), so the tests alone run, as by --quick"
+wants "No proof is made: $why\nNo proof was made: $why\nsums\n" '' 0
+check './test without the kit' ends "$tree/test"
+why='--quick runs the tests alone'
+wants "No proof is made: $why\nNo proof was made: $why\nsums\n" '' 0
+check './test --quick' ends "$tree/test" --quick
+wants '' ".ci/run: there is no Rattle kit (no command $work/none), and nothing is proved without: ./test runs the tests alone\n" 1
+check '.ci/run without the kit' with_rt "$work/none" "$tree/.ci/run"
+printf '#!/bin/sh\necho 1 passed, 1 failed\nexit 1\n' > "$tree/tests/run/names.py"
+wants 'sums\n' '' 1
+fails_so() { ends "$tree/test" | tail -n 1 | sed 's/^[1-9][0-9]* passed, 1 failed, [1-9][0-9]* skipped$/sums/'; return "${PIPESTATUS[0]}"; }
+check './test where one fails' fails_so
+# at a terminal, by script of util-linux
+if command -v script > /dev/null; then
+    printf '#!/bin/sh\nsleep 2\necho 1 passed, 0 failed\n' > "$tree/tests/run/names.py"
+    at_terminal() { script -qec "env AIGER='$program' RT=none '$tree/test'" /dev/null < /dev/null | grep -c '[0-9] s, [0-9]* done; names.py' | sed 's/[1-9].*/some/'; }
+    wants 'some\n' '' 0
+    check 'what runs is told at a terminal' at_terminal
+else
+    skip 1 'no script of util-linux'
+fi
+
 finish
