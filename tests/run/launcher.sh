@@ -621,11 +621,15 @@ printf '#!/bin/sh\necho 1 passed, 1 failed\nexit 1\n' > "$tree/tests/run/names.p
 wants 'sums\n' '' 1
 fails_so() { ends "$tree/test" | tail -n 1 | sed 's/^[1-9][0-9]* passed, 1 failed, [1-9][0-9]* skipped$/sums/'; return "${PIPESTATUS[0]}"; }
 check './test where one fails' fails_so
-# at a terminal, by script of util-linux
+# at a terminal, by script of util-linux: one of the scripts waits until it is told of
 if command -v script > /dev/null; then
-    printf '#!/bin/sh\nsleep 2\necho 1 passed, 0 failed\n' > "$tree/tests/run/names.py"
-    at_terminal() { script -qec "env AIGER='$program' RT=none '$tree/test'" /dev/null < /dev/null | grep -c '[0-9] s, [0-9]* done; names.py' | sed 's/[1-9].*/some/'; }
-    wants 'some\n' '' 0
+    printf '#!/bin/sh\nfor _ in $(seq 600); do ! grep -q "done; .*names.py" "%s" || break; sleep 0.1; done
+echo 1 passed, 0 failed\n' "$work/typescript" > "$tree/tests/run/names.py"
+    at_terminal() {
+        script -qefc "env AIGER='$program' RT=none '$tree/test'" "$work/typescript" < /dev/null > /dev/null
+        grep -q 'done; .*names.py' "$work/typescript"
+    }
+    wants '' '' 0
     check 'what runs is told at a terminal' at_terminal
 else
     skip 1 'no script of util-linux'
