@@ -10,7 +10,7 @@ import sys
 from pathlib import Path
 from typing import Iterator, List, NamedTuple, Sequence, Tuple
 
-OPTION = re.compile(r" {2,6}((?:-\w)?(?:, )?(?:--[a-z][a-z-]*)?)(?: <(.+?)>\S*)?(?:  +(\S.*))?$")
+OPTION = re.compile(r" {2,6}((?:-\w)?(?:, )?(?:--[a-z][a-z-]*)?)(?: <(.+?)>\S*)?(?: +(\S.*))?$")
 COMMAND = re.compile(r"  ([a-z]+)  +(\S.*)$")
 FILE, FOLDER = "FILE", "DIR"
 
@@ -31,10 +31,16 @@ class Page(NamedTuple):
     options: List[Option]
 
 
-def section(text: str, title: str) -> List[str]:
-    """The lines of a section, each with those that go on with it."""
-    found = re.search(rf"^{title}:\n((?: .*\n)*)", text, re.M)
-    return re.sub(r"\n {10,}(?=\S)", " ", found[1]).splitlines() if found else []
+def whole_lines(text: str) -> List[str]:
+    """The lines of a page, each with those that go on with it."""
+    return re.sub(r"\n {10,}(?=\S)", " ", text).splitlines()
+
+
+def commands_of(text: str) -> List[Tuple[str, str]]:
+    """The commands that a page lists, and what they do."""
+    found = re.search(r"^Commands:\n((?: .*\n)*)", text, re.M)
+    matches = map(COMMAND.match, whole_lines(found[1]) if found else [])
+    return [(it[1], in_short(it[2])) for it in matches if it]
 
 
 def in_short(about: str) -> str:
@@ -44,7 +50,7 @@ def in_short(about: str) -> str:
 
 def options_of(text: str) -> List[Option]:
     """The options of a page."""
-    found = [OPTION.match(line) for line in section(text, "Options")]
+    found = map(OPTION.match, whole_lines(text))
     return [Option(tuple(it[1].split(", ")), it[2] or "", in_short(it[3] or "")) for it in found if it and it[1]]
 
 
@@ -57,10 +63,8 @@ def pages_of(name: str, words: Sequence[str]) -> Iterator[Page]:
     """The program's own page, and one for each of its commands."""
     text = help_of(words)
     yield Page(name, "", options_of(text))
-    for found in map(COMMAND.match, section(text, "Commands")):
-        if found:
-            of_command = options_of(help_of([*words, found[1]])) if found[1] != "help" else []
-            yield Page(found[1], in_short(found[2]), of_command)
+    for command, about in commands_of(text):
+        yield Page(command, about, options_of(help_of([*words, command])) if command != "help" else [])
 
 
 def in_bash(name: str, pages: Sequence[Page]) -> str:

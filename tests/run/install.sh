@@ -233,18 +233,20 @@ not_in_zsh() {
     local option
     for option in "${@:2}"; do grep -qF -- "'*$option[" "$share/zsh/site-functions/_$1" || echo "$option"; done
 }
+# listed_options WORD..: the options at the beginnings of lines of the help of these words
+listed_options() {
+    "$@" --help | grep -oE '^ {2,6}(-\w|--[a-z-]+)(, --[a-z-]+)?' | grep -oE -- '--?[A-Za-z-]+' | LC_ALL=C sort -u
+}
 aiger_commands=$("$work/aiger" --help | sed -n '/^Commands:/,/^$/s/^  \([a-z]*\) .*/\1/p')
 for name in $aiger_commands; do
     check "bash completes $name" same "$name" completed aiger "$name"
     [ "$name" != help ] || continue
-    options=$("$work/aiger" "$name" --help | sed -n '/^Options:/,/^$/p' | grep -oE '^ {2,6}(-\w, )?--[a-z-]+' |
-        grep -oE -- '--?[a-z-]+|-V' | LC_ALL=C sort -u)
+    options=$(listed_options "$work/aiger" "$name")
     check "bash completes the options of $name" same "$options" completed aiger "$name" -
     check "fish has the options of $name" same '' not_in_fish "aiger -n '__fish_seen_subcommand_from $name'" $options
     check "zsh has the options of $name" same '' not_in_zsh aiger $options
 done
-options=$(python3 -B "$tree/python/aiger_check" --help | sed -n '/^Options:/,/^$/p' |
-    grep -oE '^ {2,6}(-\w, )?(--[a-z-]+|-\w)' | grep -oE -- '--?[A-Za-z-]+' | LC_ALL=C sort -u)
+options=$(listed_options python3 -B "$tree/python/aiger_check")
 check 'bash completes the options of aiger-check' same "$options" completed aiger-check -
 check 'fish has the options of aiger-check' same '' not_in_fish aiger-check $options
 check 'zsh has the options of aiger-check' same '' not_in_zsh aiger-check $options
