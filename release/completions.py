@@ -45,7 +45,7 @@ def commands_of(text: str) -> List[Tuple[str, str]]:
 
 def in_short(about: str) -> str:
     """The beginning of what an option does."""
-    return re.split(r"[;.](?: |$)| \(default", about)[0]
+    return re.split(r"[;.?](?: |$)| \(default", about)[0]
 
 
 def options_of(text: str) -> List[Option]:
