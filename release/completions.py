@@ -10,9 +10,11 @@ import sys
 from pathlib import Path
 from typing import Iterator, List, NamedTuple, Sequence, Tuple
 
-OPTION = re.compile(r" {2,6}((?:-\w)?(?:, )?(?:--[a-z][a-z-]*)?)(?: <(.+?)>\S*)?(?: +(\S.*))?$")
+# the names of an option, each perhaps with what it takes, and what it does
+NAME = r"--?[A-Za-z][A-Za-z-]*(?: <[^>]*>[.]*)?"
+OPTION = re.compile(rf" {{2,6}}({NAME}(?:, {NAME})*)(?: +(\S.*))?$")
 COMMAND = re.compile(r"  ([a-z]+)  +(\S.*)$")
-FILE, FOLDER = "FILE", "DIR"
+FILES, FOLDER = ("FILE", "LIST"), "DIR"
 
 
 class Option(NamedTuple):
@@ -50,8 +52,10 @@ def in_short(about: str) -> str:
 
 def options_of(text: str) -> List[Option]:
     """The options of a page."""
-    found = map(OPTION.match, whole_lines(text))
-    return [Option(tuple(it[1].split(", ")), it[2] or "", in_short(it[3] or "")) for it in found if it and it[1]]
+    found = [(it[1], it[2] or "") for it in map(OPTION.match, whole_lines(text)) if it]
+    names = [tuple(re.findall(r"(?:^|, )(-[A-Za-z-]+)", head)) for head, _ in found]
+    values = [re.search(r"<(.+?)>", head) for head, _ in found]
+    return [Option(of, it[1] if it else "", in_short(about)) for of, it, (_, about) in zip(names, values, found)]
 
 
 def help_of(words: Sequence[str]) -> str:
@@ -95,7 +99,7 @@ complete -o default -F {function} {name}
 def zsh_option(option: Option) -> str:
     """An option as _arguments takes it."""
     about = re.sub(r"([\[\]:\\])", r"\\\1", option.about).replace("'", "'\\''")
-    action = {FILE: "_files", FOLDER: "_files -/"}.get(option.value, "")
+    action = {FOLDER: "_files -/", **dict.fromkeys(FILES, "_files")}.get(option.value, "")
     value = re.sub(r"[^\w]", " ", option.value).strip()
     takes = f":{value}:{action}" if value else ""
     return " ".join(f"'*{it}[{about}]{takes}'" for it in option.names)
@@ -134,7 +138,7 @@ esac
 def fish_option(start: str, option: Option) -> str:
     """The line for an option."""
     names = "".join(f" -l {it[2:]}" if it.startswith("--") else f" -s {it[1:]}" for it in option.names)
-    takes = "" if not option.value else " -r" if option.value in (FILE, FOLDER) else " -x"
+    takes = "" if not option.value else " -r" if option.value in (*FILES, FOLDER) else " -x"
     about = option.about.replace("\\", "\\\\").replace("'", "\\'")
     return f"{start}{names}{takes} -d '{about}'"
 

@@ -235,7 +235,8 @@ not_in_zsh() {
 }
 # listed_options WORD..: the options at the beginnings of lines of the help of these words
 listed_options() {
-    "$@" --help | grep -oE '^ {2,6}(-\w|--[a-z-]+)(, --[a-z-]+)?' | grep -oE -- '--?[A-Za-z-]+' | LC_ALL=C sort -u
+    "$@" --help | sed 's/ <[^>]*>//g' | grep -oE '^ {2,6}--?[A-Za-z-]+(, --?[A-Za-z-]+)*' | grep -oE -- '--?[A-Za-z-]+' |
+        LC_ALL=C sort -u
 }
 aiger_commands=$("$work/aiger" --help | sed -n '/^Commands:/,/^$/s/^  \([a-z]*\) .*/\1/p')
 for name in $aiger_commands; do
