@@ -28,6 +28,8 @@ Options:
                            (assertions), live (liveness), cover (covers)
       --cover-asserts      Say of each assertion under a condition too whether
                            a run meets that
+      --second <NAME>      The second front end: icarus, verilator or none
+                           (default: Icarus, else Verilator)
       --frames <K>         Search runs of at most K steps (default: 50)
       --time <SECONDS>     Limit of ABC's pdr for one assertion (default: 30)
       --limit <SECONDS>    Limit of the SAT solver for one assertion
@@ -103,8 +105,8 @@ counts in the step after.
 minisat and picosat write no refutation that is read here, so with these there
 is no never and no none within K.
 
-The variables AIGER, YOSYS, ABC and SOLVER name other programs than aiger,
-yosys, berkeley-abc and cadical.
+The variables AIGER, YOSYS, ABC, SOLVER, IVERILOG and VERILATOR name other
+programs than aiger, yosys, berkeley-abc, cadical, iverilog and verilator.
 
 Exit status:
   0  each answer is never or none within K; holds, no lasso within K; equal,
