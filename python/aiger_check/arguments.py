@@ -52,6 +52,8 @@ def parse_arguments(arguments: Sequence[str]) -> argparse.Namespace:
     parser.add_argument("--time", type=seconds, default=30.0)
     parser.add_argument("--limit", type=seconds, default=300.0)
     parser.add_argument("--timeout", type=seconds)
+    parser.add_argument("--reset", metavar="[!]NAME")
+    parser.add_argument("--reset-steps", type=at_least(1, 1000), metavar="N")
     parser.add_argument("--clock", dest="clocks", action="append", default=[], metavar="NAME")
     parser.add_argument("--expect", type=outcomes, default=(), metavar="OUTCOME[,OUTCOME]..")
     parser.add_argument("--junit", metavar="FILE")
@@ -132,11 +134,25 @@ def check_arguments(given: argparse.Namespace) -> argparse.Namespace:
         check_verilog_arguments(given)
     else:
         check_model_arguments(given)
+    check_reset(given)
     if given.equal:
         given.designs = two_designs(given, words)
     elif len(given.tops) > 1:
         raise Usage("--top is given twice, which is for --equal")
     return given
+
+
+def check_reset(given: argparse.Namespace) -> None:
+    """A reset, where it can be."""
+    if given.reset is None and given.reset_steps is None:
+        return
+    if given.reset is None:
+        raise Usage("--reset-steps is for --reset NAME")
+    if given.equal or not given.verilog:
+        raise Usage("--reset is for the files of one design, in Verilog or VHDL")
+    if not re.fullmatch(r"!?[^\s!\"#]+", given.reset):
+        raise Usage(f"not the name of an input, or ! and a name: --reset {visible(given.reset)}")
+    given.reset_steps = given.reset_steps or 1
 
 
 def check_mode(given: argparse.Namespace) -> None:

@@ -139,6 +139,8 @@ class Run:
         session, assertion = self.session, search.assertion
         found = None if isinstance(assertion, Liveness) else known.get(assertion.bad)
         verdict: Verdict = found or session.in_time(search.verdict, LATE)
+        if question.unset and verdict.answer is Answer.REACHED and not assertion.wants_run:
+            search.notes += question.unset.hints(assertion, verdict.steps)
         shown = session.in_time(lambda: self.replayed(question, assertion, verdict), None)
         others = session.in_time(lambda: self.by_seconds(question, assertion, verdict), None)
         if others is None and verdict.answer in KEPT:

@@ -7,6 +7,7 @@ from typing import List, Sequence
 from aiger_check.asked.question import Question, Translation, question_of
 from aiger_check.front.asked import Asked
 from aiger_check.front.replay import Replay
+from aiger_check.front.reset import Reset
 from aiger_check.front.second.beside import Second
 from aiger_check.front.second.comparison import Design
 from aiger_check.front.sources import Sources
@@ -43,12 +44,15 @@ def of_verilog(session: Session, programs: Programs) -> Question:
     with contextlib.ExitStack() as stack:
         asked, clocks = Asked(session.given.mode, session.given.cover_asserts), session.given.clocks
         front = Front(started(stack, session, program, session.given.files, place), top, False, clocks, asked)
+        if session.given.reset:
+            front.reset = Reset.of(session.given.reset, session.given.reset_steps)
         assertions = front.translate()
     note_all(session, front)
     if not assertions:
         session.notes.warn(f"there is no {ABSENT.get(session.given.mode, 'assertion')}")
     question = question_of(place / "model.aig", assertions)
     question.replay = Replay(program, session.children, place, top, front.clock, front.replays)
+    question.unset = None if session.given.reset else front.unset_registers
     question.translations = [translation(front)]
     question.seconds = seconds(session, program, [front])
     return question

@@ -12,8 +12,10 @@ from aiger_check.front.clocks import Clocks
 from aiger_check.front.cones import Cones
 from aiger_check.front.drivers import Drivers
 from aiger_check.front.properties import LEFT_OUT, Lost, Property, properties, renamed
+from aiger_check.front.reset import Reset, WithReset
 from aiger_check.front.told import told_positions, with_inputs
 from aiger_check.front.undriven import refuse_undeclared, undriven, without_body
+from aiger_check.front.unset import Unset
 from aiger_check.front.words import Source
 from aiger_check.front.yosys import Yosys, bare, quoted, top_of
 from aiger_check.model.circuit import Model
@@ -62,6 +64,8 @@ class Front:
         self.replays = False
         #: reasons by which the model may not be the design, each with the cells on which it bears
         self.doubts: List[Tuple[str, List[str]]] = []
+        #: with which each run begins, if that was asked for
+        self.reset: Optional[Reset] = None
 
     def translate(self) -> List[Assertion]:
         """Writes model.aig into the folder of the sources, and gives its assertions."""
@@ -89,6 +93,7 @@ class Front:
         self.module = top_of(netlist)
         module = netlist[self.module]
         self.notes += map(visible, undriven(self.yosys.said, self.top, module, self.sources))
+        self.unset_registers = Unset(module)
         clocks = Clocks(module)
         if self.named_clocks:
             clocks.refuse_others(self.named_clocks)
@@ -109,6 +114,8 @@ class Front:
     def write(self, reason: Optional[str]) -> None:
         """Writes model.aig, whose steps are those of a global clock where there is a reason for it."""
         yosys, alias = self.yosys, self.sources.alias
+        if self.reset:
+            self.add_reset(self.reset)
         if reason:
             self.notes.append(f"{reason}: a step is one of a global clock, by Yosys's clk2fflogic")
         elif self.asynchronous:
@@ -122,6 +129,13 @@ class Front:
         self.change_text("final", "final", self.asked.text)
         yosys.do("design -reset", f"read_rtlil {alias}/final.il")
         yosys.do(f"write_aiger -symbols -map {alias}/model.map {alias}/model.aig")
+
+    def add_reset(self, reset: Reset) -> None:
+        """Has each run begin with a reset."""
+        alias, top = self.sources.alias, quoted(self.module)
+        self.yosys.do(f"write_rtlil {alias}/unreset.il")
+        self.change_text("unreset", "reset", lambda text, _: WithReset(text, top, reset).text())
+        self.yosys.do("design -reset", f"read_rtlil {alias}/reset.il", f"hierarchy -top {top}")
 
     def read(self) -> None:
         """Reads the files, and looks at the properties before they are flattened."""
