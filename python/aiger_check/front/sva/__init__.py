@@ -1,0 +1,1 @@
+"""Concurrent assertions of one clock, rewritten to what Yosys takes."""
