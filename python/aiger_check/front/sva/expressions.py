@@ -77,6 +77,11 @@ def refuse_call(tokens: Sequence[Token], at: int) -> None:
     given = arguments(tokens[at + 2 : closing(tokens, at + 1) - 1])
     if not all(given) or len(given) > SAMPLES[token.text]:
         raise NotTaken(token, f"{token.text} with these arguments", "write no clock and no condition in it")
+    inner = given[0]
+    for place, it in enumerate(inner):
+        is_call = it.kind in ("word", "escaped") and place + 1 < len(inner) and inner[place + 1].text == "("
+        if is_call or it.kind == "system":
+            raise NotTaken(it, f"{token.text} of {it.text}(..)", "give the value a name by an assign")
     if len(given) == 2 and spelled(given[1]).strip("0_") == "":
         raise NotTaken(token, f"{token.text} of no step", "write the value itself")
 

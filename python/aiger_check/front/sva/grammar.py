@@ -138,16 +138,16 @@ class Parser:
             end = closing(self.tokens, self.at)
             words, self.at = self.tokens[self.at : end], end
             count = expression(words, self.named.bodies)
-            return Delay(count, count)
+            return Delay(count)
         if here.kind not in ("number", "word", "macro", "escaped"):
             raise NotTaken(here, "this delay", "write ##N, or ##[M:N] with numbers")
         self.at += 1
         if NUMBER.fullmatch(text):
-            return Delay(number(here), number(here))
+            return Delay(number(here))
         while self.peek() == "::":
             text += "::" + self.tokens[self.at + 1].text if self.at + 1 < len(self.tokens) else ""
             self.at += 2
-        return Delay(f"{text} ", f"{text} ")
+        return Delay(f"{text} ")
 
     def repeated(self) -> Property:
         """An expression, or what stands in parentheses, so many times."""
@@ -208,7 +208,7 @@ def span(words: Words[Token], here: Token) -> Delay:
     if len(words) == 3 and texts[1] == ":" and NUMBER.fullmatch(texts[0]) and NUMBER.fullmatch(texts[2]):
         low, high = number(words[0]), number(words[2])
         if low <= high <= MOST * 4:
-            return Delay(low, high)
+            return Delay(low, high - low)
     raise NotTaken(here, f"##[{spelled(words)}]", f"write ##[M:N] with two numbers up to {MOST * 4}")
 
 

@@ -2,6 +2,7 @@
 
 from typing import List, NamedTuple, Optional
 
+from aiger_check.front.sva.grammar import antecedent
 from aiger_check.front.sva.refusals import CHECK_IT, REGISTERS, NotTaken
 from aiger_check.front.sva.terms import (
     And,
@@ -85,7 +86,7 @@ class Registers:
         if delay.is_exact:
             return first
         found = [first]
-        for _ in range(int(delay.high) - int(delay.low)):
+        for _ in range(delay.more):
             found.append(self.later(found[-1], 1))
         return self.any_of(found)
 
@@ -157,7 +158,7 @@ class Registers:
         waiting, truth = self.later(signal, last.delay.low), self.truth(last.expression)
         waiting = self.value(f"{waiting} && !{truth}")
         if not last.delay.is_exact:
-            for _ in range(int(last.delay.high) - int(last.delay.low)):
+            for _ in range(last.delay.more):
                 waiting = self.value(f"{self.later(waiting, 1)} && !{truth}")
         return [*found, waiting]
 
@@ -176,11 +177,9 @@ class Registers:
         while isinstance(term, Implication):
             reached = self.matched(term.left, signal)
             signal, term = self.later(reached, 1) if term.is_next else reached, term.right
-        if isinstance(term, Sequence):
-            return self.matched(term, signal)
-        if not is_plain(term):
-            raise NotTaken(token, "a cover of this property", CHECK_IT)
-        return self.value(f"{signal} && {self.holds(term)}")
+        if isinstance(term, (And, Or, Sequence)):
+            return self.matched(antecedent(term, token), signal)
+        raise NotTaken(token, "a cover of this property", CHECK_IT)
 
     def pending(self, term: Property) -> str:
         """Whether what must come has come, for each attempt so far."""
@@ -196,15 +195,6 @@ class Registers:
         found = self.value(f"({signal} || {name} && {self.start}) && !{truth}")
         self.steps.append(f"{name} <= {found};")
         return found
-
-
-def is_plain(term: Property) -> bool:
-    """Whether expressions alone are joined, so that nothing holds for want of a left side."""
-    if isinstance(term, Or) and term.token.text != "or":
-        return False
-    if isinstance(term, (And, Or)):
-        return is_plain(term.left) and is_plain(term.right)
-    return isinstance(term, Sequence) and term.is_boolean
 
 
 def ends_eventually(term: Property) -> bool:

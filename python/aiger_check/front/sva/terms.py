@@ -9,23 +9,23 @@ Count = Union[int, str]
 
 
 class Delay(NamedTuple):
-    """From so many steps to so many, which is only one number where these are alike."""
+    """At least so many steps, and at most so many more."""
 
     low: Count
-    high: Count
+    more: int = 0
 
     @property
     def is_exact(self) -> bool:
-        return self.low == self.high
+        return self.more == 0
 
 
-NOW = Delay(0, 0)
-NEXT = Delay(1, 1)
+NOW = Delay(0)
+NEXT = Delay(1)
 
 
 def after(first: Delay, second: Delay) -> Delay:
     """One delay behind another."""
-    return Delay(total(first.low, second.low), total(first.high, second.high))
+    return Delay(total(first.low, second.low), first.more + second.more)
 
 
 def total(first: Count, second: Count) -> Count:
