@@ -3,6 +3,7 @@
 import re
 from typing import Any, Dict, Iterator, List, NamedTuple, Optional, Tuple
 
+from aiger_check.front.edges import Registers
 from aiger_check.front.words import Source, Word
 from aiger_check.front.yosys import bare
 
@@ -71,11 +72,14 @@ def properties(modules: Dict[str, Any], top: str, source: Source) -> Iterator[Pr
     while waiting:
         module, path = waiting.pop()
         inside = []
+        registers = Registers(modules[module], source.sources.rewritten)
         for name, cell in modules[module]["cells"].items():
             kind, here = cell["type"], (*path, bare(name))
             if kind in PROPERTIES:
                 labelled = not name.startswith((UNNAMED, "$"))
-                shown = ".".join(here if labelled else (*path, SPELLED.get(kind, kind[1:])))
+                asked = registers.asked(cell)
+                its = asked.name if asked and not labelled else SPELLED.get(kind, kind[1:])
+                shown = ".".join(here if labelled else (*path, its))
                 yield Property(here, kind, shown, *place_of(cell, labelled, source))
             elif kind in modules:
                 inside.append((kind, here))

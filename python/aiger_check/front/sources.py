@@ -9,6 +9,7 @@ from typing import Dict, Iterable, List, Sequence, Set, Tuple
 from aiger_check.faults import Trouble, visible
 from aiger_check.front.directives import Changes
 from aiger_check.front.files import content, is_there, text_of
+from aiger_check.front.sva.rewriting import Rewritten, macros_of, rewritten
 
 #: below the folder of a copy, so that names of other files may lead upwards
 BELOW = "1/2/3/4/5/6"
@@ -23,6 +24,8 @@ class Copy:
     above: str
     place: str
     text: str = ""
+    #: as it is read, before its assertions are rewritten
+    changed: str = ""
 
 
 class Sources:
@@ -58,10 +61,15 @@ class Sources:
         self.reads_words = False
         #: where a case promises that no two of its items match
         self.parallel: List[str] = []
+        #: the assertions that are rewritten, by the prefix of their registers
+        self.rewritten: Dict[str, Rewritten] = {}
+        #: why what stands behind an unknown macro is not taken
+        self.refused: Dict[str, str] = {}
         self.first = [self.copy(name, os.path.dirname(name)) for name in files]
         for copy in self.copies:
             # what it includes is added behind it
             self.take(copy)
+        self.rewrite()
         self.at_place = {copy.place: copy for copy in self.copies}
         self.copy_words([*parameters, *(value for _, value in self.defines)])
 
@@ -89,7 +97,19 @@ class Sources:
         self.strings |= changes.strings
         self.reads_words = self.reads_words or changes.reads_words
         self.parallel += (f"{copy.name}:{line}" for line in changes.parallel)
-        self.put(copy.place, changes.text.encode("latin-1"))
+        copy.changed = changes.text
+
+    def rewrite(self) -> None:
+        """Puts each copy into its place, with assertions that Yosys takes."""
+        macros = dict(self.defines)
+        for copy in self.copies:
+            for name, words in macros_of(copy.changed).items():
+                macros[name] = f"{macros.get(name, '')} {words}"
+        for copy in self.copies:
+            found = rewritten(copy.changed, copy.name, macros)
+            self.rewritten.update((it.prefix, it) for it in found.taken)
+            self.refused.update((name, str(it)) for name, it in found.refused.items())
+            self.put(copy.place, found.text.encode("latin-1"))
 
     def put(self, place: str, text: bytes) -> None:
         path = self.folder / place

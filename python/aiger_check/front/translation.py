@@ -11,6 +11,7 @@ from aiger_check.front.asked import Asked, MET
 from aiger_check.front.clocks import Clocks
 from aiger_check.front.cones import Cones
 from aiger_check.front.drivers import Drivers
+from aiger_check.front.edges import Registers, lasting
 from aiger_check.front.properties import LEFT_OUT, Lost, Property, properties, renamed
 from aiger_check.front.reset import Reset, WithReset
 from aiger_check.front.told import told_positions, with_inputs
@@ -94,6 +95,8 @@ class Front:
         module = netlist[self.module]
         self.notes += map(visible, undriven(self.yosys.said, self.top, module, self.sources))
         self.unset_registers = Unset(module)
+        self.sooner = list(Registers(module, self.sources.rewritten).sooner())
+        self.lasting = lasting(module, self.sources.rewritten)
         clocks = Clocks(module)
         if self.named_clocks:
             clocks.refuse_others(self.named_clocks)
@@ -114,12 +117,17 @@ class Front:
     def write(self, reason: Optional[str]) -> None:
         """Writes model.aig, whose steps are those of a global clock where there is a reason for it."""
         yosys, alias = self.yosys, self.sources.alias
+        if reason and self.lasting:
+            named = f"disable iff of assumption {self.lasting.label}".rstrip()
+            raise Trouble(visible(f"{reason}: {named} is not taken there: assume it under !rst in its place"))
         if self.reset:
             self.add_reset(self.reset)
         if reason:
             self.notes.append(f"{reason}: a step is one of a global clock, by Yosys's clk2fflogic")
         elif self.asynchronous:
             self.notes.append("asynchronous sets and resets change with the clock alone, by Yosys's async2sync")
+        if self.sooner and not reason:
+            yosys.do(f"cd {quoted(self.top)}", *self.sooner, "cd ..")
         yosys.do(*(self.GLOBAL_CLOCK if reason else self.ONE_CLOCK))
         yosys.do("setundef -undriven -anyseq", "opt -noff -keepdc -fast", f"write_rtlil {alias}/prepared.il")
         yosys.do(*self.GATES)

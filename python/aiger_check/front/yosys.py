@@ -102,6 +102,9 @@ class Yosys:
                 if foreign:
                     file = self.sources.users_name(match[1])
                     return f"{file}: {foreign[1]} is imported by DPI, and no function of another language is called"
+                refused = re.search(r"undefined macro `(\w+)", match[3])
+                if refused and refused[1] in self.sources.refused:
+                    return self.sources.refused[refused[1]]
                 place = f"{self.sources.users_name(match[1])}:{match[2]}: " if match[1] else ""
                 return place + self.sources.with_users_names(match[3])
         self.child.wait()

@@ -202,7 +202,7 @@ REFUSED = {
     "a top that is a command": (["--top", "counter; shell touch hacked", "counter.sv"], ["aiger-check: "]),
     "a top that is a line": (["--top", "counter\nshell touch hacked", "counter.sv"], ["aiger-check: "]),
     "a syntax error": (["--top", "broken", "parts/broken.sv"], [r"parts/broken\.sv:4"]),
-    "a property of a clock's edge": (["--top", "concurrent", "parts/concurrent.sv"], [r"parts/concurrent\.sv:2"]),
+    "a property that is not taken": (["--top", "concurrent", "parts/concurrent.sv"], [r"parts/concurrent\.sv:2: throughout"]),
     "a part that is missing": (["--top", "missing_part", "parts/missing_part.sv"], ["nowhere"]),
     "a file that is missing": (["--top", "counter", "counter.sv", "none.sv"], [r"none\.sv"]),
     "a folder for a file": (["--top", "counter", "folder.sv"], [r"folder\.sv"]),

@@ -13,6 +13,7 @@ from aiger_check.front.sva.named import Named
 from aiger_check.front.sva.refusals import NotTaken, Refused
 from aiger_check.front.sva.registers import Statement, written
 from aiger_check.front.sva.statements import behind_property, need_droppable, text_at
+from aiger_check.front.sva.terms import is_of_one_step
 from aiger_check.front.sva.tokens import Source, Token, spelled
 from aiger_check.front.sva.units import Unit, asserting, unit_names
 
@@ -27,8 +28,12 @@ class Rewritten(NamedTuple):
 
     line: int
     label: str
-    what: str
+    word: str
     prefix: str
+    #: it has a disable iff
+    is_disabled: bool
+    #: it is of several steps
+    is_long: bool
 
 
 class Rewriting(NamedTuple):
@@ -173,9 +178,10 @@ class Rewriter:
         prefix = f"{self.prefix}{self.count}_"
         edge, disabled, rest, named = self.specified(item, words[at + 3 : end - 1], words[at])
         statement = Statement(words[at].text, shown, edge, disabled, words[at])
-        text = written(prefix, statement, Parser(rest, named, words[at]).whole())
-        self.replace(words, text)
-        self.taken.append(Rewritten(words[0].line, label, f"{words[at].text} property", prefix))
+        term = Parser(rest, named, words[at]).whole()
+        self.replace(words, written(prefix, statement, term))
+        is_long = not is_of_one_step(term)
+        self.taken.append(Rewritten(words[0].line, label, statement.word, prefix, disabled is not None, is_long))
 
     def specified(self, item: Item, inner: List[Token], place: Token) -> Tuple[str, Optional[str], List[Token], Named]:
         """The edge of the clock, the condition by which it is disabled, and the words of a property."""
