@@ -132,7 +132,7 @@ class Parser:
         here, text = self.here(), self.peek()
         if here.text.startswith("["):
             end = closing(self.tokens, self.at)
-            words, self.at = self.tokens[self.at + 1 : end - 1], end
+            words, self.at = self.tokens[self.at : end], end
             return span(words, here)
         if here.kind == "symbol" and text == "(":
             end = closing(self.tokens, self.at)
@@ -205,11 +205,11 @@ def number(token: Token) -> int:
 def span(words: Words[Token], here: Token) -> Delay:
     """The two numbers of a delay."""
     texts = [it.text for it in words]
-    if len(words) == 3 and texts[1] == ":" and NUMBER.fullmatch(texts[0]) and NUMBER.fullmatch(texts[2]):
-        low, high = number(words[0]), number(words[2])
+    if len(words) == 5 and texts[2] == ":" and NUMBER.fullmatch(texts[1]) and NUMBER.fullmatch(texts[3]):
+        low, high = number(words[1]), number(words[3])
         if low <= high <= MOST * 4:
             return Delay(low, high - low)
-    raise NotTaken(here, f"##[{spelled(words)}]", f"write ##[M:N] with two numbers up to {MOST * 4}")
+    raise NotTaken(here, f"##{spelled(words)}", f"write ##[M:N] with two numbers up to {MOST * 4}")
 
 
 def antecedent(term: Property, operator: Token) -> Antecedent:

@@ -177,13 +177,17 @@ class Rewriter:
         self.count += 1
         prefix = f"{self.prefix}{self.count}_"
         edge, disabled, rest, named = self.specified(item, words[at + 3 : end - 1], words[at])
-        statement = Statement(words[at].text, shown, edge, disabled, words[at])
         term = Parser(rest, named, words[at]).whole()
+        if not edge:
+            raise NotTaken(words[at], "an assertion without a clock", "write @(posedge clk) in it")
+        statement = Statement(words[at].text, shown, edge, disabled, words[at])
         self.replace(words, written(prefix, statement, term))
         is_long = not is_of_one_step(term)
         self.taken.append(Rewritten(words[0].line, label, statement.word, prefix, disabled is not None, is_long))
 
-    def specified(self, item: Item, inner: List[Token], place: Token) -> Tuple[str, Optional[str], List[Token], Named]:
+    def specified(
+        self, item: Item, inner: List[Token], place: Token
+    ) -> Tuple[Optional[str], Optional[str], List[Token], Named]:
         """The edge of the clock, the condition by which it is disabled, and the words of a property."""
         unit = self.unit(item)
         named = Named(unit.named(item))
@@ -192,8 +196,6 @@ class Rewriter:
         if len(clock) == 1 or len(clock) == 3 and clock[0].text == "(":
             clock = unit.blocks.get(clock[len(clock) // 2].text, clock)
         edge = edge_of(clock, place) if clock else unit.default(unit.clocks, item, place)
-        if not edge:
-            raise NotTaken(place, "an assertion without a clock", "write @(posedge clk) in it")
         disabled = condition(given.disabled, named) or unit.default(unit.conditions, item, place)
         return edge, disabled, given.rest, named._replace(clock=spelled(given.clock))
 

@@ -60,9 +60,10 @@ class Unit:
         name, at, why = text_at(tokens, 1), 2, ""
         if text_at(tokens, at) != ";":
             why = "which has arguments"
-        words = [it for it in tokens[at + 1 :]]
-        end = next(at for at, it in reversed(list(enumerate(words))) if it.text.startswith("end"))
-        words = words[:end]
+        ends = [place for place, it in enumerate(tokens) if it.text in ("endproperty", "endsequence")]
+        if not ends:
+            raise NotTaken(tokens[0], f"{item.kind} without its end", f"write end{item.kind}")
+        words = list(tokens[at + 1 : ends[0]])
         if words and words[-1].text == ";":
             words = words[:-1]
         if any(it.text == ";" for it in words):
