@@ -137,6 +137,12 @@ REFUSED = {
     "`A(x, a |-> b)": ("`A of a property", "itself in its place"),
     '`include "x.svh"\ndefault disable iff (a);': ("`include beside default clocking", "elsewhere"),
     "default disable iff (a);\nassert property (b);": ("an assertion without a clock", "@(posedge clk)"),
+    "`define DIS disable iff (a)\nassert property (@(posedge clk) `DIS b);": ("`DIS of a property", "in its place"),
+    "`define EDGE @(posedge clk)\nassert property (`EDGE b |=> c);": ("`EDGE of a property", "in its place"),
+    "`define P a |-> b\n`define Q `P\nassert property (@(posedge clk) c || `Q);": ("`Q of a property", "in its place"),
+    "`ifdef X\nclocking cb @(posedge a); endclocking\n`else\nclocking cb @(posedge b); endclocking\n`endif\n"
+    "assert property (@(cb) c);": ("cb, which depends on `ifdef,", "at each assertion"),
+    "`ifdef X\nclocking cb @(posedge a); endclocking\n`endif\ndefault clocking cb;": ("cb, which depends on", ""),
     f"default disable iff (a);\nalways {E} assert property (b);": ("a concurrent assertion in a procedure", "outside"),
 }
 # what stands outside of a module

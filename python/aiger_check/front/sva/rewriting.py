@@ -15,7 +15,7 @@ from aiger_check.front.sva.registers import Statement, written
 from aiger_check.front.sva.statements import behind_property, need_droppable, text_at
 from aiger_check.front.sva.terms import is_of_one_step
 from aiger_check.front.sva.tokens import Source, Token, spelled
-from aiger_check.front.sva.units import Unit, asserting, unit_names
+from aiger_check.front.sva.units import Unit, asserting, pieces, unit_names
 
 PREFIX = "aiger_check_sva_"
 DIRECTIVE = re.compile(r"`(?:ifn?def|elsif|else|endif|define|undef|include|line)\b")
@@ -61,6 +61,7 @@ class Rewriter:
         self.items = Items(source.tokens)
         known = {name: macros.get(name, "") + source.macros.get(name, "") for name in {**macros, **source.macros}}
         self.asserting, self.asserting_by_default = asserting(known, False), asserting(known, True)
+        self.pieces = pieces(known)
         digest = zlib.crc32(f"{name}\n{text}".encode(errors="surrogateescape"))
         self.prefix = f"{PREFIX}{digest:08x}_"
         self.count = 0
@@ -177,6 +178,7 @@ class Rewriter:
         self.count += 1
         prefix = f"{self.prefix}{self.count}_"
         edge, disabled, rest, named = self.specified(item, words[at + 3 : end - 1], words[at])
+        self.refuse_pieces(words[at + 3 : end - 1])
         term = Parser(rest, named, words[at]).whole()
         if not edge:
             raise NotTaken(words[at], "an assertion without a clock", "write @(posedge clk) in it")
@@ -184,6 +186,11 @@ class Rewriter:
         self.replace(words, written(prefix, statement, term))
         is_long = not is_of_one_step(term)
         self.taken.append(Rewritten(words[0].line, label, statement.word, prefix, disabled is not None, is_long))
+
+    def refuse_pieces(self, words: List[Token]) -> None:
+        for token in words:
+            if token.kind == "macro" and token.text[1:] in self.pieces:
+                raise NotTaken(token, f"{token.text} of a property", "write what it stands for in its place")
 
     def specified(
         self, item: Item, inner: List[Token], place: Token
@@ -194,7 +201,8 @@ class Rewriter:
         given = unfolded(split(inner), named)
         clock = given.clock
         if len(clock) == 1 or len(clock) == 3 and clock[0].text == "(":
-            clock = unit.blocks.get(clock[len(clock) // 2].text, clock)
+            name = clock[len(clock) // 2]
+            clock = unit.block(name, item) if name.text in unit.blocks else clock
         edge = edge_of(clock, place) if clock else unit.default(unit.clocks, item, place)
         disabled = condition(given.disabled, named) or unit.default(unit.conditions, item, place)
         return edge, disabled, given.rest, named._replace(clock=spelled(given.clock))

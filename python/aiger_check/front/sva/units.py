@@ -21,6 +21,13 @@ class Default(NamedTuple):
     token: Token
 
 
+class Clocking(NamedTuple):
+    """A clocking block: the words of its clock, and where it stands."""
+
+    words: List[Token]
+    path: Path
+
+
 class Declaration(NamedTuple):
     """A property or a sequence."""
 
@@ -39,7 +46,7 @@ class Unit:
         self.conditions: List[Default] = []
         self.declared: Dict[str, List[Declaration]] = {}
         #: clocking blocks by their names
-        self.blocks: Dict[str, List[Token]] = {}
+        self.blocks: Dict[str, List[Clocking]] = {}
 
     @property
     def has_defaults(self) -> bool:
@@ -84,20 +91,26 @@ class Unit:
         if item.kind == "global clocking":
             raise NotTaken(tokens[0], "global clocking", AT_EACH)
         if item.kind == "default clocking" and text_at(tokens, 3) == ";":
-            block = self.blocks.get(text_at(tokens, 2))
-            if not block:
+            if text_at(tokens, 2) not in self.blocks:
                 raise NotTaken(tokens[0], "a default clocking that was not declared before", AT_EACH)
-            name, clock = "", block
+            name, clock = "", self.block(tokens[2], item)
         else:
             name, clock = clock_of_block(tokens)
         if name:
-            self.blocks[name] = clock
+            self.blocks.setdefault(name, []).append(Clocking(clock, item.path))
         if item.kind != "default clocking":
             return ""
         edge, wire = edge_of(clock, tokens[0]), f"{self.prefix}clock{len(self.clocks)}"
         polarity, _, text = edge.partition(" ")
         self.clocks.append(Default(f"{polarity} {wire}", item.path, tokens[0]))
         return f"wire {wire} = {text};"
+
+    def block(self, token: Token, item: Item) -> List[Token]:
+        """The words of the clock of a clocking block, spoken of by its name in an item."""
+        found = self.blocks[token.text]
+        if len(found) > 1 or item.path[: len(found[0].path)] != found[0].path:
+            raise NotTaken(token, f"{token.text}, which depends on `ifdef,", AT_EACH)
+        return found[0].words
 
     def default(self, found: Sequence[Default], item: Item, token: Token) -> Optional[str]:
         """The one that is so by default where an item stands."""
@@ -125,6 +138,10 @@ class Unit:
 
 CONCURRENT = re.compile(r"\b(?:assert|assume|cover|restrict)\s*(?:property|sequence)\b")
 TEMPORAL = re.compile(r"@|\|->|\|=>|##|\b(?:disable|else|property|sequence|clocking)\b\s*(?!\()")
+#: what only properties have
+PIECES = re.compile(
+    r"@|\|->|\|=>|##|\b(?:disable|throughout|within|intersect|first_match|until|s_until|s_eventually|strong|weak)\b"
+)
 USED = re.compile(r"`([A-Za-z_][\w$]*)")
 
 
@@ -136,6 +153,16 @@ def asserting(macros: Mapping[str, str], is_by_default: bool) -> Set[str]:
             found.add(name)
         if CONCURRENT.search(body) and (is_by_default or TEMPORAL.search(CONCURRENT.sub("", body))):
             found.add(name)
+    return users(found, macros)
+
+
+def pieces(macros: Mapping[str, str]) -> Set[str]:
+    """The macros that are a piece of a property."""
+    return users({name for name, body in macros.items() if PIECES.search(body)}, macros)
+
+
+def users(found: Set[str], macros: Mapping[str, str]) -> Set[str]:
+    """These macros and those that use them."""
     before = -1
     while len(found) != before:
         before = len(found)
