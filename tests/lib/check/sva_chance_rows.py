@@ -12,11 +12,11 @@ sys.path.append(str(checked.TOP / "python"))
 from aiger_check.front.sva.rewriting import rewritten
 
 #: so many designs, each of so many assertions, on so many runs of so many steps
-DESIGNS, ASSERTIONS, RUNS, STEPS = 16, 40, 3, 16
+DESIGNS, ASSERTIONS, RUNS, STEPS = 12, 40, 10, 16
 HEAD = """module made(input clk, input rst, input a, input b, input c, input [2:0] w);
   parameter N0 = 0; localparam N1 = 1, N2 = 2, N3 = 3;
 """
-GATES = "memory_map; opt_expr -keepdc; opt_clean; techmap; dffunmap; simplemap; opt_clean; aigmap; opt_clean"
+GATES = "opt_clean; techmap; dffunmap; simplemap; aigmap; opt_clean"
 
 
 def kinds(chance):
@@ -58,7 +58,7 @@ def circuit(room, text, name="made"):
     checked.need(found.text.count("\n") == text.count("\n"), "lines moved", found.text)
     (room.here / f"{name}.sv").write_text(found.text, encoding="ascii")
     kinds_ = " ".join(f"t:${it}" for it in ("assert", "assume", "cover", "live", "fair"))
-    script = f"read_verilog -sv -formal {name}.sv; hierarchy -check -top {name}; proc; flatten; opt_clean; delete {kinds_}"
+    script = f"read_verilog -sv -formal {name}.sv; hierarchy -check -top {name}; proc; delete {kinds_}"
     script += f"; expose w:*asked; {GATES}; write_aiger -ascii -symbols {name}.aag"
     ran = subprocess.run(["yosys", "-q", "-p", script], cwd=room.here, capture_output=True, text=True, check=False)
     checked.need(ran.returncode == 0, f"Yosys says {ran.stderr[-500:]}", found.text)

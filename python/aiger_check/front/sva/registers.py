@@ -1,6 +1,7 @@
 """The registers and expressions in which an assertion is written."""
 
-from typing import List, NamedTuple, Optional
+import re
+from typing import List, NamedTuple, Optional, Tuple
 
 from aiger_check.front.sva.grammar import antecedent
 from aiger_check.front.sva.refusals import CHECK_IT, REGISTERS, NotTaken
@@ -23,6 +24,9 @@ from aiger_check.front.sva.terms import (
 from aiger_check.front.sva.tokens import Token
 
 
+SAMPLED = re.compile(r"\$(?:past|rose|fell|stable|changed)\b|`")
+
+
 class Statement(NamedTuple):
     """An assertion without what it is about: its word, its label, its clock's edge, and when it is disabled."""
 
@@ -34,7 +38,7 @@ class Statement(NamedTuple):
 
 
 class Registers:
-    """The always block of one assertion. Its values are given to variables, each in one step from those before it.
+    """The registers of one assertion, and the values of one step that they take.
 
     A value is 1 in a step where some attempt of the assertion is at that point. Attempts that are at one point in one
     step have the same future, so one bit is enough for all of them.
@@ -42,20 +46,30 @@ class Registers:
 
     def __init__(self, prefix: str, disabled: Optional[str]) -> None:
         self.prefix, self.count = prefix, 0
+        self.values: List[Tuple[str, str]] = []
         self.declared: List[str] = []
         self.steps: List[str] = []
-        self.start = self.value(f"!( {disabled} )" if disabled is not None else "1'b1")
+        self.start = "1'b1" if disabled is None else self.value(f"!( {disabled} )")
 
     def name(self) -> str:
         self.count += 1
         return f"{self.prefix}{self.count}"
 
     def value(self, text: str) -> str:
-        """A variable of this step."""
+        """What is so in this step."""
         name = self.name()
-        self.declared.append(f"reg {name};")
-        self.steps.append(f"{name} = {text};")
+        self.values.append((name, text))
         return name
+
+    def written(self, edge: str) -> str:
+        """Its text. What was before is known in an always block alone, so that values are variables of it where they ask
+        for that, and wires elsewhere."""
+        if any(SAMPLED.search(text) for _, text in self.values):
+            self.declared += (f"reg {name};" for name, _ in self.values)
+            self.steps = [*(f"{name} = {text};" for name, text in self.values), *self.steps]
+        else:
+            self.declared += (f"wire {name} = {text};" for name, text in self.values)
+        return f"{' '.join(self.declared)} always @({edge}) begin {' '.join(self.steps)} end"
 
     def truth(self, expression: str) -> str:
         """Whether an expression is true, which may be wider than one bit."""
@@ -217,7 +231,6 @@ def written(prefix: str, statement: Statement, term: Property) -> str:
         value, property_ = f"!({' || '.join(registers.failed(term, registers.start))})", asked
     first = "1'b0" if word == "cover" else "1'b1"
     label = f"{statement.label}: " if statement.label else ""
-    declared = " ".join([*registers.declared, f"reg {asked} = {first};"])
-    steps = " ".join([*registers.steps, f"{asked} <= {value};"])
-    block = f"always @({statement.edge}) begin {steps} end"
-    return f"{declared} {block} {label}{word} property ({property_});"
+    registers.declared.append(f"reg {asked} = {first};")
+    registers.steps.append(f"{asked} <= {value};")
+    return f"{registers.written(statement.edge)} {label}{word} property ({property_});"
