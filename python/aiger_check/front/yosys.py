@@ -106,6 +106,8 @@ class Yosys:
                 if refused and refused[1] in self.sources.refused:
                     return self.sources.refused[refused[1]]
                 place = f"{self.sources.users_name(match[1])}:{match[2]}: " if match[1] else ""
+                if match[3].endswith("expecting TOK_PROPERTY"):
+                    return f"{place}outside of an always block write assert property (..)"
                 return place + self.sources.with_users_names(match[3])
         self.child.wait()
         last = f": {said[-1]}" if said else ""

@@ -111,7 +111,6 @@ REFUSED = {
     f"always {E} assert property (a |=> b);": ("a concurrent assertion in a procedure", "outside of the always block"),
     f"always {E} if (a) begin x: assert property (a |=> b); end": ("a concurrent assertion in a procedure", "outside"),
     f"initial assert property ({E} a);": ("a concurrent assertion in a procedure", "outside of the always block"),
-    "assert (a);": ("assert without property here", "assert property"),
     "assert #0 (a);": ("assert #0", "assert property"),
     "global clocking @(posedge clk); endclocking": ("global clocking", "at each assertion"),
     "default clocking cb @(posedge clk); input a; endclocking": ("a clocking block with signals", "at each assertion"),
@@ -134,7 +133,8 @@ REFUSED = {
     f"`define A(e) \\\n  x: assert property \\\n ({E} e)\n`define B(e) `A(e)\n`B(a);": ("`B, out of which", "in its place"),
     "`define A(e) assert property (e) else $error\n`A(a);": ("`A, out of which an assertion comes,", "in its place"),
     "`define A(e) assume property (e)\ndefault disable iff (a);\n`A(b);": ("`A beside default clocking", "in its place"),
-    "`A(x, a |-> b)": ("`A of a property", "itself in its place"),
+    "`define A(n, e) n: assert property (e);\n`A(x, a |-> b)": ("`A of a property", "itself in its place"),
+    "`define A(n, e) n: assert property (e);\n`A(x, not a)": ("`A of a property", "itself in its place"),
     '`include "x.svh"\ndefault disable iff (a);': ("`include beside default clocking", "elsewhere"),
     "default disable iff (a);\nassert property (b);": ("an assertion without a clock", "@(posedge clk)"),
     "`define DIS disable iff (a)\nassert property (@(posedge clk) `DIS b);": ("`DIS of a property", "in its place"),
@@ -184,17 +184,40 @@ LEFT = """// assert property (@(posedge clk) a throughout b);
   always @(posedge clk) begin : here x1: assert (a); assume (b); cover (a && b); end
   assert property (a); always @* assert property (a); live: assert property (s_eventually b); \\assert  u(clk);
   initial assume (a); assume property (eventually a); cover property (a); restrict property (b);
+`define EACH(e) always @(posedge clk) assert property (e);
+`EACH(a)
 `ifdef X
-  `FINE(a)
+  `FINE(a |-> b)
+  always @(posedge clk or negedge a) begin
+`else
+  always @(posedge clk) begin wait fork; disable fork;
 `endif
+    if (a) assert (b); else assume (a);
+  end
+`BEGIN if (a) begin assert (b); end `END
+  assert property (b);
+  generate
+`ifdef X
+  if (1) begin : g
+`else
+  if (0) begin : h
+`endif
+  end
+  endgenerate
+  assert (a); assert final (a);
 endmodule
 """
+# what is rewritten there shows that each scope has ended
+AFTER = LEFT.replace("assert (a); assert final (a);", "x: assert property (@(posedge clk) a);")
 
 
 def left(_):
     """What Yosys takes as it is stays so, letter by letter."""
     found = rewritten(LEFT, "m.sv")
     checked.need(found.text == LEFT and not found.taken and not found.refused, "it is changed", found)
+    found = rewritten(AFTER, "m.sv")
+    is_labelled = re.search(r" x : assert property \(\w+asked\);", found.text)
+    checked.need(len(found.taken) == 1 and not found.refused and is_labelled, "the scope is another", found)
 
 
 def lines(_):
@@ -230,7 +253,7 @@ def odd_texts(_):
         for text in (piece, f"module m; {piece}", f"module m;\n{piece}\nendmodule", f"assert property ({piece}"):
             found = rewritten(text, "x")
             checked.need(found.text.count("\n") == text.count("\n"), "lines moved", text)
-    checked.need(macros_of("`define A(x) x + \\\n 1\n`define B")["A"].split() == ["(x)", "x", "+", "\\", "1"], "a macro", "")
+    checked.need(macros_of("`define A(x) x + \\\n 1\n`define B")["A"].split() == ["(x)", "x", "+", "1"], "a macro", "")
 
 
 def rows():

@@ -5,7 +5,7 @@ from typing import List, NamedTuple, Optional, Sequence
 
 from aiger_check.front.sva.expressions import opens
 from aiger_check.front.sva.statements import behind_assertion, behind_semicolon, behind_statement, text_at
-from aiger_check.front.sva.tokens import Path, Token, closing
+from aiger_check.front.sva.tokens import Branches, Path, Token, closing
 
 ALWAYS = ("always", "always_ff", "always_comb", "always_latch", "initial", "final")
 UNITS = ("module", "macromodule", "interface", "program", "package")
@@ -65,10 +65,11 @@ class Items:
         #: where modules begin and end, and which
         self.places: List[int] = [0]
         self.units: List[int] = [0]
-        self.scope = Scope("file", None, 0)
+        self.scope, self.branches = Scope("file", None, 0), Branches()
         self.at, self.alone, self.was_alone = 0, False, False
         while self.at < len(tokens):
             self.was_alone, self.alone, before = self.alone, False, self.at
+            self.scope = self.branches.at(tokens[self.at].path, self.scope)
             self.item()
             # odd text must not hold it up
             self.at = max(self.at, before + 1)
@@ -205,7 +206,7 @@ class Items:
 
     def procedure(self, first: int, end: int) -> None:
         """What is done in steps, with the assertions in it."""
-        at = first
+        at, end = first, min(end, len(self.tokens))
         while at < end:
             token = self.tokens[at]
             if token.kind == "word" and token.text in ASSERTING and text_at(self.tokens, at - 1) != ".":

@@ -6,7 +6,6 @@ import zlib
 from typing import Callable, Dict, List, Mapping, NamedTuple, Optional, Tuple
 
 from aiger_check.front.sva.clocking import condition, edge_of, split, unfolded
-from aiger_check.front.sva.expressions import makes_property
 from aiger_check.front.sva.grammar import Parser
 from aiger_check.front.sva.items import Item, Items
 from aiger_check.front.sva.named import Named
@@ -15,7 +14,7 @@ from aiger_check.front.sva.registers import Statement, written
 from aiger_check.front.sva.statements import behind_property, need_droppable, text_at
 from aiger_check.front.sva.terms import is_of_one_step
 from aiger_check.front.sva.tokens import Source, Token, spelled
-from aiger_check.front.sva.units import Unit, asserting, pieces, unit_names
+from aiger_check.front.sva.units import Unit, asserting, is_more, pieces, unit_names
 
 PREFIX = "aiger_check_sva_"
 DIRECTIVE = re.compile(r"`(?:ifn?def|elsif|else|endif|define|undef|include|line)\b")
@@ -128,7 +127,7 @@ class Rewriter:
             raise NotTaken(words[0], f"`{name}, out of which an assertion comes,", hint)
         if name in self.asserting_by_default and unit.has_defaults:
             raise NotTaken(words[0], f"`{name} beside default clocking or default disable iff", hint)
-        if any(it.kind == "symbol" and makes_property(it) for it in words):
+        if name in self.asserting_by_default and is_more(words):
             raise NotTaken(words[0], f"`{name} of a property", hint)
 
     def assertion(self, item: Item, words: List[Token]) -> None:
@@ -147,8 +146,6 @@ class Rewriter:
             if self.is_concurrent(item, words[first + 1 : end - 1]):
                 self.concurrent(item, words, at, end)
                 return
-        elif item.kind == "assertion":
-            raise NotTaken(words[at], f"{word} without property here", f"write {word} property (..)")
         if words[end:] and text_at(words, end) != ";":
             need_droppable(words[end:])
             self.replace(words[end:], ";")
@@ -158,9 +155,7 @@ class Rewriter:
         unit = self.unit(item)
         if text_at(inner, 0) in ("s_eventually", "eventually") and not unit.has_defaults:
             inner = inner[1:]
-        return unit.has_defaults or any(
-            makes_property(it) or it.text in ("@", "disable") or it.text in unit.declared for it in inner
-        )
+        return unit.has_defaults or is_more(inner) or any(it.text in unit.declared for it in inner)
 
     def concurrent(self, item: Item, words: List[Token], at: int, end: int) -> None:
         """Rewrites an assertion whose keyword stands at a place, and whose parentheses end at another."""

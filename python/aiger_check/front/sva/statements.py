@@ -4,7 +4,7 @@ from typing import Sequence
 
 from aiger_check.front.sva.expressions import ASSIGNMENTS, opens
 from aiger_check.front.sva.refusals import NotTaken
-from aiger_check.front.sva.tokens import Token, closing
+from aiger_check.front.sva.tokens import Branches, Token, closing
 
 ENDINGS = ("end", "endcase", "endmodule", "endinterface", "endprogram", "endpackage", "endgenerate", "endfunction")
 OPENING = ("begin", "fork", "case", "casex", "casez", "randcase")
@@ -31,14 +31,16 @@ def behind_semicolon(tokens: Sequence[Token], at: int) -> int:
 
 def behind_block(tokens: Sequence[Token], at: int) -> int:
     """Behind a block, and behind its name."""
-    depth = 0
+    depth, branches = 0, Branches()
     while at < len(tokens):
         text = text_at(tokens, at)
-        depth += (text in OPENING) - (text in CLOSING)
+        depth = branches.at(tokens[at].path, depth)
         if text in ("endmodule", "endinterface", "endprogram"):
             return at
+        waits = text == "fork" and text_at(tokens, at - 1) in ("wait", "disable")
+        depth += (text in OPENING and not waits) - (text in CLOSING)
         at += 1
-        if depth == 0:
+        if depth <= 0 and text in CLOSING:
             break
     return at + 2 if text_at(tokens, at) == ":" else at
 

@@ -1,7 +1,7 @@
 """The words of a SystemVerilog source, with their places and the conditions under which they are compiled."""
 
 import re
-from typing import Dict, List, NamedTuple, Sequence, Tuple
+from typing import Any, Dict, List, NamedTuple, Sequence, Tuple
 
 #: the branches of `ifdef in which a word stands, each by the number of its `ifdef and of its branch
 Path = Tuple[Tuple[int, int], ...]
@@ -105,9 +105,25 @@ class Source:
             self.path[-1] = (condition, branch + 1)
 
     def define(self, words: str) -> None:
-        match = DEFINITION.match(words)
+        match = DEFINITION.match(re.sub(r"\\\r?\n", " ", words))
         if match:
             self.macros[match[1]] = self.macros.get(match[1], "") + match[2]
+
+
+class Branches:
+    """Something that is the same in front of each branch of an `ifdef, as how deep a word stands."""
+
+    def __init__(self) -> None:
+        self.before: Dict[int, Tuple[int, Any]] = {}
+
+    def at(self, path: Path, now: Any) -> Any:
+        """What is so at a word, of what is so by the words before it."""
+        for condition, branch in path:
+            known = self.before.setdefault(condition, (branch, now))
+            if known[0] != branch:
+                now = known[1]
+                self.before[condition] = (branch, now)
+        return now
 
 
 def spelled(tokens: Sequence[Token]) -> str:

@@ -4,11 +4,12 @@ import re
 from typing import Dict, List, Mapping, NamedTuple, Optional, Sequence, Set, Tuple
 
 from aiger_check.front.sva.clocking import AT_EACH, clock_of_block, condition, edge_of
+from aiger_check.front.sva.expressions import makes_property
 from aiger_check.front.sva.items import Item, Scope
 from aiger_check.front.sva.named import Body, Named
 from aiger_check.front.sva.refusals import NotTaken
 from aiger_check.front.sva.statements import text_at
-from aiger_check.front.sva.tokens import Path, Token
+from aiger_check.front.sva.tokens import Path, Source, Token, closing
 
 CLOCKS_AND_CONDITIONS = ("default clocking", "default disable")
 
@@ -137,7 +138,6 @@ class Unit:
 
 
 CONCURRENT = re.compile(r"\b(?:assert|assume|cover|restrict)\s*(?:property|sequence)\b")
-TEMPORAL = re.compile(r"@|\|->|\|=>|##|\b(?:disable|else|property|sequence|clocking)\b\s*(?!\()")
 #: what only properties have
 PIECES = re.compile(
     r"@|\|->|\|=>|##|\b(?:disable|throughout|within|intersect|first_match|until|s_until|s_eventually|strong|weak)\b"
@@ -151,9 +151,21 @@ def asserting(macros: Mapping[str, str], is_by_default: bool) -> Set[str]:
     for name, body in macros.items():
         if re.search(r"\b(?:endproperty|endsequence|endclocking|default\s+disable)\b", body):
             found.add(name)
-        if CONCURRENT.search(body) and (is_by_default or TEMPORAL.search(CONCURRENT.sub("", body))):
+        if any(is_by_default or is_temporal(body[it.end() :]) for it in CONCURRENT.finditer(body)):
             found.add(name)
     return users(found, macros)
+
+
+def is_temporal(text: str) -> bool:
+    """Whether what stands behind the word of an assertion is more than an expression."""
+    tokens = Source(text, "").tokens
+    end = closing(tokens, 0)
+    inner, behind = tokens[1 : end - 1], text_at(tokens, end)
+    return is_more(inner) or behind == "else" or behind.startswith("$") or behind == "begin"
+
+
+def is_more(tokens: Sequence[Token]) -> bool:
+    return any(makes_property(it) or it.text in ("@", "disable") for it in tokens)
 
 
 def pieces(macros: Mapping[str, str]) -> Set[str]:
