@@ -18,6 +18,8 @@ from aiger_check.front.sva.units import Unit, asserting, is_more, pieces, unit_n
 
 PREFIX = "aiger_check_sva_"
 DIRECTIVE = re.compile(r"`(?:ifn?def|elsif|else|endif|define|undef|include|line)\b")
+#: without one of these a source has nothing to rewrite
+WORDS = re.compile(r"property|sequence|clocking|disable|assert|assume|cover|expect|restrict|checker")
 DECLARATIONS = ("property", "sequence", "clocking", "default clocking", "global clocking", "default disable")
 OUTSIDE = "write it outside of the always block, with its clock, as @(posedge clk)"
 
@@ -230,11 +232,12 @@ class Rewriter:
 def rewritten(text: str, name: str, macros: Optional[Mapping[str, str]] = None) -> Rewriting:
     """The text of a source with its assertions rewritten; lines stay where they are. The macros are those of other
     files, by their names, as `macros_of` gives them."""
-    if not re.search(r"property|sequence|clocking|disable|assert|assume|cover|expect|restrict|checker|`", text):
+    others = macros or {}
+    if not WORDS.search(text) and not any(WORDS.search(it) for it in others.values()):
         return Rewriting(text, [], {})
-    return Rewriter(text, name, macros or {}).rewriting()
+    return Rewriter(text, name, others).rewriting()
 
 
 def macros_of(text: str) -> Dict[str, str]:
     """The macros that a source defines, with what they are."""
-    return Source(text, "").macros
+    return Source(text, "").macros if "`define" in text else {}
