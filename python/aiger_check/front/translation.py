@@ -127,7 +127,7 @@ class Front:
         elif self.asynchronous:
             self.notes.append("asynchronous sets and resets change with the clock alone, by Yosys's async2sync")
         if self.sooner and not reason:
-            yosys.do(f"cd {quoted(self.top)}", *self.sooner, "cd ..")
+            yosys.do(f"cd {quoted(self.module)}", *self.sooner, "cd ..")
         yosys.do(*(self.GLOBAL_CLOCK if reason else self.ONE_CLOCK))
         yosys.do("setundef -undriven -anyseq", "opt -noff -keepdc -fast", f"write_rtlil {alias}/prepared.il")
         yosys.do(*self.GATES)
