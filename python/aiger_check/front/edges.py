@@ -1,4 +1,4 @@
-"""Assertions of an edge of a clock, each of which is a register's: what they are called, and in which step they count."""
+"""Assertions of a clock's edge, each of which is a register's: how they are called, and in which step they count."""
 
 import re
 from typing import Any, Dict, Iterator, Mapping, NamedTuple, Optional
@@ -40,8 +40,8 @@ class Registers:
         return self.of_bit.get(bits[0]) if bits else None
 
     def sooner(self) -> Iterator[str]:
-        """The commands by which assertions count in the step of the edge at which they are asked, where a step is one of
-        that clock: what the register takes is asserted in its place."""
+        """The commands by which assertions count in the step of the edge at which they are asked, where a step is one
+        of that clock: what the register takes is asserted in its place."""
         if not self.of_bit:
             return
         taken = {}

@@ -1,5 +1,5 @@
-"""Rows of concurrent assertions made by chance: in which steps the registers say that an attempt fails, matches or waits,
-by Yosys's translation of the rewritten source, beside the definition of the standard. No other tool is needed."""
+"""Rows of concurrent assertions made by chance: in which steps the registers say that an attempt fails, matches or
+waits, by Yosys's translation of the rewritten source, beside the definition of the standard. No other tool is needed."""
 import functools
 import random
 import subprocess
@@ -12,7 +12,7 @@ sys.path.append(str(checked.TOP / "python"))
 from aiger_check.front.sva.rewriting import rewritten
 
 #: so many designs, each of so many assertions, on so many runs of so many steps
-DESIGNS, ASSERTIONS, RUNS, STEPS = 12, 40, 10, 16
+DESIGNS, ASSERTIONS, RUNS, STEPS = 6, 40, 10, 16
 HEAD = """module made(input clk, input rst, input a, input b, input c, input [2:0] w);
   parameter N0 = 0; localparam N1 = 1, N2 = 2, N3 = 3;
 """
@@ -40,7 +40,8 @@ def design(seed):
     lines.append("  default disable iff (rst);\n" if disabled else "")
     for at in range(ASSERTIONS):
         kind, word, property_ = kinds(chance)
-        text, its, clock = chance.text(property_), chance.one(True, False), chance.one("@(posedge clk) ", "@(posedge clk)\n")
+        text, its = chance.text(property_), chance.one(True, False)
+        clock = chance.one("@(posedge clk) ", "@(posedge clk)\n")
         front = ("" if clocked and chance.one(True, False) else clock) + ("disable iff (rst) " if its else "")
         if not chance.random.randrange(4):
             lines.append(f"  property p{at};\n    {front}{text};\n  endproperty : p{at}\n")

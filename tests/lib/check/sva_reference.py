@@ -1,5 +1,5 @@
-"""Concurrent assertions made by chance, and what they are by the definition of the standard: each attempt by itself, from
-the step in which it begins, on a run that is known up to some step."""
+"""Concurrent assertions made by chance, and what they are by the definition of the standard: each attempt by itself,
+from the step in which it begins, on a run that is known up to some step."""
 import dataclasses
 import random
 
@@ -77,7 +77,8 @@ def spelled(e):
 
 
 def ends(run, s, t, known, length):
-    """The steps in which a sequence that begins in a step may end, as far as the run is known: what is not may be true."""
+    """The steps in which a sequence that begins in a step may end, as far as the run is known: what is not known may be
+    true."""
     kind = s[0]
     if kind == "is":
         return {t} if t < length and (t > known or run.value(s[1], t)) else set()

@@ -1,4 +1,5 @@
-"""Rows of what is not taken of concurrent assertions: each construct with its place and what to write. No tool is needed."""
+"""Rows of what is not taken of concurrent assertions: each construct with its place and what to write. No tool is
+needed."""
 import functools
 import re
 import sys
@@ -104,7 +105,9 @@ REFUSED = {
     f"assert property ({E} a) $finish;": ("the action $finish", "$error"),
     f'assert property ({E} a) else `uvm_error("a", "b")': ("the action `uvm_error", "$error"),
     f"if (P) assert property ({E} a |=> b);": ("an assertion alone under if, else or for", "begin and end"),
-    f"if (P) begin end else assert property ({E} a |=> b);": ("an assertion alone under if, else or for", "begin and end"),
+    f"if (P) begin end else assert property ({E} a |=> b);": (
+        "an assertion alone under if, else or for", "begin and end",
+    ),
     f"for (genvar i = 0; i < 2; i++) assert property ({E} a |=> b);": ("an assertion alone under", "begin and end"),
     f"case (P) 1: assert property ({E} a |=> b); endcase": ("an assertion alone under", "begin and end"),
     f"always {E} assert property ({E} a);": ("a concurrent assertion in a procedure", "outside of the always block"),
@@ -116,23 +119,33 @@ REFUSED = {
     "default clocking cb @(posedge clk); input a; endclocking": ("a clocking block with signals", "at each assertion"),
     "default clocking cb;": ("a default clocking that was not declared before", "at each assertion"),
     f"property p(x); {E} x; endproperty assert property (p(a));": ("p inside an expression", "alone"),
-    f"property p; bit x; {E} (a, x = b) |=> x; endproperty assert property (p);": ("p, which has variables,", "stands for"),
+    f"property p; bit x; {E} (a, x = b) |=> x; endproperty assert property (p);": (
+        "p, which has variables,", "stands for",
+    ),
     f"property p; {E} a |=> p; endproperty assert property (p);": ("a property of itself|a second clock", ""),
     "property p; a |=> p; endproperty assert property (@(posedge clk) p);": ("a property of itself", ""),
     f"property p; {E} a; endproperty assert property (@(posedge d) p);": ("a second clock", "one of both places"),
     f"property p; {E} a; endproperty assert property (@(posedge d) b |-> p);": ("a second clock", ""),
     f"property p; {E} a; endproperty assert property (p || b);": ("p inside an expression", "alone"),
     f"property p; {E} a; endproperty wire q = p;": ("p here", "alone"),
-    f"property p; {E} a; endproperty begin : g assert property (p); end": ("p, which is declared outside", "stands for"),
-    f"property p; {E} a; endproperty property p; b; endproperty assert property (p);": ("p, which is declared twice,", ""),
+    f"property p; {E} a; endproperty begin : g assert property (p); end": (
+        "p, which is declared outside", "stands for",
+    ),
+    f"property p; {E} a; endproperty property p; b; endproperty assert property (p);": (
+        "p, which is declared twice,", "",
+    ),
     "checker k(a); endchecker": ("checker", "as a module"),
     f"assert property ({E} a\n`ifdef X\n && b\n`endif\n);": ("a directive inside an assertion", "around the whole"),
     f"`ifdef X\nproperty p; {E} a; endproperty\n`endif\nassert property (p);": ("p, which depends on `ifdef,", ""),
     f"`ifdef X\ndefault disable iff (a);\n`endif\nassert property ({E} b);": ("depends on `ifdef", "at the assertion"),
     f"`define A(e) assert property ({E} e)\n`A(a);": ("`A, out of which an assertion comes,", "itself in its place"),
-    f"`define A(e) \\\n  x: assert property \\\n ({E} e)\n`define B(e) `A(e)\n`B(a);": ("`B, out of which", "in its place"),
+    f"`define A(e) \\\n  x: assert property \\\n ({E} e)\n`define B(e) `A(e)\n`B(a);": (
+        "`B, out of which", "in its place",
+    ),
     "`define A(e) assert property (e) else $error\n`A(a);": ("`A, out of which an assertion comes,", "in its place"),
-    "`define A(e) assume property (e)\ndefault disable iff (a);\n`A(b);": ("`A beside default clocking", "in its place"),
+    "`define A(e) assume property (e)\ndefault disable iff (a);\n`A(b);": (
+        "`A beside default clocking", "in its place",
+    ),
     "`define A(n, e) n: assert property (e);\n`A(x, a |-> b)": ("`A of a property", "itself in its place"),
     "`define A(n, e) n: assert property (e);\n`A(x, not a)": ("`A of a property", "itself in its place"),
     '`include "x.svh"\ndefault disable iff (a);': ("`include beside default clocking", "elsewhere"),

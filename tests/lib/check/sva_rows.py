@@ -213,7 +213,8 @@ endmodule
 """
     (room.here / "m.sv").write_text(text, encoding="ascii")
     said = room.run("--frames", "12", "--quiet", "--top", "m", "m.sv")
-    for name, pattern in (("kept", "n"), ("held", "n"), ("half", "n"), ("lost", "reached"), ("other_clock", "reached")):
+    for name in ("kept", "held", "half", "lost", "other_clock"):
+        pattern = "reached" if name in ("lost", "other_clock") else "n"
         found = re.search(rf"^m\.{name} \(m\.sv:\d+\): (.*)$", said.out, re.MULTILINE)
         checked.need(found and re.match("never|none within 12" if pattern == "n" else pattern, found[1]), name, said)
 
@@ -283,7 +284,8 @@ def included_macro(room):
     """A macro of another file, out of which assertions come."""
     design_rows.need_tools("yosys")
     (room.here / "checks.svh").write_text(
-        "`define CHECK(n, e) n: assert property (@(posedge clk) e)\n`define FINE(e) assert property (e)\n", encoding="ascii"
+        "`define CHECK(n, e) n: assert property (@(posedge clk) e)\n`define FINE(e) assert property (e)\n",
+        encoding="ascii",
     )
     text = '`include "checks.svh"\n' + HEAD + "  `FINE(n != 6);\n  `CHECK(low, n != 3);\nendmodule\n"
     (room.here / "m.sv").write_text(text, encoding="ascii")

@@ -62,8 +62,8 @@ class Registers:
         return name
 
     def written(self, edge: str) -> str:
-        """Its text. What was before is known in an always block alone, so that values are variables of it where they ask
-        for that, and wires elsewhere."""
+        """Its text. What was before is known in an always block alone, so that values are variables of it where they
+        ask for that, and wires elsewhere."""
         if any(SAMPLED.search(text) for _, text in self.values):
             self.declared += (f"reg {name};" for name, _ in self.values)
             self.steps = [*(f"{name} = {text};" for name, text in self.values), *self.steps]

@@ -1,4 +1,4 @@
-"""Concurrent assertions of one clock, rewritten to what Yosys takes: registers, and an assertion of the last of them."""
+"""Concurrent assertions of one clock, rewritten to what Yosys takes: registers, and an assertion of the last one."""
 
 import bisect
 import re
@@ -38,8 +38,8 @@ class Rewritten(NamedTuple):
 
 
 class Rewriting(NamedTuple):
-    """A source whose assertions Yosys takes. In front of what is not taken stands an unknown macro, so that Yosys refuses
-    it where it is compiled."""
+    """A source whose assertions Yosys takes. In front of what is not taken stands an unknown macro, so that Yosys
+    refuses it where it is compiled."""
 
     text: str
     taken: List[Rewritten]
