@@ -1,5 +1,5 @@
 """Rows of concurrent assertions made by chance: in which steps the registers say that an attempt fails, matches or
-waits, by Yosys's translation of the rewritten source, beside the definition of the standard. No other tool is needed."""
+waits, by Yosys's translation of the rewritten source, beside the definition of the standard."""
 import functools
 import random
 import subprocess

@@ -160,8 +160,8 @@ REFUSED = {
 }
 # what stands outside of a module
 OUTSIDE = {
-    f"interface i(input clk); logic a; assert property ({E} a |=> a); endinterface": "a concurrent assertion of a interface",
-    f"program p(input clk); assert property ({E} clk |=> clk); endprogram": "a concurrent assertion of a program",
+    f"interface i(input clk); logic a; assert property ({E} a |=> a); endinterface": "assertion inside interface",
+    f"program p(input clk); assert property ({E} clk |=> clk); endprogram": "assertion inside program",
     f"package p; property q; {E} a; endproperty endpackage": "property outside of a module",
     f"property q; {E} a; endproperty": "property outside of a module",
 }
@@ -254,7 +254,8 @@ endmodule
     checked.need(len(came) == len(wanted), "lines moved", found.text)
     for at, words in ((2, "x : assert"), (7, "wire after;"), (10, "wire then;"), (11, "y : assert"), (13, "endmodule")):
         near = came[at - 1]
-        checked.need(words in near or words == "wire after;" and words in found.text, f"{words} is not in {at}", found.text)
+        is_there = words in near or words == "wire after;" and words in found.text
+        checked.need(is_there, f"{words} is not in {at}", found.text)
     checked.need([(it.line, it.label) for it in found.taken] == [(2, "x"), (11, "y")], "other lines", found.taken)
 
 

@@ -165,7 +165,7 @@ class Rewriter:
         if item.kind == "procedural":
             raise NotTaken(words[at], "a concurrent assertion in a procedure", OUTSIDE)
         if scope.kind not in ("module", "file"):
-            raise NotTaken(words[at], f"a concurrent assertion of a {scope.kind}", "write it in a module")
+            raise NotTaken(words[at], f"a concurrent assertion inside {scope.kind}", "write it in a module")
         if item.alone:
             raise NotTaken(words[at], "an assertion alone under if, else or for", "write begin and end around it")
         need_droppable(words[end:])
