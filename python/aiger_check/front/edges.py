@@ -44,7 +44,7 @@ class Registers:
         of that clock: what the register takes is asserted in its place."""
         if not self.of_bit:
             return
-        taken = {}
+        taken: Dict[Any, Any] = {}
         for cell in self.module["cells"].values():
             if cell["type"] == "$dff":
                 taken.update(zip(cell["connections"]["Q"], cell["connections"]["D"]))
@@ -56,7 +56,7 @@ class Registers:
 
     def names(self) -> Dict[Any, str]:
         """Of each bit a name that is a word of a command."""
-        found = {"0": "1'0", "1": "1'1"}
+        found: Dict[Any, str] = {"0": "1'0", "1": "1'1"}
         for name, net in self.module["netnames"].items():
             if not re.search(r"[,\s\"'#;{}]", name):
                 for at, bit in enumerate(net["bits"]):
