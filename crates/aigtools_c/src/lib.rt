@@ -309,5 +309,5 @@ pub extern "C" fn aigtools_message(outcome: &Outcome, output: &mut [u8]) -> usiz
 pub extern "C" fn aigtools_version() -> u32
     ensures { version_text result ≡ VERSION.now }
 {
-    0x01_06_02
+    0x01_07_00
 }
