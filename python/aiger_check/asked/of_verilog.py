@@ -31,9 +31,11 @@ def started(stack: contextlib.ExitStack, session: Session, program: str, files: 
 
 
 def note_all(session: Session, front: Front) -> None:
-    """Says what came up in the translation: all of it may change what an answer means."""
+    """Says what came up in the translation: all of it but asides may change what an answer means."""
     for words in (*(f"Yosys: {line}" for line in front.yosys.warnings()), *front.notes):
         session.notes.warn(words)
+    for words in front.asides:
+        session.notes.tell(words)
     for reason, cells in front.doubts:
         session.doubts.add(reason, None if session.given.equal else cells)
 

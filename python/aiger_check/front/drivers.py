@@ -52,6 +52,8 @@ class Drivers:
         #: what the process drives that is read
         self.process: Set[Tuple[str, int]] = set()
         self.found: List[Tuple[str, str]] = []
+        #: nets of several processes that nobody reads, as the variables of loops
+        self.unread: Set[Tuple[str, str]] = set()
         #: the lines of the module that is read
         self.lines: List[str] = []
         for line in text.split("\n"):
@@ -89,9 +91,11 @@ class Drivers:
         """Takes what is driven twice in the module that ends."""
         self.end_process()
         for name, net in self.nets.items():
-            is_several = name[0] == "\\" and net.is_several()
-            if is_several and not (net.is_of_processes() and not any(is_read(name, it) for it in self.lines)):
-                self.found.append((self.module, in_netlist(name)))
+            if name[0] == "\\" and net.is_several():
+                is_unread = net.is_of_processes() and not any(is_read(name, it) for it in self.lines)
+                its = (self.module, in_netlist(name))
+                self.unread.update([its] * is_unread)
+                self.found += [its] * (not is_unread)
         self.nets, self.lines = {}, []
 
     def end_process(self) -> None:

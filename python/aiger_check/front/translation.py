@@ -2,7 +2,7 @@
 
 import re
 import secrets
-from typing import Any, Callable, Dict, List, Optional, Sequence, Set, Tuple
+from typing import Any, Callable, Collection, Dict, List, Optional, Sequence, Set, Tuple
 
 from aiger_check.answers import Assertion, Cover, LeftSide, Liveness
 from aiger_check.faults import Trouble, visible
@@ -59,6 +59,8 @@ class Front:
         #: the inputs that are to be the only clocks, if any are named
         self.named_clocks = list(clocks)
         self.notes: List[str] = []
+        #: what changes no answer
+        self.asides: List[str] = []
         #: why the steps are not those of one clock, or that clock
         self.reason: Optional[str] = None
         self.clock: Optional[str] = None
@@ -77,7 +79,7 @@ class Front:
     def flatten(self) -> None:
         """Reads the files, makes one module of all, and looks at its clocks."""
         self.read()
-        self.refuse_conflicts(self.yosys.do("check"))
+        self.refuse_conflicts(self.yosys.do("check"), {f"{module}.{quoted(name)}" for module, name in self.unread})
         refuse_undeclared(self.yosys.said, self.sources)
         free = undefined.command(self.sources.folder, self.sources.alias)
         # the second front end begins with what is flat and not made simpler
@@ -159,7 +161,9 @@ class Front:
             "setattr -set keep 1 t:$assert t:$assume t:$cover t:$live t:$fair",
         )
         modules = self.yosys.netlist("read")
-        self.refuse_drivers(Drivers(modules, before))
+        drivers = Drivers(modules, before)
+        self.refuse_drivers(drivers)
+        self.unread = drivers.unread
         self.properties = list(properties(modules, top_of(modules), source))
         self.notes += map(visible, Lost(modules, source).notes())
         self.suspected = list(processes.doubts(source, modules))
@@ -168,7 +172,8 @@ class Front:
         for it in self.properties:
             if it.kind in left_out and self.asked.is_noted(it.kind):
                 named = visible(f"{self.top}.{it.name} ({self.place(it)})")
-                self.notes.append(f"{named} is left out: it is {LEFT_OUT[it.kind]}")
+                notes = self.asides if it.kind == "$cover" else self.notes
+                notes.append(f"{named} is left out: it is {LEFT_OUT[it.kind]}")
         # the second front end is to see what a mode leaves out
         self.later = [it for it in left_out if it in ("$assert", "$live")]
         self.delete([it for it in left_out if it not in self.later])
@@ -207,10 +212,10 @@ class Front:
         match = re.fullmatch(r"(.*?):(\d+)(?:\..*)?", place)
         return f"{self.sources.users_name(match[1])}:{match[2]}: " if match else ""
 
-    def refuse_conflicts(self, said: Sequence[str]) -> None:
+    def refuse_conflicts(self, said: Sequence[str], unread: Collection[str] = ()) -> None:
         for line in said:
             match = re.search(r"multiple conflicting drivers for (.*):", line)
-            if match:
+            if match and match[1].split(" [")[0] not in unread:
                 raise Trouble(f"{visible(match[1].replace('.' + chr(92), '.'))} has several drivers")
 
     def refuse_loops(self, said: Sequence[str]) -> None:

@@ -16,7 +16,7 @@ from aiger_check.tools.processes import Children
 
 
 #: warnings that are refusals or notes of their own
-TOLD = re.compile(r"logic loop|is used but has no driver\.$")
+TOLD = re.compile(r"logic loop|multiple conflicting drivers|is used but has no driver\.$")
 #: seconds that a Yosys may take for a design
 LIMIT = 600.0
 

@@ -190,10 +190,11 @@ def noted_clocks(design, room):
 
 
 def says_nothing(words, patterns, room):
-    """A design of which nothing can be said, and why not."""
+    """A design of which nothing can be said, and why not; of a top that is no name the command line is refused."""
     need_tools("yosys")
     placed(room)
-    checked.refused(room.run(*words), *patterns)
+    status = checked.USAGE if "shell" in words[1] else checked.TROUBLE
+    checked.refused(room.run(*words), *patterns, status=status)
 
 
 REFUSED = {

@@ -15,7 +15,7 @@ MODELS = reached.all_models(BY_CHANCE)
 
 # of each model its text, and the first step of each bad state
 NEVER, TOGGLE, TOKENS, LATE = "never", "toggle", "tokens", "late"
-RING, MOVED = "a ring", "a ring that an input moves"
+RING, MAJORITIES = "a ring", "two majorities, a step later"
 TEXTS = {
     # no two of the four values of two inputs are at once: that needs a lemma
     NEVER: ("aag 9 2 0 0 7 1\n2\n4\n18\n6 5 3\n8 5 2\n10 4 3\n12 4 2\n14 9 7\n16 13 11\n18 16 14\n", [None]),
@@ -24,9 +24,10 @@ TEXTS = {
     TOKENS: ("aag 3 0 2 0 1 1\n2 4 1\n4 2\n6\n6 4 2\n", [None]),
     # three of which one starts at 1: that two are never both 1 is no invariant by itself
     RING: ("aag 4 0 3 0 1 1\n2 6 1\n4 2\n6 4\n8\n8 4 2\n", [None]),
-    MOVED: (
-        "aag 14 1 3 0 10 1\n2\n4 15 1\n6 21\n8 27\n28\n10 8 2\n12 4 3\n14 13 11\n16 4 2\n18 6 3\n20 19 17\n22 6 2\n24 8 3\n"
-        "26 25 23\n28 6 4\n",
+    # by gates of two kinds: much is left in simplified clauses, and more than induction is needed
+    MAJORITIES: (
+        "aag 17 2 4 0 11 1\n2\n4\n6 23\n8 32\n10 6\n12 8\n34\n14 4 2\n16 6 2\n18 6 4\n20 17 15\n22 20 19\n24 5 3\n26 9 3\n28 9 5\n"
+        "30 27 25\n32 30 29\n34 13 10\n",
         [None],
     ),
     LATE: ("aag 4 1 3 0 0 2\n2\n4 2\n6 4\n8 6\n8\n9\n", [3, 0]),

@@ -452,7 +452,7 @@ def kept_commands_of_model(room):
     due = said.out.replace("model.aag", checked.model_of(kept).name)
     checked.need((ran.returncode, ran.stdout) == (said.status, due), f"came {ran}", said)
     listed_ = (kept / "commands.txt").read_text(encoding="utf-8")
-    checked.need("aigunroll" in listed_ and "cadical" in listed_ and str(room.temporary) not in listed_, listed_, said)
+    checked.need("aigtoaig" in listed_ and "cadical" in listed_ and str(room.temporary) not in listed_, listed_, said)
 
 
 def kept_together_twice(room):

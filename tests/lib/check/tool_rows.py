@@ -6,7 +6,7 @@ import shutil
 import subprocess
 
 from lib.check import checked, design_rows, model_rows, stand_ins
-from lib.check.model_rows import LATE, MOVED, NEVER, RING, TOGGLE
+from lib.check.model_rows import LATE, MAJORITIES, NEVER, RING, TOGGLE
 
 CONSTRAINED = "a constraint of a latch"
 BASICS = ["python3", "bash", "sh", "env", "sleep"]
@@ -279,7 +279,7 @@ def rows():
         yield f"no Yosys, of {which}", each(with_few, ["aiger", "berkeley_abc", "cadical"], which, checked.EXACT)
     yield f"simplified clauses of {RING}", each(bounded, RING, True, False)
     yield f"an aiger that does not simplify, of {RING}", each(bounded, RING, False, True)
-    yield "plain clauses where most gates stay", each(bounded, MOVED, False, False)
+    yield "plain clauses where most gates stay", each(bounded, MAJORITIES, False, False)
     yield "ABC by its other name", by_other_name
     yield "no aiger", each(without_aiger, {})
     yield "an aiger that is not there", each(without_aiger, {"AIGER": "/no/such/aiger"})

@@ -84,6 +84,7 @@ def alike(which, room):
     checked.need(are_alike, f"{as_object} is another answer than", lines)
     checked.need(lines.status == as_object.status, f"{as_object} has another status than", lines)
     keys = {"never": set(), "none within": {"steps"}, "reached": {"steps"}, "unknown": {"reason"}}
+    keys["vacuous"] = {"reason"}
     for it in json.loads(as_object.out)["assertions"]:
         checked.need(set(it) == {"name", "source", "answer"} | keys[it["answer"]], f"the keys of {it}", as_object)
 
