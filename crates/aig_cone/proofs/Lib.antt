@@ -1,0 +1,4 @@
+pub mod Adding
+pub mod Lists
+pub mod Placing
+pub mod Searching
