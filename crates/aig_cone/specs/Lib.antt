@@ -1,2 +1,3 @@
 pub mod Cone
+pub mod Counts
 pub mod Parts
