@@ -21,7 +21,7 @@ use Rattle.aig_topo.specs.Order.{IsLeastReadyOrder, TakesLeast, gate_of, gate_op
 use Rattle.aig_topo.proofs.Ordering.Ranked.{at, no_gate, variables, gate_here, needed_by, distinct_back}
 use Rattle.aig_topo.proofs.Ordering.Ranked.{rank_exactly_where_all_are_ordered}
 use Rattle.aig_topo.proofs.Ordering.LeastReady.{no_longer}
-use Rattle.example_count.specs.Depth.{IsDepth, IsPath}
+use Rattle.aig_info.specs.Depth.{IsDepth, IsPath}
 
 -- the longest path from a variable has so many gates
 pub record IsLevel (gates : List Gate) (v level : ℕ) : Type 0 where

@@ -1,6 +1,6 @@
 use Rattle.std.proofs.Common.{◌≡◌, get_or, length, arith}
-use Rattle.example_count.proofs.Levels.{gate_fits, gate_taken, is_depth, next_there, none_taken}
-use Rattle.example_count.proofs.depth.Goals as goal
+use Rattle.aig_info.proofs.LongestPath.{gate_fits, gate_taken, is_depth, next_there, none_taken}
+use Rattle.aig_info.proofs.levels.depth.Goals as goal
 
 pub loop-place-init : goal.loop-place-init
 loop-place-init c = rw c.list-place-items.ensures (rw c.in_ok-levels.ensures
