@@ -1,0 +1,6 @@
+pub mod Staying
+pub mod Chosen
+pub mod Cone
+pub mod Selection
+pub mod Shown
+pub mod Laws
