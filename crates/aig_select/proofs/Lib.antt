@@ -1,2 +1,9 @@
 pub mod Lists
+pub mod Places
+pub mod Chosen
+pub mod Coned
+pub mod Selected
 pub mod Traces
+pub mod Back
+pub mod Goals
+pub mod Own
