@@ -14,7 +14,7 @@ use Rattle.aig_meaning.proofs.Traces.{first_length, inputs_length, one_trace, re
 use Rattle.aig_select.specs.declared.choice.Choice.{Choice}
 use Rattle.aig_select.specs.Staying.{staying}
 use Rattle.aig_select.specs.Chosen.{chosen}
-use Rattle.aig_select.specs.Cone.{IsCone}
+use Rattle.aig_select.specs.Cone.{IsCone, shown_variables}
 use Rattle.aig_select.specs.Selection.{input_marks, latch_marks, selected}
 use Rattle.aig_select.specs.Shown.{inputs_left, row_left, state_left}
 use Rattle.aig_select.specs.Laws.{SelectionHasNoOthers}
@@ -82,7 +82,7 @@ module _ (choice : Choice) (keeps : ℕ → Bool) (c : Circuit) where
     all_long vectors,
   )
 
-  pub trace_back : IsWellFormed c → IsCone (chosen choice c) keeps → (first : List Val) (vectors : List (List Val))
+  pub trace_back : IsWellFormed c → IsCone c (shown_variables (chosen choice c)) keeps → (first : List Val) (vectors : List (List Val))
       (rows : List Row) → IsTrace d first vectors rows
       → (whole : List Val) × (given : List (List Val)) × (shown : List Row) × IsTrace c whole given shown
       × (first ≡ state_left keeps c whole) × (vectors ≡ map (inputs_left keeps c) given)

@@ -119,7 +119,7 @@ module _ (keeps : ℕ → Bool) (c : Circuit) where
       (sym (filter-append keeps c.inputs (latch_variables c)))
       ∙ sym (filter-append keeps (c.inputs ++ latch_variables c) (variables_of c.gates))
 
-  module _ (cone : IsCone c keeps) where
+  module _ (cone : IsCone c (shown_variables c) keeps) where
     pub shown_kept : (v : ℕ) → IsAmong v (shown_variables c) → keeps v ≡ true
     shown_kept v a = (cone v).1 (root a)
 

@@ -1,4 +1,7 @@
 pub mod Lists
+pub mod Keeping
+pub mod Positions
+pub mod Moving
 pub mod Places
 pub mod Chosen
 pub mod Coned

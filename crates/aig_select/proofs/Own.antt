@@ -1,5 +1,5 @@
 -- A circuit has one selection by a choice, which is its own cone.
-use Rattle.std.proofs.Common.{◌≡◌, ◌∙◌, ℕ, Bool, true, false, refl, sym, ap, subst, map}
+use Rattle.std.proofs.Common.{◌≡◌, ◌∙◌, ℕ, List, Bool, true, false, refl, sym, ap, subst, map}
 use Rattle.std.specs.List.{Contains}
 use Rattle.aig_circuit.specs.declared.circuit.Latch.{Latch}
 use Rattle.aig_circuit.specs.declared.circuit.Gate.{Gate}
@@ -19,22 +19,23 @@ both_ways true b' there back = sym (there refl)
 both_ways false true there back = back refl
 both_ways false false there back = refl
 
-one_cone : (c : Circuit) (p q : ℕ → Bool) → IsCone c p → IsCone c q → p ≡ q
-one_cone c p q is_p is_q =
+one_cone : (c : Circuit) (roots : List ℕ) (p q : ℕ → Bool) → IsCone c roots p → IsCone c roots q → p ≡ q
+one_cone c roots p q is_p is_q =
     let same : (v : ℕ) → p v ≡ q v =
     λ v. both_ways (p v) (q v) (λ e. (is_q v).1 ((is_p v).0 e)) (λ e. (is_p v).1 ((is_q v).0 e)) in
     λ i v. same v i
 
 pub one_selection : OneSelection
 one_selection choice c d e (p, is) (q, is_too) =
-    is.same ∙ ap (λ (keeps : ℕ → Bool). selected choice keeps c) (one_cone (chosen choice c) p q is.cone is_too.cone)
-    ∙ sym is_too.same
+    is.same ∙ ap (λ (keeps : ℕ → Bool). selected choice keeps c) (one_cone c
+    (shown_variables (chosen choice c)) p q is.cone is_too.cone) ∙ sym is_too.same
 
-module _ (choice : Choice) (keeps : ℕ → Bool) (c : Circuit) (cone : IsCone (chosen choice c) keeps) where
+module _ (choice : Choice) (keeps : ℕ → Bool) (c : Circuit)
+    (cone : IsCone c (shown_variables (chosen choice c)) keeps) where
   abbrev d : Circuit
   d = selected choice keeps c
 
-  in_own : (v : ℕ) → IsInCone (chosen choice c) (shown_variables d) v → IsInCone d (shown_variables d) v
+  in_own : (v : ℕ) → IsInCone c (shown_variables d) v → IsInCone d (shown_variables d) v
   in_own v (root a) = root a
   in_own v (operand {g} there before a) =
       operand (kept_contained (λ (h : Gate). keeps h.var) c.gates g ((cone g.var).1 before) there) (in_own g.var before) a

@@ -11,7 +11,8 @@ use Rattle.aig_circuit.specs.Wellformed.{HasGoodSymbols, IsWellFormed, count_of}
 use Rattle.aig_select.specs.declared.choice.Choice.{Choice}
 use Rattle.aig_select.specs.Staying.{new_place, staying}
 use Rattle.aig_select.specs.Chosen.{chosen}
-use Rattle.aig_select.specs.Cone.{IsCone, with_only}
+use Rattle.aig_select.specs.Cone.{IsCone, IsInCone, shown_variables, with_only}
+use Rattle.aig_select.specs.Cone.IsInCone.{root, operand, next}
 use Rattle.aig_select.specs.Selection.{input_marks, latch_marks, selected, selected_place}
 use Rattle.aig_select.specs.Laws.{SelectionIsWellFormed}
 use Rattle.aig_select.proofs.Lists.{filter_is}
@@ -65,10 +66,23 @@ module _ (choice : Choice) (keeps : ℕ → Bool) (c : Circuit) where
   apart kinds.Fairness p r q e f =
       if_is (length d.justice.sizes == 0) p q e ∙ sym (if_is (length d.justice.sizes == 0) r q f)
 
-  pub selected_well_formed : IsWellFormed c → IsCone (chosen choice c) keeps → IsWellFormed d
+  -- the cone is that of what is chosen, whose latches and gates are the same
+  chosen_there : (roots : List ℕ) (v : ℕ) → IsInCone c roots v → IsInCone (chosen choice c) roots v
+  chosen_there roots v (root a) = root a
+  chosen_there roots v (operand {g} there before a) = operand there (chosen_there roots g.var before) a
+  chosen_there roots v (next {l} there before is) = next there (chosen_there roots l.var before) is
+
+  chosen_back : (roots : List ℕ) (v : ℕ) → IsInCone (chosen choice c) roots v → IsInCone c roots v
+  chosen_back roots v (root a) = root a
+  chosen_back roots v (operand {g} there before a) = operand there (chosen_back roots g.var before) a
+  chosen_back roots v (next {l} there before is) = next there (chosen_back roots l.var before) is
+
+  pub selected_well_formed : IsWellFormed c → IsCone c (shown_variables (chosen choice c)) keeps → IsWellFormed d
   selected_well_formed good cone =
+      let roots : List ℕ = shown_variables (chosen choice c) in
       let bare : IsWellFormed (with_only keeps (chosen choice c)) =
-      coned_well_formed keeps (chosen choice c) cone (chosen_well_formed choice c good)
+      coned_well_formed keeps (chosen choice c)
+      (λ v. (λ kept. chosen_there roots v ((cone v).0 kept), λ there. (cone v).1 (chosen_back roots v there))) (chosen_well_formed choice c good)
       (record { positions = tt; apart = tt; lines = tt }) in
       record {
         limits = record {

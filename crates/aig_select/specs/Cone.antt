@@ -20,9 +20,9 @@ pub data IsInCone (c : Circuit) (roots : List ℕ) : ℕ → Type 0 where
 abbrev pub shown_variables : Circuit → List ℕ
 shown_variables c = map variable_of (concat (literal_lists c))
 
--- these variables are the cone of what the circuit shows
-abbrev pub IsCone : Circuit → (ℕ → Bool) → Type 0
-IsCone c keeps = (v : ℕ) → IsTrue (keeps v) ↔ IsInCone c (shown_variables c) v
+-- these variables are the cone of those
+abbrev pub IsCone : Circuit → List ℕ → (ℕ → Bool) → Type 0
+IsCone c roots keeps = (v : ℕ) → IsTrue (keeps v) ↔ IsInCone c roots v
 
 -- the circuit with the inputs, latches and gates of these variables, in their order
 abbrev pub with_only : (ℕ → Bool) → Circuit → Circuit

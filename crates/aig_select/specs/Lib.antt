@@ -1,4 +1,6 @@
+pub mod Parts
 pub mod Staying
+pub mod Choice
 pub mod Chosen
 pub mod Cone
 pub mod Selection

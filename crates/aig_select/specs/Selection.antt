@@ -11,7 +11,7 @@ use Rattle.aig_circuit.specs.declared.circuit.Symbol.{Symbol}
 use Rattle.aig_select.specs.declared.choice.Choice.{Choice}
 use Rattle.aig_select.specs.Staying.{new_place}
 use Rattle.aig_select.specs.Chosen.{chosen}
-use Rattle.aig_select.specs.Cone.{IsCone, with_only}
+use Rattle.aig_select.specs.Cone.{IsCone, shown_variables, with_only}
 
 -- which inputs and which latches stay, by position
 abbrev pub input_marks : (ℕ → Bool) → Circuit → List Bool
@@ -47,7 +47,7 @@ selected choice keeps c = record (with_only keeps (chosen choice c)) {
 
 -- d is the selection of c by this cone
 pub record IsSelectedBy (choice : Choice) (keeps : ℕ → Bool) (c d : Circuit) : Type 0 where
-  pub cone : IsCone (chosen choice c) keeps
+  pub cone : IsCone c (shown_variables (chosen choice c)) keeps
   pub same : d ≡ selected choice keeps c
 
 -- d is the one selection of c

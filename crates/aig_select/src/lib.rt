@@ -2,5 +2,8 @@
 #![tactic(auto)]
 
 mod choice;
+mod marks;
+mod staying;
+mod symbols;
 
-pub use crate::choice::Choice;
+pub use crate::choice::{Choice, mark_positions};
