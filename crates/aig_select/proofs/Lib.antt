@@ -2,6 +2,8 @@ pub mod Lists
 pub mod Keeping
 pub mod Positions
 pub mod Moving
+pub mod Properties
+pub mod Assembled
 pub mod Places
 pub mod Chosen
 pub mod Coned

@@ -3,6 +3,8 @@
 
 mod choice;
 mod marks;
+mod selection;
+mod shown;
 mod staying;
 mod symbols;
 

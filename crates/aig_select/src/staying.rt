@@ -7,7 +7,7 @@ use std::alloc::{AllocError, Global};
 
 /// Whether a position is marked: behind the last mark none is.
 #[inline(always)]
-fn is_marked(marks: &[bool], at: usize) -> bool
+pub(crate) fn is_marked(marks: &[bool], at: usize) -> bool
     ensures { result ≡ slice_index_or marks.now at false }
 {
     match marks.get(at) {
