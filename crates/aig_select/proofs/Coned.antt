@@ -12,8 +12,8 @@ use Rattle.aig_circuit.specs.Wellformed.{defined_variables, literal_lists, opera
 use Rattle.aig_circuit.proofs.Checking.{back, front, joined}
 use Rattle.aig_meaning.specs.Meaning.{latch_variables, next_literals}
 use Rattle.aig_meaning.proofs.Related.{of_operands, variables_of}
-use Rattle.aig_select.specs.Cone.{IsCone, IsInCone, shown_variables, with_only}
-use Rattle.aig_select.specs.Cone.IsInCone.{root, operand, next}
+use Rattle.aig_cone.specs.Cone.IsInCone.{root, operand, next}
+use Rattle.aig_select.specs.Cone.{IsCone, shown_variables, with_only}
 use Rattle.aig_select.proofs.Lists.{all_staying, contained_later, filter_is, left_contained, left_fewer, left_passes}
 
 module _ {X : Type 0} where
@@ -128,7 +128,7 @@ module _ (keeps : ℕ → Bool) (c : Circuit) where
     operand_kept g v there kept a = (cone v).1 (operand there ((cone g.var).0 kept) a)
 
     pub next_kept : (l : Latch) → Contains c.latches l → keeps l.var ≡ true → keeps (variable_of l.next) ≡ true
-    next_kept l there kept = (cone (variable_of l.next)).1 (next there ((cone l.var).0 kept) refl)
+    next_kept l there kept = (cone (variable_of l.next)).1 (next tt there ((cone l.var).0 kept) refl)
 
     module _ (good : IsWellFormed c) where
       abbrev vs : List ℕ

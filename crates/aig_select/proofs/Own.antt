@@ -7,8 +7,10 @@ use Rattle.aig_circuit.specs.declared.circuit.Circuit.{Circuit}
 use Rattle.aig_circuit.specs.Wellformed.{IsAmong, defined_variables}
 use Rattle.aig_select.specs.declared.choice.Choice.{Choice}
 use Rattle.aig_select.specs.Chosen.{chosen}
-use Rattle.aig_select.specs.Cone.{IsCone, IsInCone, shown_variables}
-use Rattle.aig_select.specs.Cone.IsInCone.{root, operand, next}
+use Rattle.aig_cone.specs.Cone.{IsInCone}
+use Rattle.aig_cone.specs.Cone.IsInCone.{root, operand, next}
+use Rattle.aig_cone.specs.declared.search.Reach.TheVariants.{AllSteps}
+use Rattle.aig_select.specs.Cone.{IsCone, shown_variables}
 use Rattle.aig_select.specs.Selection.{selected}
 use Rattle.aig_select.specs.Laws.{OneSelection, SelectionIsItsCone}
 use Rattle.aig_select.proofs.Lists.{kept_contained}
@@ -35,20 +37,20 @@ module _ (choice : Choice) (keeps : ℕ → Bool) (c : Circuit)
   abbrev d : Circuit
   d = selected choice keeps c
 
-  in_own : (v : ℕ) → IsInCone c (shown_variables d) v → IsInCone d (shown_variables d) v
+  in_own : (v : ℕ) → IsInCone AllSteps c (shown_variables d) v → IsInCone AllSteps d (shown_variables d) v
   in_own v (root a) = root a
   in_own v (operand {g} there before a) =
       operand (kept_contained (λ (h : Gate). keeps h.var) c.gates g ((cone g.var).1 before) there) (in_own g.var before) a
-  in_own v (next {l} there before is) =
-      next (kept_contained (λ (m : Latch). keeps m.var) c.latches l ((cone l.var).1 before) there) (in_own l.var before)
+  in_own v (next {l} all there before is) =
+      next all (kept_contained (λ (m : Latch). keeps m.var) c.latches l ((cone l.var).1 before) there) (in_own l.var before)
       is
 
-  pub is_own_cone : (v : ℕ) → IsAmong v (defined_variables d) → IsInCone d (shown_variables d) v
+  pub is_own_cone : (v : ℕ) → IsAmong v (defined_variables d) → IsInCone AllSteps d (shown_variables d) v
   is_own_cone v a =
       in_own v ((cone v).0 (passing keeps v (defined_variables (chosen choice c))
       (subst (IsAmong v) (defined_left keeps (chosen choice c)) a)))
 
 pub selection_is_its_cone : SelectionIsItsCone
 selection_is_its_cone choice c d (keeps, is) =
-    subst (λ (e : Circuit). (v : ℕ) → IsAmong v (defined_variables e) → IsInCone e (shown_variables e) v) (sym is.same)
+    subst (λ (e : Circuit). (v : ℕ) → IsAmong v (defined_variables e) → IsInCone AllSteps e (shown_variables e) v) (sym is.same)
     (is_own_cone choice keeps c is.cone)

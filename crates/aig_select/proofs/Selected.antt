@@ -11,8 +11,10 @@ use Rattle.aig_circuit.specs.Wellformed.{HasGoodSymbols, IsWellFormed, count_of}
 use Rattle.aig_select.specs.declared.choice.Choice.{Choice}
 use Rattle.aig_select.specs.Staying.{new_place, staying}
 use Rattle.aig_select.specs.Chosen.{chosen}
-use Rattle.aig_select.specs.Cone.{IsCone, IsInCone, shown_variables, with_only}
-use Rattle.aig_select.specs.Cone.IsInCone.{root, operand, next}
+use Rattle.aig_cone.specs.Cone.{IsInCone}
+use Rattle.aig_cone.specs.Cone.IsInCone.{root, operand, next}
+use Rattle.aig_cone.specs.declared.search.Reach.TheVariants.{AllSteps}
+use Rattle.aig_select.specs.Cone.{IsCone, shown_variables, with_only}
 use Rattle.aig_select.specs.Selection.{input_marks, latch_marks, selected, selected_place}
 use Rattle.aig_select.specs.Laws.{SelectionIsWellFormed}
 use Rattle.aig_select.proofs.Lists.{filter_is}
@@ -67,15 +69,15 @@ module _ (choice : Choice) (keeps : ℕ → Bool) (c : Circuit) where
       if_is (length d.justice.sizes == 0) p q e ∙ sym (if_is (length d.justice.sizes == 0) r q f)
 
   -- the cone is that of what is chosen, whose latches and gates are the same
-  chosen_there : (roots : List ℕ) (v : ℕ) → IsInCone c roots v → IsInCone (chosen choice c) roots v
+  chosen_there : (roots : List ℕ) (v : ℕ) → IsInCone AllSteps c roots v → IsInCone AllSteps (chosen choice c) roots v
   chosen_there roots v (root a) = root a
   chosen_there roots v (operand {g} there before a) = operand there (chosen_there roots g.var before) a
-  chosen_there roots v (next {l} there before is) = next there (chosen_there roots l.var before) is
+  chosen_there roots v (next {l} all there before is) = next all there (chosen_there roots l.var before) is
 
-  chosen_back : (roots : List ℕ) (v : ℕ) → IsInCone (chosen choice c) roots v → IsInCone c roots v
+  chosen_back : (roots : List ℕ) (v : ℕ) → IsInCone AllSteps (chosen choice c) roots v → IsInCone AllSteps c roots v
   chosen_back roots v (root a) = root a
   chosen_back roots v (operand {g} there before a) = operand there (chosen_back roots g.var before) a
-  chosen_back roots v (next {l} there before is) = next there (chosen_back roots l.var before) is
+  chosen_back roots v (next {l} all there before is) = next all there (chosen_back roots l.var before) is
 
   pub selected_well_formed : IsWellFormed c → IsCone c (shown_variables (chosen choice c)) keeps → IsWellFormed d
   selected_well_formed good cone =

@@ -10,7 +10,9 @@ use Rattle.aig_meaning.specs.Trace.{IsTrace}
 use Rattle.aig_select.specs.declared.choice.Choice.{Choice}
 use Rattle.aig_select.specs.Staying.{staying}
 use Rattle.aig_select.specs.Chosen.{fairness_for}
-use Rattle.aig_select.specs.Cone.{IsInCone, shown_variables}
+use Rattle.aig_cone.specs.Cone.{IsInCone}
+use Rattle.aig_cone.specs.declared.search.Reach.TheVariants.{AllSteps}
+use Rattle.aig_select.specs.Cone.{shown_variables}
 use Rattle.aig_select.specs.Selection.{IsSelectedBy, IsSelection}
 use Rattle.aig_select.specs.Shown.{inputs_left, row_left, state_left}
 
@@ -25,7 +27,7 @@ SelectionIsWellFormed = (choice : Choice) (c d : Circuit) → IsWellFormed c →
 -- and it is its own cone: each input, latch and gate is in that of what it shows
 abbrev pub SelectionIsItsCone : Type 0
 SelectionIsItsCone = (choice : Choice) (c d : Circuit) → IsSelection choice c d
-    → (v : ℕ) → IsAmong v (defined_variables d) → IsInCone d (shown_variables d) v
+    → (v : ℕ) → IsAmong v (defined_variables d) → IsInCone AllSteps d (shown_variables d) v
 
 -- each trace of a circuit is, of what stays, one of its selection
 abbrev pub SelectionHasTheTraces : Type 0

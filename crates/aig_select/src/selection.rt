@@ -15,7 +15,8 @@ use crate::shown::{Shown, choose};
 use crate::staying::{keep, number_marked};
 use crate::symbols::{Places, move_symbols};
 use aig_checked::Checked;
-use aig_circuit::{Circuit, Listing, OutOfMemory, Symbols};
+use aig_circuit::{Circuit, OutOfMemory, Symbols};
+use aig_cone::{Reach, cone_of};
 use aig_tables::VarSet;
 use std::alloc::{AllocError, Global};
 
@@ -131,6 +132,19 @@ fn make_plan(
     })
 }
 
+/// What the selection is made of.
+fn find_plan(alloc: Global, circuit: &Circuit, choice: &Choice) -> Result<Plan, OutOfMemory>
+    requires formed { IsWellFormed circuit.now }
+    requires choice { IsChoiceOf choice.now circuit.now }
+    ensures { IfOk result (λ plan. IsSelection choice.now circuit.now (assembled plan circuit.now)) }
+{
+    let shown = choose(alloc, circuit, choice)?;
+    let roots = shown.list(alloc, circuit.constraints.as_slice())?;
+    let variables = cone_of(alloc, circuit, roots.as_slice(), Reach::AllSteps)?;
+    Ok(make_plan(alloc, circuit, choice, shown, &variables)?)
+}
+
+/// The circuit of the plan, in its own memory.
 fn assemble(circuit: Circuit, plan: Plan) -> Circuit
     ensures { result ≡ assembled plan circuit }
 {
@@ -150,5 +164,24 @@ fn assemble(circuit: Circuit, plan: Plan) -> Circuit
         symbols,
         comment: None,
         ..circuit
+    }
+}
+
+/// The circuit with what is chosen of its outputs, bad states and justice properties, in the order
+/// of the file, with their cone and their names. All constraints stay, since each answer depends on
+/// them, and fairness constraints stay where a justice property does. The others, and inputs,
+/// latches and gates on which nothing of that depends, are left out, and so is the comment;
+/// variables keep their numbers.
+pub fn select(alloc: Global, checked: Checked, choice: &Choice) -> Result<Checked, OutOfMemory>
+    requires { IsChoiceOf choice.now checked }
+    ensures { IfOk result (λ d. IsSelection choice.now checked d) }
+{
+    let circuit = checked.into_circuit();
+    match find_plan(alloc, &circuit, choice) {
+        Ok(plan) => Ok(Checked::from_well_formed(assemble(circuit, plan))),
+        Err(refused) => {
+            drop(circuit); // for the proof
+            Err(refused)
+        }
     }
 }
