@@ -1,20 +1,15 @@
 -- What is made of a plan is the selection.
-use Rattle.std.proofs.Common.{◌≡◌, ◌∙◌, ◌==◌, ℕ, List, Bool, true, false, not, cond, length, get_or, Option, None, Some, map}
-use Rattle.std.proofs.Common.{refl, sym, ap}
+use Rattle.std.proofs.Common.{◌≡◌, ◌∙◌, ℕ, List, Bool, None}
+use Rattle.std.proofs.Common.{sym, ap}
 use Rattle.aig_circuit.specs.declared.circuit.Gate.{Gate}
 use Rattle.aig_circuit.specs.declared.circuit.Latch.{Latch}
 use Rattle.aig_circuit.specs.declared.circuit.Circuit.{Circuit}
-use Rattle.aig_circuit.specs.declared.circuit.Kind.{Kind}
-use Rattle.aig_circuit.specs.declared.circuit.Kind.TheVariants as kinds
 use Rattle.aig_circuit.specs.declared.circuit.Symbol.{Symbol}
 use Rattle.aig_select.specs.declared.choice.Choice.{Choice}
 use Rattle.aig_select.specs.declared.shown.Shown.{Shown}
-use Rattle.aig_select.specs.declared.symbols.Places.{Places}
-use Rattle.aig_select.specs.Chosen.{chosen}
-use Rattle.aig_select.specs.Parts.Places.{place_by}
 use Rattle.aig_select.specs.Parts.Plan.{gate_marks, shown_by}
 use Rattle.aig_select.specs.Selection.{input_marks, latch_marks, moved_symbols, selected, selected_place}
-use Rattle.aig_select.specs.Staying.{numbered, staying}
+use Rattle.aig_select.specs.Staying.{staying}
 use Rattle.aig_select.proofs.Lists.{filter_is}
 
 -- a circuit with these parts
@@ -51,30 +46,3 @@ module _ (choice : Choice) (keeps : ℕ → Bool) (c : Circuit) where
       (ap (λ (ms : List Bool). staying ms c.gates) of_gates ∙ sym (filter_is (λ (g : Gate). keeps g.var) c.gates))
       ∙ ap (λ (x : List Symbol). put s (selected choice keeps c).inputs (selected choice keeps c).latches
       (selected choice keeps c).gates x c) of_symbols
-
-  exchanged : (b : Bool) (p : ℕ) → cond (not b) (Some p) None ≡ cond b None (Some p)
-  exchanged true p = refl
-  exchanged false p = refl
-
-  module _ (places : Places) (of_inputs : places.inputs.items ≡ numbered 0 (input_marks keeps c))
-      (of_latches : places.latches.items ≡ numbered 0 (latch_marks keeps c))
-      (of_outputs : places.outputs.items ≡ numbered 0 choice.outputs)
-      (of_bad : places.bad.items ≡ numbered 0 choice.bad)
-      (of_justice : places.justice.items ≡ numbered 0 choice.justice)
-      (of_fairness : places.is_fair ≡ not (length (chosen choice c).justice.sizes == 0)) where
-    at : (k : Kind) (p : ℕ) → place_by places k p ≡ selected_place choice keeps c k p
-    at kinds.Input p = ap (λ (ps : List (Option ℕ)). get_or ps p None) of_inputs
-    at kinds.Latch p = ap (λ (ps : List (Option ℕ)). get_or ps p None) of_latches
-    at kinds.Output p = ap (λ (ps : List (Option ℕ)). get_or ps p None) of_outputs
-    at kinds.Bad p = ap (λ (ps : List (Option ℕ)). get_or ps p None) of_bad
-    at kinds.Constraint p = refl
-    at kinds.Justice p = ap (λ (ps : List (Option ℕ)). get_or ps p None) of_justice
-    at kinds.Fairness p =
-        ap (λ (b : Bool). cond b (Some p) None) of_fairness
-        ∙ exchanged (length (chosen choice c).justice.sizes == 0) p
-
-    pub names_are : (symbols : List Symbol)
-        → moved_symbols (place_by places) symbols ≡ moved_symbols (selected_place choice keeps c) symbols
-    names_are symbols =
-        let same : place_by places ≡ selected_place choice keeps c = λ i k p. at k p i in
-        ap (λ (place : Kind → ℕ → Option ℕ). moved_symbols place symbols) same

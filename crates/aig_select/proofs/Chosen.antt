@@ -1,13 +1,11 @@
 -- What is chosen of a well-formed circuit is well formed.
-use Rattle.std.proofs.Common.{◌≡◌, ◌+◌, ◌<◌, ◌≤◌, ◌∷◌, ◌++◌, ◌∙◌, ◌==◌, ℕ, zero, suc, List, [], length, map, take, drop, Bool}
-use Rattle.std.proofs.Common.{true, false, cond, refl, sym, ap, ap₂, subst, arith}
+use Rattle.std.proofs.Common.{◌≡◌, ◌≤◌, ◌∷◌, ◌++◌, ◌==◌, ℕ, suc, List, [], length, take, drop, Bool}
+use Rattle.std.proofs.Common.{true, false, cond, refl, sym, ap, subst, arith}
 use Rattle.std.specs.List.{AllByRecursion, concat, flat_map}
 use Rattle.std.proofs.lemmas.List.{length-append, length-map, take-append-drop}
 use Rattle.aig_circuit.specs.declared.circuit.Justice.{Justice}
-use Rattle.aig_circuit.specs.declared.circuit.Latch.{Latch}
-use Rattle.aig_circuit.specs.declared.circuit.Gate.{Gate}
 use Rattle.aig_circuit.specs.declared.circuit.Circuit.{Circuit}
-use Rattle.aig_circuit.specs.Justice.{end_to_end, literals_of_each, properties_of}
+use Rattle.aig_circuit.specs.Justice.{literals_of_each, properties_of}
 use Rattle.aig_circuit.specs.Wellformed.{IsKnown, IsWellFormed, defined_variables, largest_index, literal_lists, operands}
 use Rattle.aig_circuit.specs.Wellformed.{used_literals}
 use Rattle.aig_circuit.proofs.Checking.{back, each_of, front, joined, joined_all}
@@ -15,7 +13,7 @@ use Rattle.aig_core.proofs.Checking.Sections.{justice_is_of_lists, lists_are_jus
 use Rattle.aig_meaning.specs.Meaning.{next_literals}
 use Rattle.aig_select.specs.declared.choice.Choice.{Choice}
 use Rattle.aig_select.specs.Staying.{staying}
-use Rattle.aig_select.specs.Chosen.{chosen, chosen_justice, fairness_for}
+use Rattle.aig_select.specs.Chosen.{chosen}
 use Rattle.aig_select.proofs.Lists.{all_staying, staying_shorter}
 
 -- what holds of all literals holds of those of each property

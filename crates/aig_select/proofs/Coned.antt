@@ -1,5 +1,5 @@
 -- A circuit with its cone alone is well formed.
-use Rattle.std.proofs.Common.{◌≡◌, ◌+◌, ◌<◌, ◌≤◌, ◌∷◌, ◌++◌, ◌∙◌, ℕ, zero, suc, List, [], length, map, Bool, true, false}
+use Rattle.std.proofs.Common.{◌≡◌, ◌∷◌, ◌++◌, ◌∙◌, ℕ, zero, suc, List, [], map, Bool, true, false}
 use Rattle.std.proofs.Common.{cond, refl, sym, ap, ap₂, subst, inl, inr, ⊎_elim, arith, ◌⊎◌}
 use Rattle.std.specs.List.{AllByRecursion, Contains, concat, filter, flat_map}
 use Rattle.std.proofs.lemmas.List.Elements.{filter-append}

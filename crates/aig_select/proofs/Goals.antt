@@ -1,5 +1,5 @@
 -- Justice properties and fairness constraints that stay have the values that they had.
-use Rattle.std.proofs.Common.{◌≡◌, ◌∷◌, ◌++◌, ◌∙◌, ℕ, List, [], map, Bool, refl, sym, ap, ap₂, subst}
+use Rattle.std.proofs.Common.{◌≡◌, ◌∷◌, ◌++◌, ◌∙◌, ℕ, List, [], map, refl, sym, ap, ap₂, subst}
 use Rattle.std.specs.List.{AllByRecursion, concat, flat_map}
 use Rattle.aig_circuit.specs.declared.circuit.Circuit.{Circuit}
 use Rattle.aig_circuit.specs.declared.value.Val.{Val}
@@ -9,7 +9,6 @@ use Rattle.aig_circuit.proofs.Checking.{back, each_of, front}
 use Rattle.aig_core.proofs.Checking.Sections.{lists_are_justice}
 use Rattle.aig_meaning.specs.Meaning.{IsStepAssignment, literal_value, next_literals}
 use Rattle.aig_meaning.proofs.Related.{AreDefined, IsDefined, literals_agree}
-use Rattle.aig_select.specs.declared.choice.Choice.{Choice}
 use Rattle.aig_select.specs.Staying.{staying}
 use Rattle.aig_select.specs.Chosen.{fairness_for}
 use Rattle.aig_select.specs.Selection.{selected}
@@ -49,11 +48,11 @@ selection_keeps_goals choice keeps c d state given a b good is is_a is_b =
     let they_are : properties_of d.justice ≡ properties =
     ap (λ (x : Circuit). properties_of x.justice) is.same ∙ (lists_are_justice properties).0 in (
       ap (values_of b) they_are
-      ∙ same_properties e left given_left b a good_too in_b in_a properties
-      (each_of (IsDefined e) properties lists.1.1.1.0)
-      ∙ staying_map (map (literal_value a)) choice.justice (properties_of c.justice),
+          ∙ same_properties e left given_left b a good_too in_b in_a properties
+          (each_of (IsDefined e) properties lists.1.1.1.0)
+          ∙ staying_map (map (literal_value a)) choice.justice (properties_of c.justice),
       subst (λ (x : Circuit). map (literal_value b) x.fairness ≡ map (literal_value a) x.fairness) (sym is.same)
-      (literals_agree e left given_left b a good_too in_b in_a e.fairness lists.1.1.1.1.0)
-      ∙ ap (λ (x : Circuit). map (literal_value a) x.fairness) is.same
-      ∙ ap (λ (x : Circuit). map (literal_value a) (fairness_for x.justice c.fairness)) (sym is.same),
+          (literals_agree e left given_left b a good_too in_b in_a e.fairness lists.1.1.1.1.0)
+          ∙ ap (λ (x : Circuit). map (literal_value a) x.fairness) is.same
+          ∙ ap (λ (x : Circuit). map (literal_value a) (fairness_for x.justice c.fairness)) (sym is.same),
     )

@@ -1,9 +1,8 @@
 -- What stays of lists.
-use Rattle.std.proofs.Common.{◌≡◌, ◌+◌, ◌<◌, ◌≤◌, ◌∷◌, ◌++◌, ◌∙◌, ℕ, zero, suc, List, [], length, map, Bool, true, false}
-use Rattle.std.proofs.Common.{cond, refl, sym, ap, ap₂, subst, arith}
+use Rattle.std.proofs.Common.{◌≡◌, ◌≤◌, ◌∷◌, ◌∙◌, zero, suc, List, [], length, map, Bool, true, false}
+use Rattle.std.proofs.Common.{cond, refl, sym, ap, subst, arith}
 use Rattle.std.specs.List.{AllByRecursion, AllZip, Contains, filter}
 use Rattle.std.proofs.lemmas.Bool.{false≢true}
-use Rattle.std.proofs.lemmas.List.{length-map}
 use Rattle.aig_select.specs.Staying.{staying}
 
 pub staying_map : {X Y : Type 0} (f : X → Y) (ms : List Bool) (xs : List X) → map f (staying ms xs) ≡ staying ms (map f xs)

@@ -1,14 +1,14 @@
 -- New positions are below the new counts, and no two are one; so names stay good.
-use Rattle.std.proofs.Common.{◌≡◌, ◌+◌, ◌<◌, ◌≤◌, ◌∷◌, ◌∙◌, ◌==◌, ℕ, zero, suc, List, [], length, map, Bool, true, false}
-use Rattle.std.proofs.Common.{Option, None, Some, get_or, refl, sym, ap, subst, arith, if◌then◌else◌}
-use Rattle.std.specs.List.{AllByRecursion, cons_option, filter_map}
+use Rattle.std.proofs.Common.{◌≡◌, ◌+◌, ◌<◌, ◌≤◌, ◌∷◌, ◌∙◌, ℕ, zero, suc, List, [], length, Bool, true, false}
+use Rattle.std.proofs.Common.{Option, None, Some, get_or, refl, sym, ap, subst, arith}
+use Rattle.std.specs.List.{AllByRecursion, cons_option}
 use Rattle.std.specs.Option.{option_map}
 use Rattle.aig_circuit.specs.declared.circuit.Kind.{Kind}
 use Rattle.aig_circuit.specs.declared.circuit.Symbol.{Symbol}
 use Rattle.aig_circuit.specs.declared.circuit.Circuit.{Circuit}
 use Rattle.aig_circuit.specs.Wellformed.{HasGoodSymbols, IsAmong, NameApart, NameTheSame, count_of, line_feed}
-use Rattle.aig_select.specs.Staying.{new_place, numbered, staying}
-use Rattle.aig_select.specs.Selection.{moved_symbol, moved_symbols}
+use Rattle.aig_select.specs.Staying.{numbered, staying}
+use Rattle.aig_select.specs.Selection.{moved_symbols}
 
 pub none_is_some : {T : Type 0} (q : ℕ) → None ≡ Some q → T
 none_is_some q e = absurd (cc)

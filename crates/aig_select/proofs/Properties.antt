@@ -1,10 +1,10 @@
 -- Justice properties that are taken one after the other.
 use Rattle.std.proofs.Common.{◌≡◌, ◌+◌, ◌<◌, ◌≤◌, ◌∷◌, ◌++◌, ◌∙◌, ℕ, List, [], length, take, drop, get_or, map, Bool}
-use Rattle.std.proofs.Common.{true, false, cond, refl, sym, ap, ap₂, subst, arith, append_assoc, append-nil}
+use Rattle.std.proofs.Common.{true, false, cond, sym, ap, ap₂, arith, append_assoc, append-nil}
 use Rattle.std.specs.List.{concat, sum}
 use Rattle.std.proofs.lemmas.List.{drop_all, drop_more, length-drop, length-take-le}
 use Rattle.aig_circuit.specs.declared.circuit.Justice.{Justice}
-use Rattle.aig_circuit.specs.Justice.{literals_of_each, properties_of}
+use Rattle.aig_circuit.specs.Justice.{literals_of_each}
 use Rattle.aig_core.proofs.Checking.Sections.{sum_cons}
 use Rattle.aig_select.specs.Staying.{staying}
 use Rattle.aig_select.specs.Chosen.{chosen_justice}

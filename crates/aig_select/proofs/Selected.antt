@@ -1,5 +1,5 @@
 -- The selection of a well-formed circuit is well formed.
-use Rattle.std.proofs.Common.{◌≡◌, ◌<◌, ◌∙◌, ◌==◌, ℕ, List, [], length, map, Bool, true, false, Option, None, Some, cond}
+use Rattle.std.proofs.Common.{◌≡◌, ◌<◌, ◌∙◌, ◌==◌, ℕ, List, [], length, Bool, true, false, Option, None, Some, cond}
 use Rattle.std.proofs.Common.{refl, sym, ap, subst, arith}
 use Rattle.std.proofs.lemmas.List.{length-map}
 use Rattle.aig_circuit.specs.declared.circuit.Latch.{Latch}
@@ -7,7 +7,7 @@ use Rattle.aig_circuit.specs.declared.circuit.Circuit.{Circuit}
 use Rattle.aig_circuit.specs.declared.circuit.Kind.{Kind}
 use Rattle.aig_circuit.specs.declared.circuit.Kind.TheVariants as kinds
 use Rattle.aig_circuit.specs.Justice.{properties_of}
-use Rattle.aig_circuit.specs.Wellformed.{HasGoodSymbols, IsWellFormed, count_of}
+use Rattle.aig_circuit.specs.Wellformed.{IsWellFormed, count_of}
 use Rattle.aig_select.specs.declared.choice.Choice.{Choice}
 use Rattle.aig_select.specs.Staying.{new_place, staying}
 use Rattle.aig_select.specs.Chosen.{chosen}

@@ -1,12 +1,12 @@
 -- Each row and each trace of a circuit is, of what stays, one of its selection.
-use Rattle.std.proofs.Common.{◌≡◌, ◌∷◌, ◌∙◌, ℕ, List, [], map, Bool, refl, sym, ap, ap₂, subst}
+use Rattle.std.proofs.Common.{◌≡◌, ◌∷◌, ◌∙◌, ℕ, List, [], map, Bool, sym, ap, subst}
 use Rattle.std.specs.List.{AllZip}
 use Rattle.aig_circuit.specs.declared.circuit.Latch.{Latch}
 use Rattle.aig_circuit.specs.declared.circuit.Gate.{Gate}
 use Rattle.aig_circuit.specs.declared.circuit.Reset.{Reset}
 use Rattle.aig_circuit.specs.declared.circuit.Circuit.{Circuit}
 use Rattle.aig_circuit.specs.declared.value.Val.{Val}
-use Rattle.aig_meaning.specs.Meaning.{IsReadOff, IsRow, IsStepAssignment, Row, latch_variables, literal_value, next_literals}
+use Rattle.aig_meaning.specs.Meaning.{IsRow, IsStepAssignment, Row, latch_variables, literal_value, next_literals}
 use Rattle.aig_meaning.specs.Trace.{Follow, IsFirstState, IsTrace, MayStartAt}
 use Rattle.aig_select.specs.declared.choice.Choice.{Choice}
 use Rattle.aig_select.specs.Staying.{staying}

@@ -1,5 +1,5 @@
 -- A circuit with the cone of what it shows, over all steps.
-use Rattle.std.specs.Prelude.{◌≡◌, ◌↔◌, ℕ, List, Bool, IsTrue, filter, map}
+use Rattle.std.specs.Prelude.{◌↔◌, ℕ, List, Bool, IsTrue, filter, map}
 use Rattle.std.specs.List.{concat}
 use Rattle.aig_circuit.specs.declared.circuit.Latch.{Latch}
 use Rattle.aig_circuit.specs.declared.circuit.Gate.{Gate}

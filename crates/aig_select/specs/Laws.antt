@@ -1,11 +1,10 @@
 -- What the definitions of this crate say of one another.
 use Rattle.std.specs.Prelude.{◌≡◌, ℕ, List, Bool, map}
-use Rattle.std.specs.List.{AllByRecursion}
 use Rattle.aig_circuit.specs.declared.circuit.Circuit.{Circuit}
 use Rattle.aig_circuit.specs.declared.value.Val.{Val}
 use Rattle.aig_circuit.specs.Justice.{properties_of}
 use Rattle.aig_circuit.specs.Wellformed.{IsAmong, IsWellFormed, defined_variables}
-use Rattle.aig_meaning.specs.Meaning.{IsRow, IsStepAssignment, Row, literal_value}
+use Rattle.aig_meaning.specs.Meaning.{IsStepAssignment, Row, literal_value}
 use Rattle.aig_meaning.specs.Trace.{IsTrace}
 use Rattle.aig_select.specs.declared.choice.Choice.{Choice}
 use Rattle.aig_select.specs.Staying.{staying}

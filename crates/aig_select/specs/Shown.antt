@@ -1,5 +1,5 @@
 -- What a selection shows of a run of its source.
-use Rattle.std.specs.Prelude.{ℕ, List, Bool, map}
+use Rattle.std.specs.Prelude.{ℕ, List, Bool}
 use Rattle.aig_circuit.specs.declared.circuit.Circuit.{Circuit}
 use Rattle.aig_circuit.specs.declared.value.Val.{Val}
 use Rattle.aig_meaning.specs.Meaning.{Row}

@@ -69,7 +69,11 @@ fn choose_fairness(
     fairness.copy(alloc)
 }
 
-fn keep_copy(alloc: Global, marks: &Listing<bool>, literals: &Listing<Lit>) -> Result<Listing<Lit>, AllocError>
+fn keep_copy(
+    alloc: Global,
+    marks: &Listing<bool>,
+    literals: &Listing<Lit>,
+) -> Result<Listing<Lit>, AllocError>
     ensures { IfOk result (λ kept. kept ≡ staying marks.now literals.now) }
 {
     Ok(keep(marks.as_slice(), literals.copy(alloc)?))

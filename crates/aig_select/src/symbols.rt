@@ -37,7 +37,11 @@ impl Places {
 }
 
 /// Adds a symbol at its new position, if it has one.
-fn push_moved(moved: &mut Symbols, places: &Places, symbol: &BorrowedSymbol) -> Result<(), AllocError>
+fn push_moved(
+    moved: &mut Symbols,
+    places: &Places,
+    symbol: &BorrowedSymbol,
+) -> Result<(), AllocError>
     ensures { OnOk result (moved.new
         ≡ moved.old ++ moved_symbols (place_by places.now) (symbol.now ∷ [])) }
 {

@@ -1,5 +1,5 @@
 -- What a selection is made of.
-use Rattle.std.specs.Prelude.{◌≡◌, ℕ, List, Bool, None, map}
+use Rattle.std.specs.Prelude.{ℕ, List, Bool, None, map}
 use Rattle.aig_circuit.specs.declared.circuit.Circuit.{Circuit}
 use Rattle.aig_circuit.specs.declared.circuit.Gate.{Gate}
 use Rattle.aig_select.specs.declared.choice.Choice.{Choice}
