@@ -13,3 +13,11 @@ pub record IsChoiceOf (choice : Choice) (c : Circuit) : Type 0 where
   pub outputs : length choice.outputs ≡ length c.outputs
   pub bad : length choice.bad ≡ length c.bad
   pub justice : length choice.justice ≡ length c.justice.sizes
+
+-- the choice of what stands at these positions
+abbrev pub choice_of : List ℕ → List ℕ → List ℕ → Circuit → Choice
+choice_of outputs bad justice c = record {
+  outputs = positions_marked (length c.outputs) outputs;
+  bad = positions_marked (length c.bad) bad;
+  justice = positions_marked (length c.justice.sizes) justice;
+}

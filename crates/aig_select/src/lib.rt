@@ -1,6 +1,7 @@
 //! Parts of a circuit: some of its outputs, bad states and justice properties, with their cone.
 //!
-//! Others call `select`, and `mark_positions` for what is chosen.
+//! Others call `select`, with a `Choice`, and `find_missing`, which tells of a position that is not
+//! there.
 //!
 //! The definition that matters most is `IsSelection`.
 #![tactic(auto)]
@@ -13,5 +14,5 @@ mod shown;
 mod staying;
 mod symbols;
 
-pub use crate::choice::{Choice, mark_positions};
+pub use crate::choice::{Choice, find_missing};
 pub use crate::selection::select;
