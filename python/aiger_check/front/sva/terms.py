@@ -1,5 +1,6 @@
 """What properties are made of."""
 
+from dataclasses import dataclass
 from typing import NamedTuple, Optional, Tuple, Union
 
 from aiger_check.front.sva.tokens import Token
@@ -43,7 +44,8 @@ class Part(NamedTuple):
     expression: str
 
 
-class Sequence(NamedTuple):
+@dataclass(frozen=True)
+class Sequence:
     """Expressions, one behind the other."""
 
     parts: Tuple[Part, ...]
@@ -58,7 +60,8 @@ class Sequence(NamedTuple):
         return all(part.delay.is_exact for part in self.parts)
 
 
-class Either(NamedTuple):
+@dataclass(frozen=True)
+class Either:
     """One of two sequences, in front of an implication."""
 
     left: "Antecedent"
@@ -68,7 +71,8 @@ class Either(NamedTuple):
 Antecedent = Union[Sequence, Either]
 
 
-class Implication(NamedTuple):
+@dataclass(frozen=True)
+class Implication:
     """Whenever the left side matches, the right side holds, from the last step of the match or from the next one."""
 
     left: Antecedent
@@ -76,23 +80,27 @@ class Implication(NamedTuple):
     right: "Property"
 
 
-class Not(NamedTuple):
+@dataclass(frozen=True)
+class Not:
     inner: "Property"
     token: Token
 
 
-class And(NamedTuple):
+@dataclass(frozen=True)
+class And:
     left: "Property"
     right: "Property"
 
 
-class Or(NamedTuple):
+@dataclass(frozen=True)
+class Or:
     left: "Property"
     right: "Property"
     token: Token
 
 
-class Choice(NamedTuple):
+@dataclass(frozen=True)
+class Choice:
     """One property where an expression is true, another or none where it is not."""
 
     condition: str
@@ -100,7 +108,8 @@ class Choice(NamedTuple):
     other: Optional["Property"]
 
 
-class Both(NamedTuple):
+@dataclass(frozen=True)
+class Both:
     """Two properties of one step, of which both hold or none."""
 
     left: "Property"
@@ -108,7 +117,8 @@ class Both(NamedTuple):
     token: Token
 
 
-class Eventually(NamedTuple):
+@dataclass(frozen=True)
+class Eventually:
     """An expression that is true in this step or behind it."""
 
     expression: str
