@@ -28,6 +28,9 @@ Options:
                            (assertions), live (liveness), cover (covers)
       --cover-asserts      Say of each assertion under a condition too whether
                            a run meets that
+      --reset <[!]NAME>    Begin each run with a reset by this input, which is at
+                           1, or with ! at 0, and then never again
+      --reset-steps <N>    For so many steps (default: 1)
       --second <NAME>      The second front end: icarus, verilator or none
                            (default: Icarus, else Verilator)
       --frames <K>         Search runs of at most K steps (default: 50)
