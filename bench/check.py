@@ -67,7 +67,7 @@ def main():
     parser.add_argument("--counts", default="1,40,1000")
     parser.add_argument("--kinds", default=",".join(KINDS))
     given = parser.parse_args()
-    check = [sys.executable, "-B", str(TOP / "python" / "aiger_check"), "--quiet", "--second", "none", "--top", "m", "m.sv"]
+    check = [sys.executable, str(TOP / "python" / "aiger_check"), "--quiet", "--second", "none", "--top", "m", "m.sv"]
     os.environ.setdefault("AIGER", str(TOP / "aiger"))
     print("| assertions | of | Yosys and ABC | aiger-check | quotient | of processors | quotient |")
     print("|---:|---|---:|---:|---:|---:|---:|")

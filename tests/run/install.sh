@@ -127,7 +127,8 @@ share/man/man1/aiger-check.1
 share/man/man1/aiger.1
 share/zsh/site-functions/_aiger
 share/zsh/site-functions/_aiger-check"
-files_below() { (cd "$1" && find . ! -type d -printf '%P\n' | LC_ALL=C sort); }
+# but for what Python keeps of modules
+files_below() { (cd "$1" && find . ! -type d ! -path '*/__pycache__/*' -printf '%P\n' | LC_ALL=C sort); }
 staged=$work/staged
 # in_order WORD..: what the words print, in the order of the list above
 in_order() { "$@" | LC_ALL=C sort; }
@@ -149,6 +150,7 @@ check 'the destination by =' "$tree/release/install" --destdir="$work/by name" /
 check 'its files' same "$install_files" files_below "$work/by name/opt/aig"
 check 'install to a prefix alone' fails 0 "LD_LIBRARY_PATH=$work/prefix/lib" "$tree/release/install" "$work/prefix"
 check 'its files' same "$install_files" files_below "$work/prefix"
+check 'compiled, as who starts it may not write there' eval 'ls "$work"/prefix/lib/python3/dist-packages/aiger_check/__pycache__/cli.*'
 check 'installed again over these' fails 0 "PYTHONPATH=$work/prefix" "$tree/release/install" "$work/prefix/"
 
 usage='usage: release/install [FOLDER] [--destdir DIR]'
@@ -179,7 +181,7 @@ else
 fi
 all_below() { find "$1" -mindepth 1 | LC_ALL=C sort; }
 removed_from() { "$tree/release/install" --uninstall "$1" | sed 's/^removed //' | LC_ALL=C sort; }
-check 'uninstalled there' same "$(HOME=$work/home files_below "$work/home/.local" | grep -v __pycache__ |
+check 'uninstalled there' same "$(HOME=$work/home files_below "$work/home/.local" |
     sed "s|^|$work/home/.local/|")" removed_from "$work/home/.local"
 check 'nothing is left of it' test ! -e "$work/home/.local"
 check 'what holds it stays' test -d "$work/home"
@@ -353,7 +355,7 @@ below_root() { find "$1" -mindepth 1 -path "$1/var" -prune -o -print; }
 newest_needed() { objdump -T "$1" | grep -o 'GLIBC_[0-9.]*' | sort -uV | tail -n 1; }
 
 if ! command -v dpkg-deb > /dev/null; then
-    skip 19 'no dpkg-deb'
+    skip 20 'no dpkg-deb'
 else
     root=$work/root
     mkdir "$root"
@@ -372,9 +374,10 @@ python3-aigtools_${version}_all.deb" env LC_ALL=C ls "$packages"
     check 'what the library needs' same 'libc6 (>= 2.14)' field libaigtools1 Depends
     if [ "$(id -u)" = 0 ]; then
         check 'the packages install' install_packages "$root"
+        check 'and are compiled' eval 'ls "$root"/usr/lib/python3/dist-packages/aiger_check/__pycache__/cli.*'
     else
         for package in "$packages"/*.deb; do dpkg-deb -x "$package" "$root"; done
-        skip 1 'only root installs packages, so they were unpacked'
+        skip 2 'only root installs packages, so they were unpacked'
     fi
     check 'the library asks for no newer C library' same GLIBC_2.14 newest_needed "$root$multiarch/libaigtools.so.1"
     check 'what the program needs' same '' field aiger Depends
