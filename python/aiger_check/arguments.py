@@ -8,6 +8,7 @@ from typing import Any, List, NoReturn, Sequence
 
 from aiger_check import PROGRAM
 from aiger_check.faults import Usage, visible
+from aiger_check.front.vhdl.ghdl import is_vhdl
 from aiger_check.lists import FileList, read_list
 from aiger_check.statuses import OUTCOMES
 
@@ -132,6 +133,7 @@ def check_arguments(given: argparse.Namespace) -> argparse.Namespace:
         raise Usage("--by-name is for --equal")
     if given.verilog:
         check_verilog_arguments(given)
+        check_vhdl_arguments(given, words)
     else:
         check_model_arguments(given)
     check_reset(given)
@@ -217,6 +219,16 @@ FORMS = (
     ("-P", "parameters", r"[A-Za-z_][A-Za-z0-9_$]*=[^\n\r]+", "NAME=VALUE"),
     ("--clock", "clocks", r"[^\s;\"'#\\]+", "the name of a clock"),
 )
+
+
+def check_vhdl_arguments(given: argparse.Namespace, words: List[List[str]]) -> None:
+    """What is said of VHDL files: a design has no others beside them."""
+    designs = words if given.equal else [given.files]
+    mixed = next((it for it in designs if any(map(is_vhdl, it)) and not all(map(is_vhdl, it))), None)
+    if mixed is not None:
+        raise Usage(f"one design in Verilog and VHDL is not taken: {visible(', '.join(mixed))}")
+    if all(map(is_vhdl, given.files)) and (given.defines or given.include):
+        raise Usage("-D and -I are for Verilog files; of a VHDL design -P sets a generic")
 
 
 def check_verilog_arguments(given: argparse.Namespace) -> None:

@@ -4,20 +4,22 @@ HELP = """\
 Check each assertion of a design: is it kept for ever, for some steps, or
 broken? Or compare two designs: are their outputs equal?
 
-Usage: aiger-check [OPTION].. --top NAME FILE.sv..    Verilog or SystemVerilog
+Usage: aiger-check [OPTION].. --top NAME FILE.sv..    Verilog or SystemVerilog,
+                                                      or FILE.vhd.. by ghdl
        aiger-check [OPTION].. MODEL                   an AIGER file
        aiger-check --equal [OPTION].. OLD NEW         two of either kind
 
 Options:
       --equal              Compare two designs. Each is one file; several of
-                           Verilog have commas between
+                           Verilog or VHDL have commas between
       --by-name            Pair two AIGER files by their symbols, and not by
                            their places
-      --top <NAME>         The top module of the Verilog files; with --equal
+      --top <NAME>         The top module of the files; with --equal
                            twice if that of NEW has another name. Of one file
                            with --top twice the two modules are compared
   -D <NAME[=VALUE]>        Define a macro; may be given many times
-  -P <NAME=VALUE>          Set a parameter of the top module; many times too
+  -P <NAME=VALUE>          Set a parameter or generic of the top module; many
+                           times too
   -I <DIR>                 Look for included files there; many times too
   -f <LIST>, -F <LIST>     Take the files of a list, and its +incdir+DIR,
                            +define+NAME=VALUE, -I, -D, -f and -F; with -F from
@@ -94,7 +96,11 @@ steps, fails at N or is unknown.
 Verilog designs need the same inputs and outputs, which are paired by name; so
 are assertions that both have. Registers without initial value start alike.
 
-What is trusted: that Yosys translates the Verilog as it is meant is not proved.
+Of VHDL, PSL too, values are 0 and 1, a register without initial value starts at
+any, and ranges are not checked: the manual page says what else is lost.
+
+What is trusted: that Yosys, and ghdl, translate a design as it is meant is not
+proved.
 All behind it is: each answer is one that aiger, a proved program, gave of the
 model that Yosys wrote. What ABC and the solver say is checked.
 
@@ -108,8 +114,8 @@ counts in the step after.
 minisat and picosat write no refutation that is read here, so with these there
 is no never and no none within K.
 
-The variables AIGER, YOSYS, ABC, SOLVER, IVERILOG and VERILATOR name other
-programs than aiger, yosys, berkeley-abc, cadical, iverilog and verilator.
+The variables AIGER, YOSYS, ABC, SOLVER, GHDL, IVERILOG and VERILATOR name other
+programs than aiger, yosys, berkeley-abc, cadical, ghdl, iverilog and verilator.
 
 Exit status:
   0  each answer is never or none within K; holds, no lasso within K; equal,

@@ -48,6 +48,12 @@ class Programs:
     def yosys(self) -> str:
         return self.needed("YOSYS", "yosys")
 
+    def ghdl(self) -> str:
+        try:
+            return self.needed("GHDL", "ghdl")
+        except Trouble as why:
+            raise Trouble(f"{why}; VHDL needs ghdl, as of a package ghdl: install it, or let GHDL name it") from why
+
     def solver(self) -> Optional[Solver]:
         wanted = self.given.solver or os.environ.get("SOLVER") or "cadical"
         kind = solver_kind(wanted)

@@ -80,7 +80,7 @@ class OfTwo:
     def flat(self, stack: contextlib.ExitStack, at: int) -> Ports:
         """One of the designs as a flat one."""
         design, place = self.designs[at], self.session.folder / f"verilog{at}"
-        yosys = started(stack, self.session, self.programs.yosys(), design.files, place)
+        yosys = started(stack, self.session, self.programs, design, place)
         front = Ports(yosys, design.top, design.called, self.session.given.clocks)
         front.flatten()
         return front

@@ -4,7 +4,9 @@ import contextlib
 from pathlib import Path
 from typing import List, Sequence
 
+from aiger_check.arguments import Design as Files
 from aiger_check.asked.question import Question, Translation, question_of
+from aiger_check.faults import visible
 from aiger_check.front.asked import Asked
 from aiger_check.front.replay import Replay
 from aiger_check.front.reset import Reset
@@ -12,6 +14,7 @@ from aiger_check.front.second.beside import Second
 from aiger_check.front.second.comparison import Design
 from aiger_check.front.sources import Sources
 from aiger_check.front.translation import Front
+from aiger_check.front.vhdl.ghdl import Vhdl, is_vhdl, translated
 from aiger_check.front.yosys import LIMIT, Yosys
 from aiger_check.programs import Programs
 from aiger_check.session import Session
@@ -21,13 +24,29 @@ from aiger_check.session import Session
 ABSENT = {"cover": "cover", "live": "liveness assertion"}
 
 
-def started(stack: contextlib.ExitStack, session: Session, program: str, files: List[str], place: Path) -> Yosys:
+def started(stack: contextlib.ExitStack, session: Session, programs: Programs, design: Files, place: Path) -> Yosys:
     """A Yosys for these files, which ends with the stack."""
+    program = programs.yosys()
     place.mkdir()
     given = session.given
-    sources = Sources(files, given.include, given.defines, place, given.parameters)
+    if is_vhdl(design.files[0]):
+        vhdl = of_vhdl(session, programs, design, place / "ghdl")
+        sources = Sources([str(vhdl.path)], [], [], place, vhdl=vhdl)
+    else:
+        sources = Sources(design.files, given.include, given.defines, place, given.parameters)
     stack.callback(sources.close)
     return stack.enter_context(Yosys(program, session.children, sources, LIMIT))
+
+
+def of_vhdl(session: Session, programs: Programs, design: Files, place: Path) -> Vhdl:
+    """What ghdl makes of these files."""
+    program = programs.ghdl()
+    place.mkdir()
+    made = translated(program, session.children, design.files, design.top, session.given.parameters, place)
+    for words in made.notes:
+        session.notes.warn(visible(words))
+    session.notes.tell("what ghdl made of the VHDL is what Yosys and the second front end run")
+    return made
 
 
 def note_all(session: Session, front: Front) -> None:
@@ -43,9 +62,10 @@ def note_all(session: Session, front: Front) -> None:
 def of_verilog(session: Session, programs: Programs) -> Question:
     """What is asked of the design that is given."""
     program, place, top = programs.yosys(), session.folder / "verilog", session.given.tops[0]
+    design = Files(top, session.given.files, top)
     with contextlib.ExitStack() as stack:
         asked, clocks = Asked(session.given.mode, session.given.cover_asserts), session.given.clocks
-        front = Front(started(stack, session, program, session.given.files, place), top, False, clocks, asked)
+        front = Front(started(stack, session, programs, design, place), top, False, clocks, asked)
         if session.given.reset:
             front.reset = Reset.of(session.given.reset, session.given.reset_steps)
         assertions = front.translate()
@@ -74,4 +94,5 @@ def seconds(session: Session, program: str, fronts: Sequence[Front]) -> List[Sec
 
 
 def translation(front: Front) -> Translation:
-    return Translation(front.sources.folder, front.yosys.script())
+    vhdl = front.sources.vhdl
+    return Translation(front.sources.folder, front.yosys.script(), vhdl.words if vhdl else [])

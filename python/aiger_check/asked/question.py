@@ -14,10 +14,12 @@ from aiger_check.model.circuit import Model, without_justice
 
 @dataclass(frozen=True)
 class Translation:
-    """A design that Yosys translated: the folder of its sources, and what Yosys was told beside that."""
+    """A design that Yosys translated: the folder of its sources, and what Yosys was told beside that; of VHDL what ghdl
+    was told too."""
 
     folder: Path
     script: str
+    ghdl: Sequence[str] = ()
 
 
 @dataclass

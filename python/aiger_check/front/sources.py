@@ -4,12 +4,13 @@ import os
 import re
 from dataclasses import dataclass
 from pathlib import Path
-from typing import Dict, Iterable, List, Sequence, Set, Tuple
+from typing import Dict, Iterable, List, Optional, Sequence, Set, Tuple
 
 from aiger_check.faults import Trouble, visible
 from aiger_check.front.directives import Changes
 from aiger_check.front.files import content, is_there, text_of
 from aiger_check.front.sva.rewriting import Rewritten, macros_of, rewritten
+from aiger_check.front.vhdl.ghdl import Vhdl
 
 #: below the folder of a copy, so that names of other files may lead upwards
 BELOW = "1/2/3/4/5/6"
@@ -37,7 +38,7 @@ class Sources:
 
     For who reads the files besides Yosys: `copied` are the files that were given, in their order; `folder` is where
     one has to look for those that they include; `defines` are pairs of a name and a value. Of a path `users_name` and
-    `lines` tell what the user calls it and wrote there.
+    `lines` tell what the user calls it and wrote there. Of a design in VHDL the one file is what was made of it.
     """
 
     def __init__(
@@ -47,6 +48,7 @@ class Sources:
         defines: Sequence[str],
         folder: Path,
         parameters: Sequence[str] = (),
+        vhdl: Optional[Vhdl] = None,
     ) -> None:
         self.folder, self.searched = folder, [it or "." for it in include]
         self.descriptor = os.open(folder, os.O_RDONLY | os.O_DIRECTORY)
@@ -70,6 +72,7 @@ class Sources:
             # what it includes is added behind it
             self.take(copy)
         self.rewrite()
+        self.vhdl = vhdl
         self.at_place = {copy.place: copy for copy in self.copies}
         self.copy_words([*parameters, *(value for _, value in self.defines)])
 
@@ -158,16 +161,24 @@ class Sources:
 
     def users_name(self, path: str) -> str:
         copy = self.at_place.get(self.place_of(path))
+        if copy and self.vhdl:
+            return self.vhdl.files[-1]
         return copy.name if copy else path
+
+    def shown(self, path: str, line: int) -> str:
+        """A line of a file, as the user calls it."""
+        origin = self.vhdl.origins.get(line) if self.vhdl else None
+        return f"{origin[0]}:{origin[1]}" if origin else f"{self.users_name(path)}:{line}"
 
     def with_users_names(self, text: str) -> str:
         named = re.sub(rf"{re.escape(self.alias)}/[^\s:'`\"]+", lambda match: self.users_name(match[0]), text)
         return re.sub(r"Can't open include file `(missing\d+)'!?", lambda match: self.missing[match[1]], named)
 
-    def order(self, path: str) -> Tuple[int, str]:
-        """Where a file stands among those that were given; others follow."""
+    def order(self, path: str, line: int, column: int) -> Tuple[int, str, int, int]:
+        """Where a place stands in the files that were given; others follow."""
+        position = self.vhdl.position(line) if self.vhdl else None
         name = self.users_name(path)
-        return (self.given.index(name) if name in self.given else len(self.given), name)
+        return position or (self.given.index(name) if name in self.given else len(self.given), name, line, column)
 
     def lines(self, path: str) -> List[str]:
         """The lines of a file that was copied, as the user wrote them."""

@@ -17,6 +17,7 @@ from aiger_check.front.reset import Reset, WithReset
 from aiger_check.front.told import told_positions, with_inputs
 from aiger_check.front.undriven import refuse_undeclared, undriven, without_body
 from aiger_check.front.unset import Unset
+from aiger_check.front.vhdl.verilog import OWN
 from aiger_check.front.words import Source
 from aiger_check.front.yosys import Yosys, bare, quoted, top_of
 from aiger_check.model.circuit import Model
@@ -103,6 +104,8 @@ class Front:
         if self.named_clocks:
             clocks.refuse_others(self.named_clocks)
         self.reason, self.asynchronous = clocks.reason(), clocks.asynchronous
+        if self.reason and self.sources.vhdl and self.sources.vhdl.has_psl:
+            raise Trouble(visible(f"{self.reason}: PSL is not taken there: write assert into a process with its edge"))
         self.clock = None if self.reason else clocks.port()
         self.clocks = clocks.inputs()
         kinds = {cell["type"] for cell in module["cells"].values()}
@@ -174,6 +177,9 @@ class Front:
                 named = visible(f"{self.top}.{it.name} ({self.place(it)})")
                 notes = self.asides if it.kind == "$cover" else self.notes
                 notes.append(f"{named} is left out: it is {LEFT_OUT[it.kind]}")
+        if self.sources.vhdl:
+            # names of the user's are preferred then
+            self.yosys.do(f"rename -hide w:{OWN}*")
         # the second front end is to see what a mode leaves out
         self.later = [it for it in left_out if it in ("$assert", "$live")]
         self.delete([it for it in left_out if it not in self.later])
@@ -210,7 +216,7 @@ class Front:
     def place_of(self, place: str) -> str:
         """A place that Yosys tells, as words before a message."""
         match = re.fullmatch(r"(.*?):(\d+)(?:\..*)?", place)
-        return f"{self.sources.users_name(match[1])}:{match[2]}: " if match else ""
+        return f"{self.sources.shown(match[1], int(match[2]))}: " if match else ""
 
     def refuse_conflicts(self, said: Sequence[str], unread: Collection[str] = ()) -> None:
         for line in said:
@@ -225,7 +231,7 @@ class Front:
             raise Trouble(visible(f"there is a loop of gates without a register: {', '.join(wires) or self.top}"))
 
     def place(self, property: Property) -> str:
-        return f"{self.sources.users_name(property.file)}:{property.line}"
+        return self.sources.shown(property.file, property.line)
 
     def assertions(self) -> List[Assertion]:
         """The assertions in the order of the source, each with its bad state or its justice property."""
@@ -254,7 +260,7 @@ class Front:
 
     def sorted(self, asked: List[Property]) -> List[Property]:
         """Properties in the order of the source. The sort is stable: instances stay as they stand in the design."""
-        return sorted(asked, key=lambda it: (self.sources.order(it.file), it.line, it.column, it.number))
+        return sorted(asked, key=lambda it: (self.sources.order(it.file, it.line, it.column), it.number))
 
     def positions(self, *kinds: str) -> List[Dict[str, int]]:
         """Of each kind of cell the property or the constraint that it is, by the cell's name: in a second model, of a

@@ -20,7 +20,7 @@ def refuse_undeclared(said: Sequence[str], sources: Sources) -> None:
     for line in said:
         match = UNDECLARED.match(line)
         if match:
-            place = f"{sources.users_name(match['file'])}:{match['line']}: " if match["file"] else ""
+            place = f"{sources.shown(match['file'], int(match['line']))}: " if match["file"] else ""
             instead = "a name within an instance is not read" if "." in match["name"] else "declare it"
             raise Trouble(visible(f"{place}{match['name']} is not declared here: {instead}"))
 
@@ -28,7 +28,7 @@ def refuse_undeclared(said: Sequence[str], sources: Sources) -> None:
 def placed(name: str, its: Dict[str, Any], sources: Sources) -> str:
     """A name with its place."""
     source = re.match(r"(.*?):(\d+)\.", its.get("attributes", {}).get("src", "").split("|")[-1])
-    return f"{name} ({sources.users_name(source[1])}:{source[2]})" if source else name
+    return f"{name} ({sources.shown(source[1], int(source[2]))})" if source else name
 
 
 def undriven(said: Sequence[str], top: str, module: Dict[str, Any], sources: Sources) -> Iterator[str]:

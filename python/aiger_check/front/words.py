@@ -83,7 +83,7 @@ class Source:
                 self.properties.setdefault(word.file, []).append(word)
 
     def place(self, word: Word) -> str:
-        return f"{self.sources.users_name(word.file)}:{word.line}"
+        return self.sources.shown(word.file, word.line)
 
     def first(self, *texts: str) -> Optional[Word]:
         return next((word for word in self.words if word.text in texts), None)

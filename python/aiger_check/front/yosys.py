@@ -105,7 +105,7 @@ class Yosys:
                 refused = re.search(r"undefined macro `(\w+)", match[3])
                 if refused and refused[1] in self.sources.refused:
                     return self.sources.refused[refused[1]]
-                place = f"{self.sources.users_name(match[1])}:{match[2]}: " if match[1] else ""
+                place = f"{self.sources.shown(match[1], int(match[2]))}: " if match[1] else ""
                 if match[3].endswith("expecting TOK_PROPERTY"):
                     return f"{place}outside of an always block write assert property (..)"
                 return place + self.sources.with_users_names(match[3])

@@ -12,12 +12,13 @@ from typing import Dict, List, Sequence, Tuple
 from aiger_check import PROGRAM, VERSION
 from aiger_check.asked.question import Translation
 from aiger_check.faults import Trouble, visible
+from aiger_check.front.vhdl.ghdl import NETLIST
 from aiger_check.keep.whole import put_whole
 from aiger_check.session import Session
 
 SCRIPT = "translate.ys"
 #: of the folder of a translation what goes into it
-SOURCES = ("copy*", "*.v", "*.sv", "*.vh", "*.tcl")
+SOURCES = ("copy*", "ghdl", "*.v", "*.sv", "*.vh", "*.tcl")
 #: how programs are asked for their version
 VERSIONS = {"yosys": ("-V",), "abc": ("-q", "version")}
 
@@ -64,8 +65,11 @@ class Journal:
         """The lines that translate a design again, and check that it is the same model."""
         name = self.put_design(it)
         digest = hashlib.sha256((it.folder / "model.aig").read_bytes()).hexdigest()
+        # the Verilog is made of what ghdl writes: the same of the same
+        ghdl = f'( cd {made}/ghdl && "${{GHDL:-ghdl}}" {shlex.join(it.ghdl)} | cmp - {NETLIST} ) || exit 1'
         return [
             f"cp -R {name} {made} && mkdir {made}/empty || exit 2",
+            *([ghdl] if it.ghdl else []),
             f'( cd {made}/empty && unset ABC && "${{YOSYS:-yosys}}" -q -s ../{SCRIPT} ) || exit 1',
             f'( cd {made} && echo "{digest}  model.aig" | sha256sum --check --quiet ) || exit 1',
         ]

@@ -14,8 +14,10 @@ from aiger_check.front.second.faults import Refused, Unable
 from aiger_check.front.second.findings import Findings, Report
 from aiger_check.front.second.icarus import Icarus, icarus
 from aiger_check.front.second.probes import Probes
+from aiger_check.front.second.simulated import CALLED, Simulated
 from aiger_check.front.second.verilator import verilator
 from aiger_check.front.second.witness import witness_of
+from aiger_check.front.vhdl.ghdl import Vhdl
 from aiger_check.model.circuit import Model
 from aiger_check.tools.aiger import aigtools
 from aiger_check.tools.processes import Children
@@ -115,6 +117,22 @@ class Second:
         self.report, self.comparison, self.wrong = findings.report(), comparison, findings.first_wrong()
         if self.report.doubts:
             self.put_waves(comparison, compared.findings[0].run)
+        if self.design.sources.vhdl:
+            self.by_ghdl(comparison, self.design.sources.vhdl)
+
+    def by_ghdl(self, comparison: Comparison, vhdl: Vhdl) -> None:
+        """Compares with ghdl's own simulation, as the others run what its synthesis made."""
+        try:
+            compared = Simulated(comparison, vhdl, self.children, self.folder / "ghdl").compared()
+        except Unable as why:
+            self.report.notes.append(f"{CALLED} was not asked: {visible(str(why))}")
+            return
+        findings = Findings(comparison, compared, self.is_of_all)
+        findings.called = CALLED
+        report = findings.report()
+        self.report.doubts += report.doubts
+        self.report.notes += report.notes
+        self.wrong = self.wrong or findings.first_wrong()
 
     def shows(self, assertion: Assertion, model: Model, witness: Path) -> Optional[bool]:
         """Whether an assertion fails in the simulation too, by a witness of the model, or None where that is not known."""

@@ -109,7 +109,7 @@ class Comparison:
         if match[1] == "design.sv":
             number, line = self.telling.place_of_line(line)
         told = words[match.end() :].replace(SCOPE, self.design.top)
-        return f"{self.texts.users(number)}:{line}: {told}"
+        return f"{self.texts.shown(number, line)}: {told}"
 
     def translate(self) -> None:
         """Has the second model written; and again where what no assertion depends on has other clocks."""
@@ -271,7 +271,7 @@ class Comparison:
         for where in pairs.lost:
             statement = self.telling.statements[where[0]]
             name = statement.label or statement.word
-            place = f"{self.texts.users(statement.file)}:{statement.line}"
+            place = self.texts.shown(statement.file, statement.line)
             found.findings.append(Finding(LOST, f"{where[1]}.{name}".lstrip("."), place, 0, 0, "", ""))
         for where, cell in pairs.found.items():
             found.findings += self.of_pair(where, cell)

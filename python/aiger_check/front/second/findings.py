@@ -142,7 +142,7 @@ class Findings:
         it = self.places.get(cell)
         if not it:
             return visible(f"{self.design.top}.{cell}")
-        place = f"{self.design.sources.users_name(it.file)}:{it.line}"
+        place = self.design.sources.shown(it.file, it.line)
         return visible(f"{self.design.top}.{it.name} ({place})")
 
     def words(self, finding: Finding, own: str = "") -> str:

@@ -43,10 +43,10 @@ class Texts:
         (self.folder / name).write_text(self.marked(text, number), encoding="latin-1")
         return name
 
-    def users(self, number: int) -> str:
-        """What the user calls a file."""
+    def shown(self, number: int, line: int) -> str:
+        """What the user calls a line of a file."""
         path = str(self.sources.folder / self.places[number]) if number < len(self.places) else ""
-        return self.sources.users_name(path)
+        return self.sources.shown(path, line)
 
     def marked(self, text: str, number: int) -> str:
         """The text with marks at the start of lines, but within comments and where a line goes on."""

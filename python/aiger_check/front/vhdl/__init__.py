@@ -1,0 +1,1 @@
+"""Designs in VHDL, which ghdl makes a netlist of."""
