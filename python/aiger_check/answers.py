@@ -54,6 +54,12 @@ class Assertion:
         return "--bad", self.bad
 
     @property
+    def position(self) -> str:
+        """What a witness calls it."""
+        option, at = self.option
+        return f"{'j' if option == '--justice' else 'b'}{at}"
+
+    @property
     def file(self) -> str:
         """What its files are called, before that is made safe."""
         return self.name

@@ -64,7 +64,11 @@ def parse_arguments(arguments: Sequence[str]) -> argparse.Namespace:
     parser.add_argument("--mode", choices=("bmc", "prove", "cover", "live"))
     parser.add_argument("--cover-asserts", action="store_true")
     parser.add_argument("--second", choices=("icarus", "verilator", "none"), default="")
-    for name in ("--json", "--quiet"):
+    parser.add_argument("--only", action="append", default=[], metavar="NAME")
+    parser.add_argument("--sort", choices=("file", "name", "answer"), default="file")
+    parser.add_argument("--color", choices=("auto", "always", "never"), default="auto")
+    parser.add_argument("--vcd", metavar="FILE")
+    for name in ("--json", "--quiet", "--competition"):
         parser.add_argument(name, action="store_true")
     parser.add_argument("-h", "--help", action="store_true")
     parser.add_argument("-V", "--version", action="store_true")
@@ -119,7 +123,7 @@ def check_arguments(given: argparse.Namespace) -> argparse.Namespace:
     """The command line, where it can be meant."""
     if not given.files:
         raise Usage("no file is given")
-    for name in ("keep", "junit"):
+    for name in ("keep", "junit", "vcd"):
         if getattr(given, name) == "":
             raise Usage(f"--{name} needs a name")
     given.words = given.files
@@ -137,6 +141,7 @@ def check_arguments(given: argparse.Namespace) -> argparse.Namespace:
     else:
         check_model_arguments(given)
     check_reset(given)
+    check_output(given)
     if given.equal:
         given.designs = two_designs(given, words)
     elif len(given.tops) > 1:
@@ -155,6 +160,21 @@ def check_reset(given: argparse.Namespace) -> None:
     if not re.fullmatch(r"!?[^\s!\"#]+", given.reset):
         raise Usage(f"not the name of an input, or ! and a name: --reset {visible(given.reset)}")
     given.reset_steps = given.reset_steps or 1
+
+
+def check_output(given: argparse.Namespace) -> None:
+    """How the answers are said, where it can be."""
+    if given.competition and (given.equal or given.verilog):
+        raise Usage("--competition is for one AIGER model")
+    for option, value in (("--json", given.json), ("--expect", given.expect)):
+        if given.competition and value:
+            raise Usage(f"--competition has an output and statuses of its own, without {option}")
+    if given.vcd and any(is_same(given.vcd, name) for name in given.files):
+        raise Usage(f"--vcd {visible(given.vcd)} would be written over a file that is read")
+
+
+def is_same(name: str, other: str) -> bool:
+    return os.path.exists(name) and os.path.exists(other) and os.path.samefile(name, other)
 
 
 def check_mode(given: argparse.Namespace) -> None:

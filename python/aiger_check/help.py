@@ -45,9 +45,18 @@ Options:
                            each core)
   -s, --solver <SOLVER>    cadical (the default), kissat, cryptominisat5,
                            minisat or picosat, or the path of one
+      --only <NAME>        Ask only what has this name, as it is printed, in
+                           which * is anything; many times too
+      --sort <BY>          Answers in the order of the file, which is the
+                           default, by name, or by answer, the worst first
+      --color <WHEN>       Colours of answers: auto (at terminals, the default),
+                           always, never
+      --vcd <FILE>         Write the run of the first that fails as a waveform
       --keep <DIR>         Keep witnesses, waveforms, the model, what proves the
                            answers, and commands that do all again there
       --json               Write one JSON object in the place of lines
+      --competition        Write what the checkers of the hardware model
+                           checking competition read, for an AIGER model
       --junit <FILE>       Write a report in the XML of JUnit too
       --expect <OUTCOMES>  End with 0 exactly if one of these comes: pass, fail,
                            unknown, timeout, error, vacuous; commas between
@@ -82,7 +91,8 @@ With --cover-asserts the left side of an assertion, as a in if (a) assert (b),
 is met at N, never met, not met within K or unknown.
 
 The assertions of an AIGER file are its bad states and its justice properties,
-by symbol, or as b0, b1, .., j0, j1, ..
+by symbol, or as b0, b1, .., j0, j1, .. It may be compressed: .gz, .xz, .bz2, or
+.zst, which zstd unpacks.
 
 With --equal a pair of outputs, or of bad states, has one of these answers.
   equal               in every step, while the assumptions of OLD are kept
@@ -114,6 +124,7 @@ counts in the step after.
 minisat and picosat write no refutation that is read here, so with these there
 is no never and no none within K.
 
+The variable NO_COLOR drops colours where it is not empty, as TERM=dumb does.
 The variables AIGER, YOSYS, ABC, SOLVER, GHDL, IVERILOG and VERILATOR name other
 programs than aiger, yosys, berkeley-abc, cadical, ghdl, iverilog and verilator.
 
@@ -128,6 +139,7 @@ Exit status:
   8  the time of --timeout was over before all was answered
   16 there is no answer: no assertion or pair, a tool fails or is missing, or a
      file is missing or refused
+  10, 20 with --competition: a property is reached; never or holds, each one
   128 + N  ended by signal N: 130 by an interrupt, 143 by one to end
 
 Examples:

@@ -1,7 +1,6 @@
 """One run of the program: the order of things."""
 
 import argparse
-import json
 import shutil
 import signal
 import time
@@ -10,17 +9,19 @@ from dataclasses import replace
 from pathlib import Path
 from typing import Dict, List, NamedTuple, Optional
 
+from aiger_check import competition
 from aiger_check.answers import Answer, Assertion, Liveness, NO_TIME, Verdict
 from aiger_check.asked import ask
 from aiger_check.asked.question import Question
 from aiger_check.doubts import KEPT
 from aiger_check.faults import Trouble
 from aiger_check.junit import Suite, report
+from aiger_check.keep.first import clear
 from aiger_check.keep.keeper import TOGETHER
 from aiger_check.keep.keepers import Keepers
 from aiger_check.keep.whole import is_special, put_whole
+from aiger_check.output import Output
 from aiger_check.programs import Programs
-from aiger_check.report import show
 from aiger_check.search.joint import Joint
 from aiger_check.search.lassos import Lassos
 from aiger_check.search.limits import Tools
@@ -29,7 +30,7 @@ from aiger_check.search.together import Together
 from aiger_check.search.vacuity import Vacuity
 from aiger_check.session import Session
 from aiger_check.statuses import Status
-from aiger_check.tallies import Tally
+from aiger_check.tallies import Answered, Tally
 from aiger_check.tools.processes import Children, SIGNALS
 
 
@@ -52,13 +53,14 @@ class Run:
 
     def __init__(self, given: argparse.Namespace, folder: Path, children: Children) -> None:
         self.given, self.session = given, Session(given, folder, children)
-        self.tally = Tally(given.frames, given.equal)
+        self.tally, self.output = Tally(given.frames, given.equal, not given.only), Output(given)
 
     def status(self) -> Status:
         """Checks all assertions, and gives the status of the program."""
         # what is blocked here would be in the programs that are started
         signal.pthread_sigmask(signal.SIG_UNBLOCK, SIGNALS)
         self.session.start()
+        clear(self.given.vcd)
         if self.given.junit and not is_special(Path(self.given.junit)):
             # so no report of an earlier run stands there, whatever ends this one
             self.write_report(Status.TROUBLE, "the run has not ended")
@@ -69,7 +71,7 @@ class Run:
             raise
         is_answered = self.tally.answered and status is not Status.TROUBLE
         self.write_report(status, None if is_answered else "; ".join(self.session.notes.all) or "there is no answer")
-        return status
+        return competition.status(self.tally.answered, status) if self.given.competition else status
 
     @property
     def is_overdue(self) -> bool:
@@ -80,13 +82,14 @@ class Run:
         tools = programs.tools()
         question = session.in_time(lambda: ask(session, programs, tools.aiger), None)
         if question:
-            keepers = Keepers(self.given.keep, question, programs.aiger(session.keeping))
+            keepers = Keepers(session, question, programs.aiger(session.keeping))
             self.answer_all(question, tools, keepers)
+            keepers.first.end()
             self.tell_seconds(question, keepers)
             keepers.keep_commands(session, question, programs.found)
         else:
             session.notes.warn(f"{NO_TIME} once the model was asked for")
-        self.show_all()
+        self.output.end(self.tally, session.notes.all)
         return self.tally.status() if question else Status.TIMEOUT
 
     def write_report(self, status: Status, trouble: Optional[str] = None) -> None:
@@ -104,7 +107,8 @@ class Run:
         known: Dict[int, Verdict] = session.in_time(lambda: self.ask_together(question, tools, searches), {})
         with ThreadPoolExecutor(self.given.jobs) as pool:
             try:
-                vacuity.start(pool)
+                if not self.given.competition:
+                    vacuity.start(pool)
                 for search, found in zip(searches, pool.map(lambda it: self.answer(question, it, known), searches)):
                     self.tell(search, self.judged(vacuity, search.assertion, found), keepers)
                     self.tell_lines(question, search.assertion)
@@ -175,7 +179,9 @@ class Run:
         return replay.shows(assertion, witness)
 
     def judged(self, vacuity: Vacuity, assertion: Assertion, found: Found) -> Found:
-        """The answer, if what is assumed can be kept."""
+        """The answer, if what is assumed can be kept. A competition asks no such thing."""
+        if self.given.competition:
+            return found
         verdict = self.session.in_time(lambda: vacuity.applied(assertion, found.verdict), LATE)
         return found._replace(verdict=verdict)
 
@@ -184,11 +190,10 @@ class Run:
         assertion, verdict = search.assertion, found.verdict
         self.note_all(search, found)
         keepers.keep(assertion, verdict)
-        shutil.rmtree(search.folder, ignore_errors=True)
         self.tally.add(assertion, verdict)
         self.session.progress.clear()
-        if not self.given.json:
-            show(f"{assertion}: {assertion.said(verdict)}")
+        self.output.add(Answered(assertion, verdict))
+        shutil.rmtree(search.folder, ignore_errors=True)
 
     def tell_lines(self, question: Question, assertion: Assertion) -> None:
         """What an answer builds on that the second front end leaves open."""
@@ -200,15 +205,10 @@ class Run:
         """Says what is to be known of an answer."""
         for words in search.notes:
             self.session.notes.warn(words)
+        if self.given.competition and found.verdict.answer not in (Answer.NEVER, Answer.REACHED):
+            self.session.notes.tell(f"{search.assertion}: {search.assertion.said(found.verdict)}")
         for where, fails in {**found.others, **found.in_yosys()}.items():
             if fails:
                 self.session.notes.tell(f"{search.assertion} fails in {where} too")
             else:
                 self.session.notes.warn(f"{search.assertion} does not fail in {where}")
-
-    def show_all(self) -> None:
-        """Says what all answers come to."""
-        if self.given.json:
-            show(json.dumps({**self.tally.records(), "notes": self.session.notes.all}))
-        else:
-            show(self.tally.summary())

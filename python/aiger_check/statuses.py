@@ -15,7 +15,10 @@ class Status(enum.IntEnum):
     VACUOUS = 3
     UNKNOWN = 4
     TIMEOUT = 8
+    #: those of --competition
+    FOUND = 10
     TROUBLE = 16
+    PROVED = 20
 
 
 #: what --expect calls these, as SymbiYosys does

@@ -24,8 +24,10 @@ class Answered(NamedTuple):
 class Tally:
     """All answers, in the order in which they are said."""
 
-    def __init__(self, frames: int, is_of_two: bool) -> None:
+    def __init__(self, frames: int, is_of_two: bool, needs_pairs: bool = True) -> None:
         self.frames, self.is_of_two = frames, is_of_two
+        #: whether it is an error if no pair is compared
+        self.needs_pairs = needs_pairs
         self.answered: List[Answered] = []
 
     def add(self, assertion: Assertion, verdict: Verdict) -> None:
@@ -37,7 +39,7 @@ class Tally:
         return Status.TROUBLE if self.is_nothing_compared() and found is not Status.BROKEN else found
 
     def is_nothing_compared(self) -> bool:
-        return self.is_of_two and not any(isinstance(it.assertion, Pair) for it in self.answered)
+        return self.is_of_two and self.needs_pairs and not any(isinstance(it.assertion, Pair) for it in self.answered)
 
     def records(self) -> Dict[str, Any]:
         """What --json says."""

@@ -7,6 +7,7 @@ from pathlib import Path
 from typing import Any, List, Optional
 
 from aiger_check.answers import Assertion, Liveness
+from aiger_check.asked.packed import unpacked
 from aiger_check.asked.question import Question, question_of
 from aiger_check.faults import Trouble, visible
 from aiger_check.model.circuit import named_by_symbols
@@ -15,12 +16,12 @@ from aiger_check.tools.aiger import Aiger, aigtools
 
 
 def copied(aiger: Aiger, name: str, path: Path) -> Any:
-    """Writes a model that is given, in binary, and gives its circuit."""
+    """Writes a model that is given, compressed or not, in binary, and gives its circuit."""
     given = path.with_name(f"{path.stem}.given")
     if stat.S_ISCHR(os.stat(name).st_mode):
         raise Trouble(f"{visible(name)}: a device, which need not have an end")
     with open(name, "rb") as file:
-        given.write_bytes(file.read())
+        unpacked(name, file.read(), given, aiger.children)
     failure = aiger.to_binary(given, path)
     if failure:
         match = re.fullmatch(r"line (\d+): (.*)", failure, re.DOTALL)

@@ -12,6 +12,7 @@ from aiger_check.front.replay import Replay
 from aiger_check.front.reset import Reset
 from aiger_check.front.second.beside import Second
 from aiger_check.front.second.comparison import Design
+from aiger_check.front.shown import WholeDesign
 from aiger_check.front.sources import Sources
 from aiger_check.front.translation import Front
 from aiger_check.front.vhdl.ghdl import Vhdl, is_vhdl, translated
@@ -74,6 +75,7 @@ def of_verilog(session: Session, programs: Programs) -> Question:
         session.notes.warn(f"there is no {ABSENT.get(session.given.mode, 'assertion')}")
     question = question_of(place / "model.aig", assertions)
     question.replay = Replay(program, session.children, place, top, front.clock, front.replays)
+    question.whole = WholeDesign(program, place, top, front.clock, bool(front.reason))
     question.unset = None if session.given.reset else front.unset_registers
     question.translations = [translation(front)]
     question.seconds = seconds(session, program, [front])

@@ -8,6 +8,7 @@ from aiger_check.answers import Assertion
 from aiger_check.equality.sides import Sides
 from aiger_check.front.replay import Replay
 from aiger_check.front.second.beside import Second
+from aiger_check.front.shown import WholeDesign
 from aiger_check.front.unset import Unset
 from aiger_check.model.circuit import Model, without_justice
 
@@ -34,6 +35,8 @@ class Question:
     sides: Optional[Sides] = None
     #: what replays a counterexample on the design
     replay: Optional[Replay] = None
+    #: of a design in Verilog what shows all of it
+    whole: Optional[WholeDesign] = None
     #: the registers that may start at any value, where no reset was asked for
     unset: Optional[Unset] = None
     translations: Sequence[Translation] = ()

@@ -3,17 +3,20 @@
 import hashlib
 import re
 from pathlib import Path
-from typing import Any, List, Sequence, Set
+from typing import List, Sequence, Set
 
 from aiger_check.answers import Assertion, Verdict
 from aiger_check.faults import Trouble, visible
+from aiger_check.keep.waves import of_witness
 from aiger_check.keep.whole import put_whole
-from aiger_check.tools.aiger import Aiger, aiger_failure
+from aiger_check.tools.aiger import Aiger
 
 #: what the files are called that show the answers of all pairs at once
 TOGETHER = "together"
+#: the end of the name of a waveform of a whole design
+DESIGN = ".design.vcd"
 #: how the names of the files end that show an answer
-SUFFIXES = (".aiw", ".vcd", ".stimulus", ".drat", ".pla", ".check.sh")
+SUFFIXES = (".aiw", ".vcd", DESIGN, ".stimulus", ".drat", ".pla", ".check.sh")
 
 
 class Keeper:
@@ -80,18 +83,7 @@ class Keeper:
 
     def put_run(self, name: str, assertion: Assertion, verdict: Verdict, witness: Path) -> None:
         """Keeps what shows the run of a witness."""
-        self.put_waves(name, self.path, witness)
-
-    def put_waves(self, name: str, model: Path, witness: Path) -> None:
-        waves = self.traced("--witness", "--vcd", model, witness, output=witness.with_suffix(".vcd"))
-        self.put(f"{name}.vcd", waves)
-
-    def traced(self, *words: Any, output: Path) -> bytes:
-        """What aigsim says."""
-        told = self.aiger.run("aigsim", *words, folder=output.parent, output=output)
-        if told.status != 0:
-            raise Trouble(aiger_failure(told))
-        return output.read_bytes()
+        self.put(f"{name}.vcd", of_witness(self.aiger, self.path, witness))
 
     def put_proof(self, name: str, verdict: Verdict, refutation: Path) -> str:
         """Keeps what shows an answer; what shows all answers is kept once."""

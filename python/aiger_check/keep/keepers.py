@@ -1,29 +1,35 @@
 """What keeps each answer."""
 
+import glob
 from pathlib import Path
-from typing import Dict, Optional
+from typing import Dict, List
 
 from aiger_check.answers import Assertion, Assumption, Cover, LeftSide, Liveness, Pair, Verdict
 from aiger_check.asked.question import Question
+from aiger_check.keep.first import First
 from aiger_check.keep.journal import Journal
-from aiger_check.keep.keeper import Keeper
+from aiger_check.keep.keeper import DESIGN, Keeper
 from aiger_check.keep.others import KeeperOfLassos, KeeperOfTwo
+from aiger_check.keep.runs import Runs
 from aiger_check.session import Session
 from aiger_check.tools.aiger import Aiger
 
 
 class Keepers:
-    """Keeps the answers of each kind, where a folder is given."""
+    """Keeps the answers of each kind, where a folder is given, and the first waveform, where a file is."""
 
-    def __init__(self, folder: Optional[str], question: Question, aiger: Aiger) -> None:
+    def __init__(self, session: Session, question: Question, aiger: Aiger) -> None:
         self.of_kind: Dict[type, Keeper] = {}
-        if folder is not None:
-            self.of_kind = keepers(Path(folder), question, aiger)
+        self.runs = Runs(session, question, aiger)
+        self.first = First(session, self.runs)
+        if session.given.keep is not None:
+            self.of_kind = keepers(Path(session.given.keep), question, aiger)
 
     def keep_commands(self, session: Session, question: Question, programs: Dict[str, str]) -> None:
         """Keeps how the answers were come by."""
         for keeper in [*self.of_kind.values()][-1:]:
-            Journal(session, keeper.folder).keep(question.translations, keeper.again, programs)
+            again = [*(only(question) if session.given.only else []), *keeper.again]
+            Journal(session, keeper.folder).keep(question.translations, again, programs)
 
     def keep_waves(self, waves: Dict[str, Path]) -> None:
         """Keeps the waveforms of a run in which a second front end says otherwise, and none of another run's."""
@@ -37,6 +43,15 @@ class Keepers:
         keeper = self.of_kind.get(type(assertion))
         if keeper:
             keeper.keep(assertion, verdict)
+            waves = self.runs.of_design(assertion, verdict)
+            if waves and verdict.kept:
+                keeper.put(f"{verdict.kept.stem}{DESIGN}", waves)
+        self.first.take(assertion, verdict)
+
+
+def only(question: Question) -> List[str]:
+    """The words that choose what was asked, by the names that it has in the model."""
+    return [f"--only={glob.escape(it.name if question.sides else it.position)}" for it in question.assertions]
 
 
 def keepers(folder: Path, question: Question, aiger: Aiger) -> Dict[type, Keeper]:

@@ -236,7 +236,7 @@ b01 v1
 def waves(room):
     """Two dumps side by side: each change of both is there, at its time and in its scope."""
     del room
-    beside = piece("keep.others").waves_beside
+    beside = piece("keep.waves").waves_beside
     first = DUMP.format(name="one", step=2, changes="1i0\nb11 v1").encode()
     second = DUMP.format(name="two", step=1, changes="zi0").encode()
     lines = beside(first, second).decode().splitlines()

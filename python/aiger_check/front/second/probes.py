@@ -21,6 +21,8 @@ LONGEST = 30.0
 PORT = "second_port_"
 #: the numbers of added ports are above those of the design's own
 FIRST_PORT = 1000000
+#: makes outputs of all that the user named
+EXPOSE = "expose w:* w:$* %d"
 
 
 @dataclass
@@ -95,11 +97,18 @@ class Probes:
 
     def run(self, clocks: Sequence[str]) -> None:
         """Runs the commands of the translation, but keeps each name."""
+        (self.folder / "probed.ys").write_text("\n".join(self.script(clocks)) + "\n")
+        told = self.children.run([self.program, "-q", "-s", "probed.ys"], self.folder, LONGEST)
+        if told.status != 0:
+            last = (told.errors.strip().splitlines() or [f"status {told.status}"])[-1]
+            raise Unable("Yosys took too long for a second model" if told.late else f"Yosys: {last}")
+
+    def script(self, clocks: Sequence[str]) -> List[str]:
         flat = [it for it in Front.FLAT if it not in ("delete -output", "check")]
-        script = [
+        return [
             "read_rtlil probed.il",
             "write_json named.json",
-            "expose w:* w:$* %d",
+            EXPOSE,
             *flat,
             *clocks,
             "setundef -undriven -anyseq",
@@ -107,11 +116,6 @@ class Probes:
             *Front.GATES,
             "write_aiger -symbols probed.aig",
         ]
-        (self.folder / "probed.ys").write_text("\n".join(script) + "\n")
-        told = self.children.run([self.program, "-q", "-s", "probed.ys"], self.folder, LONGEST)
-        if told.status != 0:
-            last = (told.errors.strip().splitlines() or [f"status {told.status}"])[-1]
-            raise Unable("Yosys took too long for a second model" if told.late else f"Yosys: {last}")
 
     def read(self, circuit: Any, module: Dict[str, Any]) -> Probed:
         nets = {bare(name): net["bits"] for name, net in module["netnames"].items() if not net.get("hide_name")}
