@@ -16,7 +16,7 @@ WORD = re.compile(
     |(?P<line>`line[ \t]+\S+[ \t]+"[^"\n]*"(?:[ \t]+\d+)?)
     |(?P<inner>`file_(?:push|pop|notfound)\b)
     |(?P<parallel>\bparallel_case\b)
-    |(?<![`$\w])(?P<unique>unique0?)(?=\s+case)
+    |(?<![`$\w.])(?P<unique>unique0?)(?![$\w])
     |(?P<word>[`$]?\w[\w$]*)""",
     re.DOTALL | re.VERBOSE,
 )

@@ -110,15 +110,30 @@ class Processes:
         return body.at_once & set().union(*read)
 
 
-def doubts(source: Source, modules: Dict[str, Any]) -> Iterator[Doubt]:
-    """The doubts of all files, each with its place."""
+def of_files(source: Source, modules: Dict[str, Any]) -> List[Processes]:
+    """The processes of all files."""
     nets: Dict[str, Set[str]] = {}
     for name, module in modules.items():
         its = nets.setdefault(bare(module["attributes"].get("hdlname", name)), set())
         its.update(re.split(r"\.", bare(it))[-1] for it in module["netnames"])
+    return [Processes(dump, nets) for dump, _ in source.dumps]
+
+
+def at_once(source: Source, files: Sequence[Processes]) -> Dict[str, Dict[str, str]]:
+    """What clocked processes assign at once: by modules and names, each with the place of its process."""
+    found: Dict[str, Dict[str, str]] = {}
+    for (_, words), processes in zip(source.dumps, files):
+        for body in processes.bodies:
+            if body.process.is_clocked and body.at_once:
+                place = source.place(word_at(words, processes.offset(body.process)))
+                found.setdefault(processes.module(body.process), {}).update(dict.fromkeys(sorted(body.at_once), place))
+    return found
+
+
+def doubts(source: Source, modules: Dict[str, Any], files: Sequence[Processes]) -> Iterator[Doubt]:
+    """The doubts of all files, each with its place."""
     widths = widths_of(list(modules.values()))
-    for dump, words in source.dumps:
-        processes = Processes(dump, nets)
+    for (_, words), processes in zip(source.dumps, files):
         for offset, doubt in (*processes.doubts(), *of_arrays(processes.tokens, widths)):
             place = source.place(word_at(words, offset))
             yield doubt._replace(reason=f"{place}: {doubt.reason}")

@@ -166,9 +166,10 @@ class Sources:
         return copy.name if copy else path
 
     def shown(self, path: str, line: int) -> str:
-        """A line of a file, as the user calls it."""
+        """A line of a file, as the user calls it, or of line 0 the file."""
         origin = self.vhdl.origins.get(line) if self.vhdl else None
-        return f"{origin[0]}:{origin[1]}" if origin else f"{self.users_name(path)}:{line}"
+        name, number = origin[:2] if origin else (self.users_name(path), line)
+        return f"{name}:{number}" if number else name
 
     def with_users_names(self, text: str) -> str:
         named = re.sub(rf"{re.escape(self.alias)}/[^\s:'`\"]+", lambda match: self.users_name(match[0]), text)

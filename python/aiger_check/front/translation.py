@@ -2,17 +2,20 @@
 
 import re
 import secrets
-from typing import Any, Callable, Collection, Dict, List, Optional, Sequence, Set, Tuple
+from typing import Any, Callable, Collection, Dict, Iterable, List, Optional, Sequence, Set, Tuple
 
 from aiger_check.answers import Assertion, Cover, LeftSide, Liveness
 from aiger_check.faults import Trouble, visible
-from aiger_check.front import defines, processes, undefined
+from aiger_check.front import defines, passed_over, processes, undefined
 from aiger_check.front.asked import Asked, MET
 from aiger_check.front.clocks import Clocks
 from aiger_check.front.cones import Cones
 from aiger_check.front.drivers import Drivers
 from aiger_check.front.edges import Registers, lasting
+from aiger_check.front.initial import varying
+from aiger_check.front.order import Order, State
 from aiger_check.front.properties import LEFT_OUT, Lost, Property, properties, renamed
+from aiger_check.front.races import Races, instances
 from aiger_check.front.reset import Reset, WithReset
 from aiger_check.front.told import told_positions, with_inputs
 from aiger_check.front.undriven import refuse_undeclared, undriven, without_body
@@ -34,7 +37,8 @@ class Front:
         "opt_clean",
         "check",
         "delete -output",
-        "tribuf -logic",
+        # z is x
+        "setundef -undef",
         "opt -noff -keepdc",
         "memory_collect",
         "opt -noff -keepdc -fast",
@@ -88,7 +92,7 @@ class Front:
         if "$cover" in self.asked.kinds:
             flat = ["design -push-copy", "delete t:$cover", *flat, "design -pop"]
         self.yosys.do("setattr -mod -unset keep_hierarchy", "flatten", free, *flat)
-        if self.suspected:
+        if self.suspected or self.at_once:
             self.doubt(self.yosys.netlist("whole"))
         self.delete(self.later)
         commands = (it for it in self.FLAT if not (self.keeps_outputs and it == "delete -output"))
@@ -98,6 +102,8 @@ class Front:
         module = netlist[self.module]
         self.notes += map(visible, undriven(self.yosys.said, self.top, module, self.sources))
         self.unset_registers = Unset(module)
+        order = Order(module)
+        self.doubt_states(Cones(module), [*order.derived(), *order.loaded()])
         self.sooner = list(Registers(module, self.sources.rewritten).sooner())
         self.lasting = lasting(module, self.sources.rewritten)
         clocks = Clocks(module)
@@ -118,6 +124,15 @@ class Front:
         for doubt in self.suspected:
             bits = bits_named(module, doubt.nets)
             self.doubts.append((visible(doubt.reason), cones.depending(bits, ASKED, ASSUMED)))
+        if self.at_once:
+            design = list(instances(self.modules, top_of(self.modules)))
+            races = Races(Order(module), design, self.drivers)
+            self.doubt_states(cones, races.found(self.at_once, self.modules))
+
+    def doubt_states(self, cones: Cones, found: Iterable[Tuple[str, State]]) -> None:
+        """Finds the assertions that depend on some registers, each with why their values are not sure."""
+        for reason, state in found:
+            self.doubts.append((visible(reason), cones.depending(set(state.shows), ASKED, ASSUMED)))
 
     def write(self, reason: Optional[str]) -> None:
         """Writes model.aig, whose steps are those of a global clock where there is a reason for it."""
@@ -166,10 +181,16 @@ class Front:
         modules = self.yosys.netlist("read")
         drivers = Drivers(modules, before)
         self.refuse_drivers(drivers)
+        self.refuse_first_values(modules, before, source)
         self.unread = drivers.unread
+        for place, name in drivers.memories():
+            last = "where two write one word, the last in the text counts"
+            self.notes.append(visible(f"{self.place_of(place)}{name} is written by several processes: {last}"))
         self.properties = list(properties(modules, top_of(modules), source))
         self.notes += map(visible, Lost(modules, source).notes())
-        self.suspected = list(processes.doubts(source, modules))
+        files = processes.of_files(source, modules)
+        self.suspected = list(processes.doubts(source, modules, files))
+        self.at_once, self.drivers, self.modules = processes.at_once(source, files), drivers, modules
         self.notes += map(visible, without_body(modules, self.sources))
         left_out = self.asked.left_out([it.kind for it in self.properties])
         for it in self.properties:
@@ -200,6 +221,7 @@ class Front:
         self.notes += (
             f"{visible(place)}: of a case the first item that matches is taken" for place in sources.parallel
         )
+        self.notes += map(visible, passed_over.notes(source))
         bound = source.first("bind")
         if bound:
             instead = "put the instance into the module itself"
@@ -212,6 +234,13 @@ class Front:
         if found:
             place, name = found
             raise Trouble(visible(f"{self.place_of(place)}{name} has several drivers: let one assignment drive it"))
+
+    def refuse_first_values(self, modules: Dict[str, Any], before: str, source: Source) -> None:
+        """Refuses a first value that is no constant."""
+        for module, name in varying(modules, before, source):
+            net = modules[module]["netnames"].get(name, {})
+            place = self.place_of(net.get("attributes", {}).get("src", "").split("|")[0])
+            raise Trouble(visible(f"{place}{name} begins with what is no constant: assign it, or give it a number"))
 
     def place_of(self, place: str) -> str:
         """A place that Yosys tells, as words before a message."""

@@ -21,8 +21,11 @@ def refuse_undeclared(said: Sequence[str], sources: Sources) -> None:
         match = UNDECLARED.match(line)
         if match:
             place = f"{sources.shown(match['file'], int(match['line']))}: " if match["file"] else ""
-            instead = "a name within an instance is not read" if "." in match["name"] else "declare it"
-            raise Trouble(visible(f"{place}{match['name']} is not declared here: {instead}"))
+            name = match["name"]
+            if name.startswith("$"):
+                raise Trouble(visible(f"{place}{name} is not read by Yosys: an input may be anything in each step"))
+            instead = "a name within an instance is not read" if "." in name else "declare it"
+            raise Trouble(visible(f"{place}{name} is not declared here: {instead}"))
 
 
 def placed(name: str, its: Dict[str, Any], sources: Sources) -> str:

@@ -28,7 +28,9 @@ class Unset:
     def needed_by(self, cell: str) -> List[str]:
         """The names of those on which a cell depends, as the user wrote them."""
         bits = self.cones.bits([cell]) & self.bits
-        shown = {bare(name) for name, net in self.names.items() if not net.get("hide_name") and bits & set(net["bits"])}
+        # what functions have within is Yosys's own
+        written = (it for it in self.names.items() if not it[1].get("hide_name") and "$" not in it[0])
+        shown = {bare(name) for name, net in written if bits & set(net["bits"])}
         return sorted(shown, key=lambda name: (name.count("."), len(name), name))
 
     def hints(self, assertion: Assertion, step: Optional[int]) -> List[str]:

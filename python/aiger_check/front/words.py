@@ -1,7 +1,8 @@
 """What Yosys has read: the words behind its preprocessor, each with its place."""
 
+import functools
 import re
-from typing import Dict, Iterator, List, NamedTuple, Optional
+from typing import Dict, Iterator, List, NamedTuple, Optional, Tuple
 
 from aiger_check.front.sources import Sources
 
@@ -84,6 +85,11 @@ class Source:
 
     def place(self, word: Word) -> str:
         return self.sources.shown(word.file, word.line)
+
+    @functools.cached_property
+    def at_place(self) -> Dict[Tuple[str, int, int], str]:
+        """What stands where."""
+        return {(word.file, word.line, word.column): word.text for word in self.words}
 
     def first(self, *texts: str) -> Optional[Word]:
         return next((word for word in self.words if word.text in texts), None)

@@ -8,7 +8,7 @@ import secrets
 import signal
 import subprocess
 import threading
-from typing import IO, Any, Dict, List, Sequence, cast
+from typing import IO, Any, Dict, List, Optional, Sequence, cast
 
 from aiger_check.faults import Stopped, Trouble, visible
 from aiger_check.front.sources import Sources
@@ -17,6 +17,11 @@ from aiger_check.tools.processes import Children
 
 #: warnings that are refusals or notes of their own
 TOLD = re.compile(r"logic loop|multiple conflicting drivers|is used but has no driver\.$")
+#: words of the language that Yosys does not know
+UNREAD = re.compile(
+    r"(?<![\w$.\\])(?:force|release|deassign|fork|wait|disable|forever|tri0|tri1|trireg|pullup|pulldown|primitive|class"
+    r"|covergroup|program|checker|break|continue|return|inside|foreach|do|expect|randcase|string|event)(?![\w$])"
+)
 #: seconds that a Yosys may take for a design
 LIMIT = 600.0
 
@@ -108,10 +113,17 @@ class Yosys:
                 place = f"{self.sources.shown(match[1], int(match[2]))}: " if match[1] else ""
                 if match[3].endswith("expecting TOK_PROPERTY"):
                     return f"{place}outside of an always block write assert property (..)"
-                return place + self.sources.with_users_names(match[3])
+                hint = self.unread(match[1], match[2]) if match[3].startswith("syntax error") else ""
+                return place + self.sources.with_users_names(match[3]) + hint
         self.child.wait()
         last = f": {said[-1]}" if said else ""
         return f"Yosys ended with status {self.child.returncode}{last}"
+
+    def unread(self, path: Optional[str], line: Optional[str]) -> str:
+        """What stands in a line that Yosys does not read, as a hint, if it is known."""
+        lines = self.sources.lines(path or "")[int(line or 1) - 1 :][:1]
+        words = UNREAD.findall(re.sub(r"//.*|\"[^\"]*\"", "", lines[0])) if lines else []
+        return f": {words[0]} is not read by Yosys" if words else ""
 
     def warnings(self) -> List[str]:
         """What Yosys warned of, with the user's names."""
