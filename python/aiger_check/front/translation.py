@@ -27,6 +27,9 @@ from aiger_check.model.circuit import Model
 
 ASKED, ASSUMED = ("$assert", "$live"), ("$assume", "$fair")
 
+#: marks a net that several processes drive and nobody reads, which has no one value
+NOT_COMPARED = "aiger_check_not_compared"
+
 
 class Front:
     """Writes a Verilog design as an AIGER model by Yosys, and tells which bad state is which assertion."""
@@ -91,7 +94,8 @@ class Front:
         flat = [f"write_rtlil {self.sources.alias}/flat.il"]
         if "$cover" in self.asked.kinds:
             flat = ["design -push-copy", "delete t:$cover", *flat, "design -pop"]
-        self.yosys.do("setattr -mod -unset keep_hierarchy", "flatten", free, *flat)
+        marks = [f"setattr -set {NOT_COMPARED} 1 {quoted(module)}/w:{quoted(name)}" for module, name in sorted(self.unread)]
+        self.yosys.do(*marks, "setattr -mod -unset keep_hierarchy", "flatten", free, *flat)
         if self.suspected or self.at_once:
             self.doubt(self.yosys.netlist("whole"))
         self.delete(self.later)

@@ -7,7 +7,7 @@ from pathlib import Path
 from typing import Any, Dict, List, Optional, Sequence, Tuple
 
 from aiger_check.front.second.faults import Unable
-from aiger_check.front.translation import Front
+from aiger_check.front.translation import Front, NOT_COMPARED
 from aiger_check.front.yosys import bare, top_of
 from aiger_check.model.circuit import named_by_symbols
 from aiger_check.tools.aiger import aigtools
@@ -119,7 +119,8 @@ class Probes:
 
     def read(self, circuit: Any, module: Dict[str, Any]) -> Probed:
         nets = {bare(name): net["bits"] for name, net in module["netnames"].items() if not net.get("hide_name")}
-        own = {name: bits for name, bits in nets.items() if not name.startswith(PORT)}
+        left_out = {bare(name) for name, net in module["netnames"].items() if NOT_COMPARED in net["attributes"]}
+        own = {name: bits for name, bits in nets.items() if not name.startswith(PORT) and name not in left_out}
         named = symbols_of({name: len(bits) for name, bits in own.items()})
         driven = {port: next((it for it in sorted(own) if own[it] == nets[port]), "") for port in self.driven}
         ports = symbols_of({port: len(nets[port]) for port, name in driven.items() if name})
