@@ -1,0 +1,5 @@
+pub mod RootLiterals
+pub mod Refusing
+pub mod Putting
+pub mod Drawn
+pub mod LawsProved

@@ -1,0 +1,5 @@
+pub mod Subject
+pub mod Label
+pub mod Graph
+pub mod Dot
+pub mod Laws
