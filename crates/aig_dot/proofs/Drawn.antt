@@ -1,10 +1,11 @@
 -- The gates of a picture, and the arrows into them.
-use Rattle.std.proofs.Common.{◌≡◌, ◌≢◌, ◌==◌, ◌+◌, ◌<◌, ◌⊎◌, ◌∷◌, ◌++◌, ◌∙◌, ℕ, zero, suc, List, [], Bool, true, false, cond}
-use Rattle.std.proofs.Common.{IsTrue, ap, ap₂, arith, filter, get_or, inl, inr, length, map, refl, subst, sym, ⊎_elim}
+use Rattle.std.proofs.Common.{◌≡◌, ◌==◌, ◌+◌, ◌<◌, ◌∷◌, ◌++◌, ◌∙◌, ℕ, zero, suc, List, [], Bool}
+use Rattle.std.proofs.Common.{true, false, cond}
+use Rattle.std.proofs.Common.{ap, ap₂, arith, filter, get_or, inl, inr, length, map, refl, subst}
 use Rattle.std.proofs.Common.{append-nil, eq-eqb}
 use Rattle.std.specs.FinSet as set
-use Rattle.std.specs.List.{Contains, enumerate_from, flat_map, range_with_len}
-use Rattle.std.proofs.lemmas.Grind.{common_steps, flat_map-append}
+use Rattle.std.specs.List.{enumerate_from, flat_map, range_with_len}
+use Rattle.std.proofs.lemmas.Grind.{flat_map-append}
 use Rattle.aig_circuit.specs.declared.circuit.Circuit.{Circuit}
 use Rattle.aig_circuit.specs.declared.circuit.Gate.{Gate}
 use Rattle.aig_circuit.specs.declared.circuit.Kind.{Kind}
@@ -46,30 +47,37 @@ none_of h f none (x ∷ xs) =
     flat_map-append h (f x) (flat_map f xs) ∙ ap₂ (λ a b. a ++ b) (none x) (none_of h f none xs)
 
 -- what a circuit shows has no gate, and no arrow into a variable
-module _ (c : Circuit) where
-  shown_gates : (kind : Kind) (position : ℕ) (literals : List ℕ)
-      → drawn_gates (map (use_of (nodes.Shown kind position)) literals) ≡ []
-  shown_gates kind position [] = refl
-  shown_gates kind position (l ∷ ls) = shown_gates kind position ls
+uses_gates : (kind : Kind) (position : ℕ) (literals : List ℕ)
+    → drawn_gates (map (use_of (nodes.Shown kind position)) literals) ≡ []
+uses_gates kind position [] = refl
+uses_gates kind position (l ∷ ls) = uses_gates kind position ls
 
-  shown_arrows : (v : ℕ) (kind : Kind) (position : ℕ) (literals : List ℕ)
-      → arrows_into v (map (use_of (nodes.Shown kind position)) literals) ≡ []
-  shown_arrows v kind position [] = refl
-  shown_arrows v kind position (l ∷ ls) = shown_arrows v kind position ls
+uses_arrows : (v : ℕ) (kind : Kind) (position : ℕ) (literals : List ℕ)
+    → arrows_into v (map (use_of (nodes.Shown kind position)) literals) ≡ []
+uses_arrows v kind position [] = refl
+uses_arrows v kind position (l ∷ ls) = uses_arrows v kind position ls
+
+module _ (c : Circuit) where
+  shown_gates : (kind : Kind) (position : ℕ) → drawn_gates (shown_part c kind position) ≡ []
+  shown_gates kind position = uses_gates kind position (literals_at c kind position)
+
+  kind_gates : (kind : Kind) → drawn_gates (kind_part c kind) ≡ []
+  kind_gates kind = none_of gate_in (shown_part c kind) (shown_gates kind) (range_with_len 0 (count_of c kind))
 
   subject_gates : (subject : Subject) → drawn_gates (subject_part subject c) ≡ []
-  subject_gates Whole =
-      none_of gate_in (kind_part c)
-      (λ (kind : Kind). none_of gate_in (shown_part c kind) (λ (position : ℕ). shown_gates kind position (literals_at c kind position))
-      (range_with_len 0 (count_of c kind))) shown_kinds
-  subject_gates (Cone part) = shown_gates part.kind part.position (literals_at c part.kind part.position)
+  subject_gates Whole = none_of gate_in (kind_part c) kind_gates shown_kinds
+  subject_gates (Cone part) = shown_gates part.kind part.position
+
+  shown_arrows : (v : ℕ) (kind : Kind) (position : ℕ) → arrows_into v (shown_part c kind position) ≡ []
+  shown_arrows v kind position = uses_arrows v kind position (literals_at c kind position)
+
+  kind_arrows : (v : ℕ) (kind : Kind) → arrows_into v (kind_part c kind) ≡ []
+  kind_arrows v kind =
+      none_of (arrow_into v) (shown_part c kind) (shown_arrows v kind) (range_with_len 0 (count_of c kind))
 
   subject_arrows : (v : ℕ) (subject : Subject) → arrows_into v (subject_part subject c) ≡ []
-  subject_arrows v Whole =
-      none_of (arrow_into v) (kind_part c)
-      (λ (kind : Kind). none_of (arrow_into v) (shown_part c kind) (λ (position : ℕ). shown_arrows v kind position (literals_at c kind position))
-      (range_with_len 0 (count_of c kind))) shown_kinds
-  subject_arrows v (Cone part) = shown_arrows v part.kind part.position (literals_at c part.kind part.position)
+  subject_arrows v Whole = none_of (arrow_into v) (kind_part c) (kind_arrows v) shown_kinds
+  subject_arrows v (Cone part) = shown_arrows v part.kind part.position
 
 module _ (shows : ℕ → Bool) where
   -- constant and inputs have neither

@@ -1,16 +1,15 @@
 -- What the definitions say of one another.
-use Rattle.std.proofs.Common.{◌≡◌, ◌∷◌, ◌++◌, ◌∙◌, ◌⊎◌, ◌*◌, ◌/◌, ℕ, List, [], Bool, true, false, IsTrue, ap, ap₂, arith, codes}
-use Rattle.std.proofs.Common.{cond, filter, inl, inr, map, refl, rules, sym, ⊎_elim}
+use Rattle.std.proofs.Common.{◌≡◌, ◌∷◌, ◌++◌, ◌∙◌, ◌⊎◌, ℕ, List, [], Bool, true}
+use Rattle.std.proofs.Common.{false, IsTrue, ap, ap₂, arith, codes}
+use Rattle.std.proofs.Common.{cond, filter, inl, inr, map, refl, sym, ⊎_elim}
 use Rattle.std.proofs.Math.Path.{fun_ext}
 use Rattle.std.specs.FinSet as set
 use Rattle.std.specs.List.{concat}
-use Rattle.aig_circuit.specs.declared.circuit.Circuit.{Circuit}
 use Rattle.aig_circuit.specs.declared.circuit.Latch.{Latch}
 use Rattle.aig_circuit.specs.Literal.{literal_of, variable_of}
 use Rattle.aig_circuit.specs.Wellformed.{AreDistinct, IsAmong, defined_variables, literal_lists}
 use Rattle.aig_cone.specs.Cone.{root}
 use Rattle.aig_cone.proofs.Lists.{among_last, distinct_back}
-use Rattle.aig_dot.specs.declared.picture.Picture.{Picture}
 use Rattle.aig_dot.specs.declared.subject.Subject.{Subject}
 use Rattle.aig_dot.specs.Dot.{dot_text, statements_text}
 use Rattle.aig_dot.specs.Graph.{subject_part, variable_part}
@@ -99,7 +98,8 @@ pub one_text : OneText
 unfolding dot_text
 one_text subject c p q is other =
     let text = λ (shows : ℕ → Bool) (s : Subject).
-    codes "digraph aiger {\n" ++ (statements_text (variable_part shows (reach_of s) c ++ subject_part s c) ++ codes "}\n") in
+    codes "digraph aiger {\n"
+    ++ (statements_text (variable_part shows (reach_of s) c ++ subject_part s c) ++ codes "}\n") in
     ap₂ text
     (fun_ext (λ v. same_test (set.contains p.variables v) (set.contains q.variables v)
     (λ a. (other.1 v).1 ((is.1 v).0 a)) (λ a. (is.1 v).1 ((other.1 v).0 a))))

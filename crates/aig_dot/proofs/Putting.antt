@@ -1,6 +1,7 @@
 -- Statements that are put one after the other.
-use Rattle.std.proofs.Common.{◌≡◌, ◌↔◌, ◌%◌, ◌==◌, ◌+◌, ◌<◌, ◌∷◌, ◌++◌, ◌∙◌, ℕ, List, [], Bool, true, false, IsTrue, length}
-use Rattle.std.proofs.Common.{take, get_or, refl, sym, ap, arith, codes, rules, subst, take_all, zero-add}
+use Rattle.std.proofs.Common.{◌≡◌, ◌↔◌, ◌%◌, ◌==◌, ◌+◌, ◌<◌, ◌++◌, ◌∙◌, ℕ, List, Bool}
+use Rattle.std.proofs.Common.{IsTrue, length}
+use Rattle.std.proofs.Common.{take, get_or, sym, ap, arith, subst, take_all, zero-add}
 use Rattle.std.specs.List.{enumerate_from, flat_map, range_with_len}
 use Rattle.std.proofs.lemmas.Grind.{common_steps, flat_map-append}
 use Rattle.std.proofs.lemmas.List.FromFn.{get_or-enumerate_from, get_or-range_with_len, length-enumerate_from}
@@ -50,7 +51,8 @@ module _ {W : Type 0} where
       → Appended a c (statements_text (flat_map f (take (i + 1) (enumerate_from 0 xs))))
   put_next_entry f xs i d x a b c is below p q =
       put_entry f (enumerate_from 0 xs) i (0, d) (i, x) a b c
-      (ap (λ y. (i, y)) is ∙ ap (λ n. (n, get_or xs i d)) (sym (zero-add i)) ∙ sym (get_or-enumerate_from 0 xs i (0, d) below))
+      (ap (λ y. (i, y)) is ∙ ap (λ n. (n, get_or xs i d)) (sym (zero-add i))
+      ∙ sym (get_or-enumerate_from 0 xs i (0, d) below))
       (omega (arith, length-enumerate_from 0 xs)) p q
 
   pub put_next_position : (f : ℕ → List Statement) (n i : ℕ) (a b c : Out W) → i < n

@@ -1,6 +1,7 @@
 -- The literals whose cone is shown.
-use Rattle.std.proofs.Common.{◌≡◌, ◌≤◌, ◌<◌, ◌+◌, ◌-◌, ◌∷◌, ◌++◌, ◌∙◌, ℕ, zero, suc, List, [], length, take, drop, map, min}
-use Rattle.std.proofs.Common.{get_or, slice_index_or, refl, sym, ap, arith, drop-cons, subst, rules}
+use Rattle.std.proofs.Common.{◌≡◌, ◌≤◌, ◌<◌, ◌∷◌, ◌++◌, ℕ}
+use Rattle.std.proofs.Common.{zero, suc, List, [], length, take, map}
+use Rattle.std.proofs.Common.{get_or, ap, arith}
 use Rattle.std.specs.List.{AllByRecursion, flat_map}
 use Rattle.std.proofs.lemmas.Grind.{common_steps}
 use Rattle.std.proofs.lemmas.List.{map-append}
@@ -10,19 +11,7 @@ use Rattle.aig_circuit.specs.declared.circuit.Latch.{Latch}
 use Rattle.aig_circuit.specs.declared.circuit.TheConstants.{LARGEST}
 use Rattle.aig_circuit.specs.Wellformed.{IsVariableUpTo, IsWellFormed, defined_variables}
 use Rattle.aig_circuit.proofs.Checking.{back, defined_gates, defined_inputs, defined_is, defined_latches, front}
-use Rattle.aig_circuit.specs.Justice.{literals_of_each}
 use Rattle.aig_circuit.specs.Literal.{literal_of}
-
--- the property at the front of those from a place on
-pub property_here : (sizes rest : List ℕ) (at : ℕ) → at < length sizes
-    → slice_index_or (literals_of_each (drop at sizes) rest) 0 [] ≡ take (get_or sizes at 0) rest
-property_here sizes rest at below = rw (drop-cons sizes at 0 below)
-
--- and those behind it
-pub property_behind : (sizes rest : List ℕ) (at n : ℕ) → at < length sizes
-    → slice_index_or (literals_of_each (drop at sizes) rest) (suc n) []
-    ≡ slice_index_or (literals_of_each (drop (suc at) sizes) (drop (get_or sizes at 0) rest)) n []
-property_behind sizes rest at n below = rw (drop-cons sizes at 0 below)
 
 -- what holds of all that some define holds of what one of them defines
 pub of_one : {X Y : Type 0} (P : Y → Type 0) (f : X → List Y) (xs : List X) (i : ℕ) (d : X) → i < length xs

@@ -1,5 +1,5 @@
 -- The text of a picture in the DOT language of Graphviz. As in AIGER's aigtodot, an arrow that ends in a dot negates.
-use Rattle.std.specs.Prelude.{◌==◌, ◌%◌, ◌++◌, ℕ, List, [], Bool, true, false, codes, decimal}
+use Rattle.std.specs.Prelude.{◌==◌, ◌%◌, ◌++◌, ℕ, List, Bool, true, false, codes, decimal}
 use Rattle.std.specs.List.{flat_map}
 use Rattle.aig_circuit.specs.declared.circuit.Circuit.{Circuit}
 use Rattle.aig_circuit.specs.Literal.{variable_of}

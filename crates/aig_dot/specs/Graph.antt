@@ -22,7 +22,8 @@ use Rattle.aig_dot.specs.declared.subject.Subject.TheVariants.{Whole, Cone}
 use Rattle.aig_dot.specs.Label.{name_text, reset_text}
 use Rattle.aig_dot.specs.Subject.{literals_at, reach_of}
 
--- a node with its shape and its label, or an arrow from a literal to what uses it: in the same step, or as its next state
+-- a node with its shape and its label, or an arrow from a literal to what uses it, in the same step or as its next
+-- state
 pub data Statement : Type 0 where
   HasNode : Node → Shape → List ℕ → Statement
   HasArrow : ℕ → Node → Bool → Statement

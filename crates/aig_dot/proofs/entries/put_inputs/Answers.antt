@@ -1,4 +1,4 @@
-use Rattle.std.proofs.Common.{ℕ, List, arith, subst}
+use Rattle.std.proofs.Common.{List, arith, subst}
 use Rattle.std.specs.FinSet as set
 use Rattle.aig_io.specs.Output.{Appended}
 use Rattle.aig_dot.specs.Dot.{statements_text}

@@ -10,7 +10,8 @@ use Rattle.aig_dot.proofs.shown.put_uses.Goals as goal
 pub loop-literal-preserved : goal.loop-literal-preserved
 loop-literal-preserved g c =
     put_more (λ literal. statement_text (use_of c.args.to.now literal)) c.args.literals.now c.loop-literal.literal-index
-    c.literal-item.result c.literal-item.result _ _ _ c.literal-item.is c.loop-literal.invariant c.put_arrow.ensures c.loop-literal-test.true
+    c.literal-item.result c.literal-item.result _ _ _ c.literal-item.is c.loop-literal.invariant c.put_arrow.ensures
+    c.loop-literal-test.true
 
 pub returns : goal.returns
 returns g c =
