@@ -31,7 +31,7 @@ use Rattle.aig_command.specs.Asked.{file, number_in, Asked, AsksWithinLimits, as
 use Rattle.aig_command.specs.Asked.{faults, frames, limit, number, refused}
 use Rattle.aig_command.specs.Asked.{aigmiter, aigunroll, asked_reaching, asks, comparison, conversion, is_given}
 use Rattle.aig_command.specs.Asked.{options_refusal, proving}
-use Rattle.aig_command.specs.Asked.{reaching, simulation, sync_refusal, to_aig, unrolling}
+use Rattle.aig_command.specs.Asked.{reaching, simulation, source_refusal, sync_refusal, to_aig, unless_packed, unrolling}
 use Rattle.aig_command.specs.Aiger.{aiger, largest_index, max_var, most_frames, frames as frames_rule}
 use Rattle.aig_command.specs.declared.request.Command.TheVariants as commands
 use Rattle.aig_command.specs.declared.request.SolverFile.{SolverFile}
@@ -321,12 +321,18 @@ within words e =
     let past = second_empty (walk_fault a.top (names_of a) (walk_from nothing_held) after) _ e in
     entered_within (stop_at words) (first_empty (entered_fault a (stop_at words)) _ past)
 
+packed_within : (o : Option Asked) → IfSome o AsksWithinLimits → IfSome (option_map unless_packed o) AsksWithinLimits
+packed_within None h = tt
+packed_within (Some (asks files command)) h = unless_refused (source_refusal files) (asks files command) h
+packed_within (Some (refused reason)) h = tt
+
 pub command_within : (words : List Text) → IfSome (command_of words) AsksWithinLimits
 command_within words = go (faults words) (within words)
   where
     go : (ks : Kinds) → (ks ≡ [] → IfSome (option_and_then asked_by (subcommand_of aiger words)) AsksWithinLimits)
-        → IfSome (cond (length ks == 0) (option_and_then asked_by (subcommand_of aiger words)) None) AsksWithinLimits
-    go [] h = h refl
+        → IfSome (cond (length ks == 0)
+        (option_map unless_packed (option_and_then asked_by (subcommand_of aiger words))) None) AsksWithinLimits
+    go [] h = packed_within (option_and_then asked_by (subcommand_of aiger words)) (h refl)
     go (k ∷ ks) h =
         let some : (length (k ∷ ks) == 0) ≡ false = ne_eqb (length (k ∷ ks)) 0 (λ none. omega arith) in
         rw some tt

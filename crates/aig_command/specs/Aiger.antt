@@ -46,7 +46,7 @@ abbrev pub to_aig : App
 to_aig = with_rules (new_app (codes "aigtoaig"))
     (flag (codes "ascii") ∷ flag (codes "strip") ∷ flag (codes "keep-map") ∷ flag (codes "undo-map")
     ∷ flag (codes "outputs-as-bad") ∷ property_option (codes "justice-as-bad") ∷ flag (codes "simplify")
-    ∷ flag (codes "sync") ∷ max_var ∷ new_rule (codes "source") ∷ new_rule (codes "destination") ∷ [])
+    ∷ flag (codes "sync") ∷ flag (codes "force") ∷ max_var ∷ new_rule (codes "source") ∷ new_rule (codes "destination") ∷ [])
 
 -- the name of a file that has to be given
 abbrev pub required_file : Text → Rule
@@ -77,12 +77,12 @@ aigunroll = with_rules (new_app (codes "aigunroll"))
     (frames ∷ flag (codes "ascii") ∷ flag (codes "cnf") ∷ solver_file (codes "answer")
     ∷ solver_file (codes "refutation") ∷ flag (codes "lrat") ∷ solver_file (codes "invariant")
     ∷ property_option (codes "bad") ∷ property_option (codes "justice") ∷ flag (codes "simplify")
-    ∷ flag (codes "sync") ∷ max_var ∷ new_rule (codes "source") ∷ new_rule (codes "destination") ∷ [])
+    ∷ flag (codes "sync") ∷ flag (codes "force") ∷ max_var ∷ new_rule (codes "source") ∷ new_rule (codes "destination") ∷ [])
 
 -- `aigmiter`: its options in any order, then the names of the two circuits and of the destination, by place
 abbrev pub aigmiter : App
 aigmiter = with_rules (new_app (codes "aigmiter"))
-    (flag (codes "by-name") ∷ flag (codes "ascii") ∷ flag (codes "simplify") ∷ flag (codes "sync") ∷ max_var
+    (flag (codes "by-name") ∷ flag (codes "ascii") ∷ flag (codes "simplify") ∷ flag (codes "sync") ∷ flag (codes "force") ∷ max_var
     ∷ required_file (codes "first") ∷ required_file (codes "second") ∷ new_rule (codes "destination") ∷ [])
 
 -- a command that has to be given a subcommand, answers with help where nothing is given, and has a version, as its

@@ -1,15 +1,16 @@
 -- What is answered to a command line (this project's profile).
-use Rattle.std.specs.Prelude.{◌≡◌, ◌≢◌, ◌<◌, ◌≤◌, ◌||◌, List, ◌∷◌, ◌++◌, Bool, true, false, drop, map, nat_eq, Option}
+use Rattle.std.specs.Prelude.{◌≡◌, ◌≢◌, ◌<◌, ◌≤◌, ◌||◌, ◌&&◌, not, List, ◌∷◌, ◌++◌, Bool, true, false, drop, map, nat_eq, Option}
 use Rattle.std.specs.Prelude.{Some, None}
 use Rattle.std.specs.Prelude.{Result, Ok, Err, codes, option_map, String, string_bytes, string_len, ⊤}
 use Rattle.std.specs.Global.{Global}
 use Rattle.std.specs.List.{list_any, starts_with}
+use Rattle.std.specs.Option.{is_none}
 use Rattle.std.specs.Str.{bytes_eq}
 use Rattle.clap.specs.Words.{IsAmong, Text, takes}
 use Rattle.clap.specs.declared.error.kind.ErrorKind.{ErrorKind}
 use Rattle.clap.specs.declared.error.kind.ErrorKind.TheVariants.{DisplayHelp, DisplayVersion, OutOfMemory}
 use Rattle.aig_command.specs.Aiger.{aiger, most_frames}
-use Rattle.aig_command.specs.Asked.{Asked, Files, asks, command_of, faults, refused}
+use Rattle.aig_command.specs.Asked.{Asked, Files, asks, command_of, faults, refused, writes_binary}
 use Rattle.aig_command.specs.declared.builder.TheConstants.{VERSION}
 use Rattle.aig_command.specs.declared.request.BadStates.TheVariants.{Kept}
 use Rattle.aig_command.specs.declared.request.Invariant.{Invariant}
@@ -19,6 +20,7 @@ use Rattle.aig_command.specs.declared.request.Sim.{Sim}
 use Rattle.aig_command.specs.declared.request.ToAig.{ToAig}
 use Rattle.aig_command.specs.declared.request.Unroll.{Unroll}
 use Rattle.aig_command.specs.declared.request.Command.{Command}
+use Rattle.aig_command.specs.declared.request.CommandLine.{CommandLine}
 use Rattle.aig_command.specs.declared.request.Command.TheVariants as commands
 use Rattle.aig_command.specs.declared.usage.Usage.{Usage}
 use Rattle.aig_command.specs.declared.usage.Usage.TheVariants as usage
@@ -70,6 +72,10 @@ version_text = codes "aiger " ++ VERSION.now ++ codes "\n"
 -- `clap` does not take the arguments, and this is what it finds wrong with them
 abbrev pub IsWrong : List Text → ErrorKind → Type 0
 IsWrong words kind = IsAmong kind (faults words) × (takes aiger words ≡ false)
+
+-- the command writes binary to the standard output, and that is not forced
+abbrev pub is_binary_stream : CommandLine → Bool
+is_binary_stream line = writes_binary line.command && is_none (name_of line.names.destination) && not line.force
 
 -- the command, with the files of these names, is what the arguments ask for; a text that is shown has a byte at least,
 -- and no file is named with it

@@ -3,12 +3,14 @@ use Rattle.std.specs.Prelude.{ℕ, ◌≤◌, ⊤, List, [], ◌∷◌, ◌==◌
 use Rattle.std.specs.Prelude.{Option, Some, None, unwrap_or, option_and_then, option_map, find}
 use Rattle.std.specs.Prelude.{codes, if◌then◌else◌, is_some, not, true}
 use Rattle.std.specs.List.{ends_with, list_all}
-use Rattle.std.specs.Option.{is_none, option_map_or}
+use Rattle.std.specs.Option.{is_none, option_map_or, option_or}
 use Rattle.std.specs.Char.{digit_value}
 use Rattle.std.specs.Str.{bytes_eq}
 use Rattle.std.specs.Str.Parse.{digits_value, without_leading_plus}
 use Rattle.clap.specs.Words.{Kinds, Row, Text, fault_of, first_of, one_of, subcommand_of}
 use Rattle.aig_command.specs.Aiger.{aiger, largest_index, most_frames}
+use Rattle.aig_command.specs.declared.packed.Packer.{Packer}
+use Rattle.aig_command.specs.declared.packed.Packer.TheVariants as packers
 use Rattle.aig_command.specs.declared.request.BadStates.{BadStates}
 use Rattle.aig_command.specs.declared.request.BadStates.TheVariants as bads
 use Rattle.aig_command.specs.declared.request.Command.{Command}
@@ -72,10 +74,18 @@ ends_in ending named = option_map_or (λ name. ends_with nat_eq name ending) nam
 abbrev pub wants_ascii : List Row → Option Text → Bool
 wants_ascii rows destination = is_set (codes "ascii") rows || ends_in (codes ".aag") destination
 
+-- the program that packed the file, by its name
+abbrev pub packer_of : Option Text → Option Packer
+packer_of named =
+    if ends_in (codes ".gz") named then Some packers.Gzip
+    else if ends_in (codes ".xz") named then Some packers.Xz
+    else if ends_in (codes ".zst") named then Some packers.Zstd
+    else if ends_in (codes ".bz2") named then Some packers.Bzip2
+    else None
+
 -- the reason to refuse a destination
 abbrev pub destination_refusal : Option Text → Option Usage
-destination_refusal destination =
-    if ends_in (codes ".gz") destination then Some usage.CompressedOutput else None
+destination_refusal destination = option_map usage.CompressedOutput (packer_of destination)
 
 -- the reason to refuse to wait for the disk: there is no file to wait for
 abbrev pub sync_refusal : List Row → Option Usage
@@ -365,6 +375,17 @@ aigmiter rows =
     option_map_or refused (miter_refusal files)
     (option_map_or refused (sync_refusal rows) (asks files (commands.Miter (comparison rows files.destination))))
 
+-- the reason to refuse the files that are read
+abbrev pub source_refusal : Files → Option Usage
+source_refusal files =
+    option_map usage.CompressedInput
+    (option_or (packer_of files.model) (option_or (packer_of files.file) (packer_of files.refutation)))
+
+-- what is asked for, if no file that is read was packed
+abbrev pub unless_packed : Asked → Asked
+unless_packed (asks files command) = option_map_or refused (source_refusal files) (asks files command)
+unless_packed (refused reason) = refused reason
+
 -- each subcommand: its name, and what its arguments ask for
 abbrev pub subcommands : List (Text × (List Row → Asked))
 subcommands =
@@ -381,10 +402,32 @@ faults = fault_of aiger
 
 -- what the arguments ask for, the program's name first, where `clap` takes them
 abbrev pub command_of : List Text → Option Asked
-command_of words = if length (faults words) == 0 then option_and_then asked_by (subcommand_of aiger words) else None
+command_of words =
+    if length (faults words) == 0
+    then option_map unless_packed (option_and_then asked_by (subcommand_of aiger words)) else None
+
+-- the command that `clap` takes has this option
+abbrev pub asks_option : Text → List Text → Bool
+asks_option name words =
+    if length (faults words) == 0
+    then option_map_or (λ met. is_set name met.1) (subcommand_of aiger words) false else false
 
 -- The disk is to have the destination before the program ends. No text depends on it.
 abbrev pub asks_sync : List Text → Bool
-asks_sync words =
-    if length (faults words) == 0
-    then option_map_or (λ met. is_set (codes "sync") met.1) (subcommand_of aiger words) false else false
+asks_sync = asks_option (codes "sync")
+
+-- Binary may go to a terminal. No text depends on it.
+abbrev pub asks_force : List Text → Bool
+asks_force = asks_option (codes "force")
+
+-- what is written of an unrolled circuit is binary
+abbrev pub is_binary : UnrolledForm → Bool
+is_binary forms.Binary = true
+is_binary form = false
+
+-- the command writes a circuit in binary
+abbrev pub writes_binary : Command → Bool
+writes_binary (commands.ToAig request) = not request.ascii
+writes_binary (commands.Unroll request) = is_binary request.form
+writes_binary (commands.Miter request) = not request.ascii
+writes_binary command = false

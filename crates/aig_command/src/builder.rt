@@ -332,6 +332,8 @@ const SYNC_HELP: &str = "\
 End only once the disk has the destination; not for
 the standard output";
 
+const FORCE_HELP: &str = "Write binary even to a terminal";
+
 const ASCII_HELP: &str = "Write ASCII, whatever the destination is named";
 
 const SOURCE_HELP: &str = "The file to read; - or none is the standard input";
@@ -468,6 +470,7 @@ fn to_aig<'a>(alloc: Global) -> Result<Command<'a>, AllocError>
     );
     let command = with_argument(command, flag(alloc, "simplify", SIMPLIFY_HELP));
     let command = with_argument(command, flag(alloc, "sync", SYNC_HELP));
+    let command = with_argument(command, flag(alloc, "force", FORCE_HELP));
     let command = with_argument(command, max_var(alloc));
     let command = with_argument(command, file(alloc, "source", SOURCE_HELP));
     with_argument(command, file(alloc, "destination", DESTINATION_HELP))
@@ -507,6 +510,7 @@ fn aigunroll<'a>(alloc: Global) -> Result<Command<'a>, AllocError>
     let command = with_argument(command, property_option(alloc, "justice", JUSTICE_HELP));
     let command = with_argument(command, flag(alloc, "simplify", SIMPLIFY_UNROLLED_HELP));
     let command = with_argument(command, flag(alloc, "sync", SYNC_HELP));
+    let command = with_argument(command, flag(alloc, "force", FORCE_HELP));
     let command = with_argument(command, max_var(alloc));
     let command = with_argument(command, file(alloc, "source", SOURCE_HELP));
     with_argument(command, file(alloc, "destination", DESTINATION_HELP))
@@ -520,6 +524,7 @@ fn aigmiter<'a>(alloc: Global) -> Result<Command<'a>, AllocError>
     let command = with_argument(command, flag(alloc, "ascii", ASCII_HELP));
     let command = with_argument(command, flag(alloc, "simplify", SIMPLIFY_MITER_HELP));
     let command = with_argument(command, flag(alloc, "sync", SYNC_HELP));
+    let command = with_argument(command, flag(alloc, "force", FORCE_HELP));
     let command = with_argument(command, max_var(alloc));
     let command = with_argument(command, required_file(alloc, "first", FIRST_HELP));
     let command = with_argument(command, required_file(alloc, "second", SECOND_HELP));

@@ -6,6 +6,7 @@ ghost use Rattle.aig_command.specs.Answer.{IsReason, name_of};
 ghost use Rattle.aig_command.specs.Asked.{destination_refusal, ends_in, sync_refusal, wants_ascii};
 
 use crate::options::{is_named, is_set};
+use crate::packed::packer_of;
 use crate::usage::Usage;
 use clap::ArgMatches;
 
@@ -15,7 +16,7 @@ fn has_ending(name: &str, ending: &str) -> bool
     name.ends_with(ending)
 }
 
-fn ends_in(named: &Option<String>, ending: &str) -> bool
+pub(crate) fn ends_in(named: &Option<String>, ending: &str) -> bool
     ensures { result ≡ ends_in ending.now (name_of named.now) }
 {
     match named {
@@ -35,10 +36,10 @@ pub(crate) fn check_destination(destination: &Option<String>) -> Result<(), Usag
     ensures err { IfErr result (λ reason. IsReason reason
         × (destination_refusal (name_of destination.now) ≡ Some reason)) }
 {
-    if ends_in(destination, ".gz") {
-        return Err(Usage::CompressedOutput);
+    match packer_of(destination) {
+        Some(packer) => Err(Usage::CompressedOutput(packer)),
+        None => Ok(()),
     }
-    Ok(())
 }
 
 pub(crate) fn check_sync(matches: &ArgMatches<'_>) -> Result<(), Usage>

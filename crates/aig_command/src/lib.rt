@@ -12,6 +12,7 @@ mod hints;
 pub mod laws;
 mod miter;
 mod options;
+mod packed;
 mod proving;
 mod reach;
 mod reader;
@@ -22,6 +23,7 @@ mod unroll;
 mod usage;
 
 pub use crate::builder::VERSION;
+pub use crate::packed::Packer;
 pub use crate::reader::command;
 pub use crate::request::{
     BadStates, Command, CommandLine, Invariant, Miter, Names, Property, Reach, Sim, SolverFile,

@@ -1,6 +1,6 @@
 //! What a command line asks for.
-ghost use Rattle.std.specs.Prelude.{◌≡◌, ◌<◌, codes, false, IfErr, IfOk, IfSome, is_some};
-ghost use Rattle.std.specs.Prelude.{option_and_then, string_bytes, string_len, true};
+ghost use Rattle.std.specs.Prelude.{◌≡◌, ◌<◌, false, IfErr, IfOk, IfSome, is_some};
+ghost use Rattle.std.specs.Prelude.{option_and_then, option_map, string_bytes, string_len, true};
 ghost use Rattle.std.specs.List.{list_any};
 ghost use Rattle.std.specs.Option.{option_map_or};
 ghost use Rattle.clap.specs.Words.{FailsBy, HasMatchesOf, kind_of, subcommand_rows_of, takes};
@@ -9,12 +9,14 @@ ghost use Rattle.aig_command.specs.Aiger.{aiger};
 ghost use Rattle.aig_command.specs.Answer.{asks_for, asks_for_help, begins_with_help, CanDo};
 ghost use Rattle.aig_command.specs.Answer.{is_option, texts, version_text};
 ghost use Rattle.aig_command.specs.Answer.{IsAnswer, IsCommand, IsErrorAnswer, IsUsage, no_names};
-ghost use Rattle.aig_command.specs.Asked.{asked_by, asks_sync, AsksWithinLimits, faults, is_set};
+ghost use Rattle.aig_command.specs.Asked.{asked_by, asks_force, asks_sync, AsksWithinLimits, faults, is_set};
+ghost use Rattle.aig_command.specs.Asked.{unless_packed};
 
 use crate::builder::{VERSION, aiger};
 use crate::hints::with_hint;
 use crate::miter::aigmiter;
 use crate::options::is_set;
+use crate::packed::check_sources;
 use crate::request::{Command, CommandLine, Names};
 use crate::sim::aigsim;
 use crate::to_aig::to_aig;
@@ -53,13 +55,28 @@ fn read_matches(alloc: Global, matches: &ArgMatches<'_>) -> Result<(Names, Comma
     }
 }
 
-/// Whether the options of the command have `--sync`.
-fn asks_sync(matches: &ArgMatches<'_>) -> bool
-    ensures { result ≡ option_map_or (λ met. is_set (codes "sync") met.1)
+/// What the options and the files of a command ask for, of which none that is read is packed.
+fn read_command(alloc: Global, matches: &ArgMatches<'_>) -> Result<(Names, Command), Usage>
+    requires known { is_some (option_and_then asked_by (subcommand_rows_of matches.now)) ≡ true }
+    requires within { IfSome (option_and_then asked_by (subcommand_rows_of matches.now))
+        AsksWithinLimits }
+    ensures answer { IfSome (option_map unless_packed
+        (option_and_then asked_by (subcommand_rows_of matches.now))) (λ asked.
+        IsAnswer asked result) }
+    ensures can_do { IfOk result (λ answer. CanDo answer.0 answer.1) }
+{
+    let (names, command) = read_matches(alloc, matches)?;
+    check_sources(&names)?;
+    Ok((names, command))
+}
+
+/// Whether this is one of the options of the command.
+fn asks_option(matches: &ArgMatches<'_>, name: &str) -> bool
+    ensures { result ≡ option_map_or (λ met. is_set name.now met.1)
         (subcommand_rows_of matches.now) false }
 {
     match matches.subcommand() {
-        Some((_, words)) => is_set(words, "sync"),
+        Some((_, words)) => is_set(words, name),
         None => false,
     }
 }
@@ -154,15 +171,17 @@ pub fn command(alloc: Global, words: &[String]) -> Result<CommandLine, Usage>
     ensures ok { IfOk result (λ line. IsCommand (texts words.now) line.names line.command) }
     ensures can_do { IfOk result (λ line. CanDo line.names line.command) }
     ensures sync { IfOk result (λ line. line.sync ≡ asks_sync (texts words.now)) }
+    ensures force { IfOk result (λ line. line.force ≡ asks_force (texts words.now)) }
     ensures err { IfErr result (IsUsage (texts words.now)) }
 {
     match parse(alloc, words) {
         Ok(matches) => {
-            let (names, command) = read_matches(alloc, &matches)?;
+            let (names, command) = read_command(alloc, &matches)?;
             Ok(CommandLine {
                 command,
                 names,
-                sync: asks_sync(&matches),
+                sync: asks_option(&matches, "sync"),
+                force: asks_option(&matches, "force"),
             })
         }
         Err(error) => Ok(CommandLine {
@@ -174,6 +193,7 @@ pub fn command(alloc: Global, words: &[String]) -> Result<CommandLine, Usage>
                 destination: None,
             },
             sync: false,
+            force: false,
         }),
     }
 }

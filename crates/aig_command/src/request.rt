@@ -1,4 +1,7 @@
 //! What a user asks for.
+ghost use Rattle.std.specs.Prelude.{◌≡◌};
+ghost use Rattle.aig_command.specs.Answer.{is_binary_stream};
+ghost use Rattle.aig_command.specs.Asked.{is_binary, writes_binary};
 
 /// Which bad states a conversion writes.
 #[derive(Clone, Copy)]
@@ -192,4 +195,37 @@ pub struct CommandLine {
     /// Whether the disk is to have the destination before the program ends. This stands only where
     /// the destination has a name.
     pub sync: bool,
+    /// Whether binary may go to a terminal.
+    pub force: bool,
+}
+
+impl UnrolledForm {
+    fn is_binary(self) -> bool
+        ensures { result ≡ is_binary self }
+    {
+        matches!(self, UnrolledForm::Binary)
+    }
+}
+
+impl Command {
+    fn writes_binary(&self) -> bool
+        ensures { result ≡ writes_binary self.now }
+    {
+        match self {
+            Command::ToAig(request) => !request.ascii,
+            Command::Unroll(request) => request.form.is_binary(),
+            Command::Miter(request) => !request.ascii,
+            _ => false,
+        }
+    }
+}
+
+impl CommandLine {
+    /// Whether binary is written to the standard output, which is not forced: to a terminal it
+    /// would only garble that.
+    pub fn is_binary_stream(&self) -> bool
+        ensures { result ≡ is_binary_stream self.now }
+    {
+        self.command.writes_binary() && self.names.destination.is_none() && !self.force
+    }
 }

@@ -3,6 +3,7 @@ ghost use Rattle.std.specs.Prelude.{◌≡◌, Some};
 ghost use Rattle.aig_command.specs.declared.usage.Usage.TheVariants as usage;
 ghost use Rattle.aig_command.specs.Words.{usage_words};
 
+use crate::packed::Packer;
 use std::alloc::AllocError;
 use std::error::Error;
 use std::fmt;
@@ -29,7 +30,9 @@ pub enum Usage {
     /// A simulation reads both its model and its stimulus from the standard input.
     BothStandardInput,
     /// The destination's name is that of a compressed file.
-    CompressedOutput,
+    CompressedOutput(Packer),
+    /// The name of a file that is read is that of a compressed file.
+    CompressedInput(Packer),
     /// A witness is judged, and a batch or properties in a trace are asked for too.
     WitnessAlone,
     /// A dump is asked for, which always has the properties, and with it properties.
@@ -66,6 +69,8 @@ pub enum Usage {
     CircuitsAreStandardInput,
     /// The disk is to have a destination that is the standard output.
     SyncNeedsDestination,
+    /// Binary is to go to the standard output, which is a terminal.
+    BinaryToTerminal,
     /// An allocation failed; nothing is known of the command line.
     OutOfMemory,
 }
@@ -87,7 +92,8 @@ impl Usage {
                 "--justice-as-bad excludes --outputs-as-bad, --keep-map and --undo-map"
             }
             Usage::BothStandardInput => "model and stimulus are both standard input",
-            Usage::CompressedOutput => "compressed output is not supported",
+            Usage::CompressedOutput(packer) => packer.packed_words(),
+            Usage::CompressedInput(packer) => packer.unpacked_words(),
             Usage::WitnessAlone => "--witness stands alone",
             Usage::VcdExcludesProperties => "--vcd excludes --properties",
             Usage::CnfExcludesAscii => "--cnf excludes --ascii",
@@ -106,6 +112,9 @@ impl Usage {
             Usage::RefutationIsInvariant => "invariant and refutation are both standard input",
             Usage::CircuitsAreStandardInput => "both circuits are standard input",
             Usage::SyncNeedsDestination => "--sync needs the name of a destination",
+            Usage::BinaryToTerminal => {
+                "binary output to a terminal is refused: name a file, or use --ascii or --force"
+            }
             Usage::OutOfMemory => "out of memory",
         }
     }

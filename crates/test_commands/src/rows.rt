@@ -37,7 +37,10 @@ aigtoaig -- --sync b => 2147483647 --sync b;\
 aigtoaig --max-var 0 => 0 - -;\
 aigtoaig a --max-var=2147483647 b => 2147483647 a b;\
 aigtoaig --max-var +007 => 7 - -;\
-aigtoaig a.gz => 2147483647 a.gz -;\
+aigtoaig a.GZ => 2147483647 a.GZ -;\
+aigtoaig a.gz.aig gz => 2147483647 a.gz.aig gz;\
+aigtoaig --force a => force 2147483647 a -;\
+aigtoaig a --ascii --force b --sync => sync force ascii 2147483647 a b;\
 aigtoaig help => 2147483647 help -;\
 aigtoaig a <> => 2147483647 a <>;\
 aigtoaig -- --ascii --help => 2147483647 --ascii --help;\
@@ -62,7 +65,7 @@ aigsim --max-var 2147483647 m => 2147483647 m -;\
 aigsim m --max-var +007 => 7 m -;\
 aigsim - <> => 2147483647 - <>;\
 aigsim <> => 2147483647 <> -;\
-aigsim m.aag s.gz => 2147483647 m.aag s.gz;\
+aigsim m.aag s.gzip => 2147483647 m.aag s.gzip;\
 aigsim aigtoaig help => 2147483647 aigtoaig help;\
 aigsim -- --properties --help => 2147483647 --properties --help;\
 aigsim --batch -- - --batch => batch 2147483647 - --batch;\
@@ -71,7 +74,7 @@ aigsim --witness m => witness 2147483647 m -;\
 aigsim --witness m - => witness 2147483647 m -;\
 aigsim - --witness w => witness 2147483647 - w;\
 aigsim m w --witness --max-var 7 => witness 7 m w;\
-aigsim --witness m w.gz => witness 2147483647 m w.gz;\
+aigsim --witness m w.zs => witness 2147483647 m w.zs;\
 aigsim --witness -- --batch --properties => witness 2147483647 --batch --properties;\
 aigsim --batch -- m --witness => batch 2147483647 m --witness;\
 aigsim --vcd m => vcd 2147483647 m -;\
@@ -99,7 +102,8 @@ aigunroll --ascii --frames 2 - - => 2 ascii 2147483647 - -;\
 aigunroll --ascii --frames 2 a b.aig => 2 ascii 2147483647 a b.aig;\
 aigunroll --max-var 7 --frames 3 => 3 7 - -;\
 aigunroll --frames 3 --max-var=0 a => 3 0 a -;\
-aigunroll --frames 2 a.gz => 2 2147483647 a.gz -;\
+aigunroll --frames 2 a.xzz => 2 2147483647 a.xzz -;\
+aigunroll --frames 2 --force => force 2 2147483647 - -;\
 aigunroll --frames 2 aigsim help => 2 2147483647 aigsim help;\
 aigunroll --frames 2 - <> => 2 2147483647 - <>;\
 aigunroll --frames 2 -- --frames --help => 2 2147483647 --frames --help;\
@@ -125,7 +129,7 @@ aigunroll --answer a --simplify --frames 2 m => 2 any simplify 2147483647 m answ
 aigunroll --frames 2 --answer a => 2 any 2147483647 - answer a -;\
 aigunroll --frames 2 - w --answer a => 2 any 2147483647 - answer a w;\
 aigunroll --frames 2 --answer a m w.aag => 2 any 2147483647 m answer a w.aag;\
-aigunroll --frames 2 --answer a.gz m.gz => 2 any 2147483647 m.gz answer a.gz -;\
+aigunroll --frames 2 --answer agz mgz => 2 any 2147483647 mgz answer agz -;\
 aigunroll --frames 2 --bad 0 --answer a m => 2 0 2147483647 m answer a -;\
 aigunroll --answer a --bad=2147483647 m --frames 2 => 2 2147483647 2147483647 m answer a -;\
 aigunroll --max-var 7 --frames 2 --answer m m m => 2 any 7 m answer m m;\
@@ -143,7 +147,7 @@ aigunroll --frames 2 --refutation p m --simplify => 2 any simplify 2147483647 m 
 aigunroll --refutation - --frames 2 m --lrat => 2 any 2147483647 m lrat - -;\
 aigunroll --frames 2 --refutation p m -- --lrat => 2 any 2147483647 m refutation p --lrat;\
 aigunroll --frames 2 - r --refutation p => 2 any 2147483647 - refutation p r;\
-aigunroll --frames 2 --refutation p.gz m.gz r.aag => 2 any 2147483647 m.gz refutation p.gz r.aag;\
+aigunroll --frames 2 --refutation p.bz m.bz r.aag => 2 any 2147483647 m.bz refutation p.bz r.aag;\
 aigunroll --frames 2 --bad 0 --refutation p m => 2 0 2147483647 m refutation p -;\
 aigunroll --refutation p --bad=2147483647 m --frames 2 => 2 2147483647 2147483647 m refutation p -;\
 aigunroll --max-var 7 --frames 2 --refutation m m m => 2 any 7 m refutation m m;\
@@ -163,7 +167,7 @@ aigunroll --invariant i --refutation p --simplify m \
 aigunroll --invariant - --cnf m => any 2147483647 m - clauses -;\
 aigunroll --invariant i --cnf => any 2147483647 - i clauses -;\
 aigunroll --cnf - d --invariant i => any 2147483647 - i clauses d;\
-aigunroll --invariant i.gz --cnf m.gz d.aag => any 2147483647 m.gz i.gz clauses d.aag;\
+aigunroll --invariant i.zstd --cnf m.zstd d.aag => any 2147483647 m.zstd i.zstd clauses d.aag;\
 aigunroll --invariant i --bad 0 --cnf m => 0 2147483647 m i clauses -;\
 aigunroll --max-var 7 --invariant m --cnf --bad=2147483647 m m => 2147483647 7 m m clauses m;\
 aigunroll --invariant <> --cnf => any 2147483647 - <> clauses -;\
@@ -176,8 +180,8 @@ aigunroll --refutation - --invariant i m => any 2147483647 m i refutation - -;\
 aigunroll --invariant i --refutation p => any 2147483647 - i refutation p -;\
 aigunroll --lrat --invariant i --refutation p m => any 2147483647 m i lrat p -;\
 aigunroll - d --refutation p --invariant i => any 2147483647 - i refutation p d;\
-aigunroll --invariant i.gz --refutation p.gz m.gz d.aag \
-=> any 2147483647 m.gz i.gz refutation p.gz d.aag;\
+aigunroll --invariant i.z --refutation p.z m.z d.aag \
+=> any 2147483647 m.z i.z refutation p.z d.aag;\
 aigunroll --bad 1 --max-var=0 --invariant m --refutation m m m => 1 0 m m refutation m m;\
 aigunroll --invariant <> --refutation <> => any 2147483647 - <> refutation <> -;\
 aigunroll --invariant frames --refutation cnf -- --cnf --ascii \
@@ -192,7 +196,8 @@ aigmiter a b m.aag => ascii 2147483647 a b m.aag;\
 aigmiter --ascii a b - => ascii 2147483647 a b -;\
 aigmiter - b m => 2147483647 - b m;\
 aigmiter a - m => 2147483647 a - m;\
-aigmiter a.gz a.gz a.aig => 2147483647 a.gz a.gz a.aig;\
+aigmiter a.XZ a.XZ a.aig => 2147483647 a.XZ a.XZ a.aig;\
+aigmiter a b --force => force 2147483647 a b -;\
 aigmiter --by-name a.aag b.aag => by-name 2147483647 a.aag b.aag -;\
 aigmiter a --max-var=7 b --by-name --sync m.aag => sync ascii by-name 7 a b m.aag;\
 aigmiter --simplify a b m.aag => ascii simplify 2147483647 a b m.aag;\
@@ -218,20 +223,49 @@ aigtoaig --simplify --keep-map --undo-map => --keep-map excludes --undo-map;\
 aigtoaig --outputs-as-bad --simplify --keep-map => --keep-map excludes --simplify;\
 aigtoaig --justice-as-bad 1 --keep-map --simplify => --keep-map excludes --simplify;\
 aigtoaig --keep-map --simplify - x.gz => --keep-map excludes --simplify;\
-aigtoaig --simplify - x.gz => compressed output is not supported;\
+aigtoaig --simplify - x.gz => compressed output is not supported: use aiger COMMAND .. - | gzip > FILE.gz;\
 aigunroll --simplify => --frames or --invariant is needed;\
 aigunroll --simplify --invariant i => --invariant needs --cnf or --refutation;\
 aigtoaig --outputs-as-bad --strip --keep-map => --keep-map excludes --strip;\
 aigtoaig --outputs-as-bad --undo-map --keep-map => --keep-map excludes --undo-map;\
 aigtoaig --outputs-as-bad --keep-map => --outputs-as-bad excludes --keep-map;\
 aigtoaig --undo-map --outputs-as-bad - x.gz => --outputs-as-bad excludes --undo-map;\
-aigtoaig --outputs-as-bad --strip - x.gz => compressed output is not supported;\
+aigtoaig --outputs-as-bad --strip - x.gz => compressed output is not supported: use aiger COMMAND .. - | gzip > FILE.gz;\
 aigtoaig --justice-as-bad 1 --outputs-as-bad => --justice-as-bad excludes --outputs-as-bad, --keep-map and --undo-map;\
 aigtoaig --keep-map --justice-as-bad 1 => --justice-as-bad excludes --outputs-as-bad, --keep-map and --undo-map;\
 aigtoaig --justice-as-bad 1 --undo-map => --justice-as-bad excludes --outputs-as-bad, --keep-map and --undo-map;\
-aigtoaig --justice-as-bad 1 - x.gz => compressed output is not supported;\
-aigtoaig - x.aig.gz => compressed output is not supported;\
-aigtoaig --ascii - .gz => compressed output is not supported;\
+aigtoaig --justice-as-bad 1 - x.gz => compressed output is not supported: use aiger COMMAND .. - | gzip > FILE.gz;\
+aigtoaig - x.aig.gz => compressed output is not supported: use aiger COMMAND .. - | gzip > FILE.gz;\
+aigtoaig --ascii - .gz => compressed output is not supported: use aiger COMMAND .. - | gzip > FILE.gz;\
+aigtoaig - x.aag.xz => compressed output is not supported: use aiger COMMAND .. - | xz > FILE.xz;\
+aigtoaig --force - x.zst => compressed output is not supported: use aiger COMMAND .. - | zstd > FILE.zst;\
+aigtoaig - x.bz2 => compressed output is not supported: use aiger COMMAND .. - | bzip2 > FILE.bz2;\
+aigtoaig - x.gz.bz2 => compressed output is not supported: use aiger COMMAND .. - | bzip2 > FILE.bz2;\
+aigtoaig a.gz => compressed input is not supported: use gzip -dc FILE.gz | aiger COMMAND .. - ..;\
+aigtoaig .gz b.aag => compressed input is not supported: use gzip -dc FILE.gz | aiger COMMAND .. - ..;\
+aigtoaig a.gz b.xz => compressed output is not supported: use aiger COMMAND .. - | xz > FILE.xz;\
+aigtoaig --keep-map --strip a.gz => --keep-map excludes --strip;\
+aigtoaig --sync a.gz => --sync needs the name of a destination;\
+aigtoaig --forc a => words;\
+aigtoaig --force --force a => words;\
+aigsim --force m => words;\
+aigsim m.gz => compressed input is not supported: use gzip -dc FILE.gz | aiger COMMAND .. - ..;\
+aigsim m s.xz => compressed input is not supported: use xz -dc FILE.xz | aiger COMMAND .. - ..;\
+aigsim m.bz2 s.zst => compressed input is not supported: use bzip2 -dc FILE.bz2 | aiger COMMAND .. - ..;\
+aigsim --witness m w.zst => compressed input is not supported: use zstd -dc FILE.zst | aiger COMMAND .. - ..;\
+aigsim --vcd --properties m.gz => --vcd excludes --properties;\
+aigunroll --frames 2 a.gz => compressed input is not supported: use gzip -dc FILE.gz | aiger COMMAND .. - ..;\
+aigunroll --frames 2 --answer a.xz - \
+=> compressed input is not supported: use xz -dc FILE.xz | aiger COMMAND .. - ..;\
+aigunroll --frames 2 --refutation p.zst m.gz \
+=> compressed input is not supported: use gzip -dc FILE.gz | aiger COMMAND .. - ..;\
+aigunroll --frames 2 --refutation p.zst m \
+=> compressed input is not supported: use zstd -dc FILE.zst | aiger COMMAND .. - ..;\
+aigunroll --invariant i.bz2 --cnf m => compressed input is not supported: use bzip2 -dc FILE.bz2 | aiger COMMAND .. - ..;\
+aigunroll --invariant i --refutation p.xz m \
+=> compressed input is not supported: use xz -dc FILE.xz | aiger COMMAND .. - ..;\
+aigmiter a.gz - => compressed input is not supported: use gzip -dc FILE.gz | aiger COMMAND .. - ..;\
+aigmiter - b.xz => compressed input is not supported: use xz -dc FILE.xz | aiger COMMAND .. - ..;\
 aigsim - => model and stimulus are both standard input;\
 aigsim - - => model and stimulus are both standard input;\
 aigsim --properties --max-var 7 -- - => model and stimulus are both standard input;\
@@ -252,17 +286,17 @@ aigsim --vcd --witness --batch m => --witness stands alone;\
 aigsim --properties --witness --vcd m => --witness stands alone;\
 aigmiter - - => both circuits are standard input;\
 aigmiter --by-name --sync - - m.gz => both circuits are standard input;\
-aigmiter a b m.gz => compressed output is not supported;\
+aigmiter a b m.gz => compressed output is not supported: use aiger COMMAND .. - | gzip > FILE.gz;\
 aigmiter --sync a b => --sync needs the name of a destination;\
 aigtoaig --sync => --sync needs the name of a destination;\
 aigtoaig --sync a => --sync needs the name of a destination;\
 aigtoaig a --sync - => --sync needs the name of a destination;\
 aigtoaig --sync --keep-map --ascii => --keep-map needs binary output;\
-aigtoaig --sync - x.gz => compressed output is not supported;\
+aigtoaig --sync - x.gz => compressed output is not supported: use aiger COMMAND .. - | gzip > FILE.gz;\
 aigsim --properties --vcd m => --vcd excludes --properties;\
 aigsim --batch --max-var 7 --vcd --properties - s => --vcd excludes --properties;\
-aigunroll --frames 2 - x.aig.gz => compressed output is not supported;\
-aigunroll --ascii --frames 2 a.aag .gz => compressed output is not supported;\
+aigunroll --frames 2 - x.aig.gz => compressed output is not supported: use aiger COMMAND .. - | gzip > FILE.gz;\
+aigunroll --ascii --frames 2 a.aag .gz => compressed output is not supported: use aiger COMMAND .. - | gzip > FILE.gz;\
 aigunroll --frames 2 --cnf --ascii => --cnf excludes --ascii;\
 aigunroll --ascii --frames 2 --answer - --bad 1 --cnf - x.gz => --cnf excludes --ascii;\
 aigunroll --frames 2 --answer a --cnf m => --answer excludes --cnf and --ascii;\
@@ -305,7 +339,7 @@ aigunroll --frames 2 --bad 1 --answer - - x.gz => model and answer are both stan
 aigunroll --frames 2 --refutation - => model and refutation are both standard input;\
 aigunroll --frames 2 --refutation - - => model and refutation are both standard input;\
 aigunroll --frames 2 --bad 1 --refutation - - x.gz => model and refutation are both standard input;\
-aigunroll --refutation p --frames 2 m x.gz => compressed output is not supported;\
+aigunroll --refutation p --frames 2 m x.gz => compressed output is not supported: use aiger COMMAND .. - | gzip > FILE.gz;\
 aigunroll => --frames or --invariant is needed;\
 aigunroll a.aig b.aig => --frames or --invariant is needed;\
 aigunroll - x.gz => --frames or --invariant is needed;\
@@ -345,10 +379,10 @@ aigunroll --refutation - --invariant i --bad 1 - x.gz \
 aigunroll --invariant - --refutation - m => invariant and refutation are both standard input;\
 aigunroll --refutation - --invariant - m x.gz \
 => invariant and refutation are both standard input;\
-aigunroll --invariant i --cnf m x.gz => compressed output is not supported;\
-aigunroll --invariant i --bad 1 --refutation p - x.gz => compressed output is not supported;\
-aigunroll --frames 2 --answer a m x.gz => compressed output is not supported;\
-aigunroll --frames 2 --bad 1 --cnf - x.gz => compressed output is not supported;\
+aigunroll --invariant i --cnf m x.gz => compressed output is not supported: use aiger COMMAND .. - | gzip > FILE.gz;\
+aigunroll --invariant i --bad 1 --refutation p - x.gz => compressed output is not supported: use aiger COMMAND .. - | gzip > FILE.gz;\
+aigunroll --frames 2 --answer a m x.gz => compressed output is not supported: use aiger COMMAND .. - | gzip > FILE.gz;\
+aigunroll --frames 2 --bad 1 --cnf - x.gz => compressed output is not supported: use aiger COMMAND .. - | gzip > FILE.gz;\
 aigtoaig --help => help;\
 aigtoaig -h => help;\
 help => help;\
@@ -709,8 +743,9 @@ fn shown_answer(
     match answered {
         Ok(line) => {
             let sync = if line.sync { "sync " } else { "" };
+            let force = if line.force { "force " } else { "" };
             let command = shown_command(alloc, &line.names, &line.command)?;
-            format!(in alloc; "{sync}{command}")
+            format!(in alloc; "{sync}{force}{command}")
         }
         Err(Usage::Words(_)) => String::from_str(alloc, "words"),
         Err(usage) => format!(in alloc; "{usage}"),
@@ -803,6 +838,7 @@ fn longest_of_help(answered: &Result<CommandLine, Usage>) -> Option<usize> {
                 command: Command::Help(text),
                 names: _,
                 sync: _,
+                force: _,
             },
         ) => Some(longest_line(text.as_str())),
         _ => None,

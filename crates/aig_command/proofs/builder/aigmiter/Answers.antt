@@ -7,7 +7,8 @@ returns c =
     let with2 = c.with_argument-command-2.ensures _ _ with1 c.flag-2.ensures in
     let with3 = c.with_argument-command-3.ensures _ _ with2 c.flag-3.ensures in
     let with4 = c.with_argument-command-4.ensures _ _ with3 c.flag-4.ensures in
-    let with5 = c.with_argument-command-5.ensures _ _ with4 c.max_var.ensures in
-    let with6 = c.with_argument-command-6.ensures _ _ with5 c.required_file.ensures in
-    let with7 = c.with_argument-command-7.ensures _ _ with6 c.required_file-2.ensures in
-    c.with_argument.ensures _ _ with7 c.file.ensures
+    let with5 = c.with_argument-command-5.ensures _ _ with4 c.flag-5.ensures in
+    let with6 = c.with_argument-command-6.ensures _ _ with5 c.max_var.ensures in
+    let with7 = c.with_argument-command-7.ensures _ _ with6 c.required_file.ensures in
+    let with8 = c.with_argument-command-8.ensures _ _ with7 c.required_file-2.ensures in
+    c.with_argument.ensures _ _ with8 c.file.ensures

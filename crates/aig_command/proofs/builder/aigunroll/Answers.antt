@@ -14,6 +14,7 @@ returns c =
     let with9 = c.with_argument-command-9.ensures _ _ with8 c.property_option-2.ensures in
     let with10 = c.with_argument-command-10.ensures _ _ with9 c.flag-4.ensures in
     let with11 = c.with_argument-command-11.ensures _ _ with10 c.flag-5.ensures in
-    let with12 = c.with_argument-command-12.ensures _ _ with11 c.max_var.ensures in
-    let with13 = c.with_argument-command-13.ensures _ _ with12 c.file.ensures in
-    c.with_argument.ensures _ _ with13 c.file-2.ensures
+    let with12 = c.with_argument-command-12.ensures _ _ with11 c.flag-6.ensures in
+    let with13 = c.with_argument-command-13.ensures _ _ with12 c.max_var.ensures in
+    let with14 = c.with_argument-command-14.ensures _ _ with13 c.file.ensures in
+    c.with_argument.ensures _ _ with14 c.file-2.ensures

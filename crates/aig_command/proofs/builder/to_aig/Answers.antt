@@ -11,6 +11,7 @@ returns c =
     let with6 = c.with_argument-command-6.ensures _ _ with5 c.property_option.ensures in
     let with7 = c.with_argument-command-7.ensures _ _ with6 c.flag-6.ensures in
     let with8 = c.with_argument-command-8.ensures _ _ with7 c.flag-7.ensures in
-    let with9 = c.with_argument-command-9.ensures _ _ with8 c.max_var.ensures in
-    let with10 = c.with_argument-command-10.ensures _ _ with9 c.file.ensures in
-    c.with_argument.ensures _ _ with10 c.file-2.ensures
+    let with9 = c.with_argument-command-9.ensures _ _ with8 c.flag-8.ensures in
+    let with10 = c.with_argument-command-10.ensures _ _ with9 c.max_var.ensures in
+    let with11 = c.with_argument-command-11.ensures _ _ with10 c.file.ensures in
+    c.with_argument.ensures _ _ with11 c.file-2.ensures

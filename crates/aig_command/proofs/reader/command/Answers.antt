@@ -6,8 +6,8 @@ use Rattle.aig_command.proofs.Answered.{refused_command, refused_usage, rows_kno
 use Rattle.aig_command.proofs.Answered.{taken_usage}
 use Rattle.aig_command.proofs.reader.command.Goals as goal
 
-pub read_matches-requires : goal.read_matches-requires
-read_matches-requires c =
+pub read_command-requires : goal.read_command-requires
+read_command-requires c =
     record {
       known = rows_known (texts c.args.words.now) c.in-Ok.matches c.in-Ok.ensures.matches c.in-Ok.ensures.kinds;
       within = rows_within (texts c.args.words.now) c.in-Ok.matches c.in-Ok.ensures.matches c.in-Ok.ensures.kinds;

@@ -1,7 +1,12 @@
 use Rattle.std.proofs.Common.{codes, refl}
-use Rattle.aig_command.specs.Asked.{aigmiter, aigunroll}
+use Rattle.aig_command.specs.Asked.{aigmiter, aigunroll, to_aig}
 use Rattle.aig_command.proofs.ByName.{met_answered}
 use Rattle.aig_command.proofs.reader.read_matches.Goals as goal
+
+pub returns-in-aigtoaig-clause-answer : goal.returns-in-aigtoaig-clause-answer
+returns-in-aigtoaig-clause-answer c =
+    met_answered _ to_aig (codes "aigtoaig") (λ rows. refl) _ _ _ _ c.in-aigtoaig.is c.in-Some.ensures.name
+    c.in-Some.ensures.rows c.to_aig.ensures.answer
 
 pub returns-in-aigunroll-clause-answer : goal.returns-in-aigunroll-clause-answer
 returns-in-aigunroll-clause-answer c =
