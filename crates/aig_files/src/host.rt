@@ -3,6 +3,7 @@ ghost use Rattle.std.specs.Prelude.{◌≡◌, ◌<◌, ◌≤◌, [], length, I
 ghost use Rattle.aig_files.specs.Notes.{files_of};
 
 use crate::access::FileAccess;
+use crate::reason::Reason;
 use aig_io::{DeviceFault, Record};
 use std::fs::{Metadata, OpenFile};
 use std::io::{Read, Write};
@@ -40,6 +41,7 @@ pub struct HostFiles<'a, T: Files> {
     files: &'a T,
     file: Option<T::File>,
     syncs: bool,
+    why: Option<Reason>,
     log: Record,
     ghost closed: { is_some file ≡ is_some (files_of log.notes).current },
     ghost asked: { syncs ≡ (files_of log.notes).syncs },
@@ -54,6 +56,7 @@ impl<'a, T: Files> HostFiles<'a, T> {
             files,
             file: None,
             syncs: false,
+            why: None,
             log: Record::new(),
         }
     }
@@ -70,14 +73,14 @@ fn read<F: Read>(file: &mut Option<F>, into: &mut [u8]) -> io::Result<usize>
     }
 }
 
-/// Writes to the file that is open, and answers how many bytes; none is a failure.
-fn write<F: Write>(file: &mut Option<F>, bytes: &[u8]) -> usize
-    ensures within { result ≤ length bytes.now }
+/// Writes to the file that is open, and answers how many bytes.
+fn write<F: Write>(file: &mut Option<F>, bytes: &[u8]) -> io::Result<usize>
+    ensures within { IfOk result (λ n. n ≤ length bytes.now) }
     ensures stays { is_some file.new ≡ is_some file.old }
 {
     match file {
-        Some(file) => file.write(bytes).unwrap_or(0),
-        None => 0,
+        Some(file) => file.write(bytes),
+        None => Err(io::Error::from(io::ErrorKind::NotFound)),
     }
 }
 
@@ -103,29 +106,44 @@ fn sync<F: OpenFile>(file: &F, is_asked: bool) -> io::Result<()> {
 impl<T: Files> FileAccess for HostFiles<'_, T> {
     ghost files = { λ h. files_of h.log.notes };
 
+    ghost why = { λ h. h.why };
+
+    fn reason(&self) -> Option<Reason> {
+        self.why
+    }
+
     fn open(&mut self, name: &str) -> Result<(), DeviceFault> {
-        let Ok(file) = fs::open(self.files, name) else {
-            self.log.note(&[NOT_OPENED], name.as_bytes());
-            return Err(DeviceFault);
-        };
-        self.file = Some(file);
-        self.log.note(&[OPENED], name.as_bytes());
-        Ok(())
+        match fs::open(self.files, name) {
+            Ok(file) => {
+                self.file = Some(file);
+                self.why = None;
+                self.log.note(&[OPENED], name.as_bytes());
+                Ok(())
+            }
+            Err(error) => {
+                self.why = Reason::of_error(&error);
+                self.log.note(&[NOT_OPENED], name.as_bytes());
+                Err(DeviceFault)
+            }
+        }
     }
 
     fn read(&mut self, into: &mut [u8]) -> Result<usize, DeviceFault> {
         match read(&mut self.file, into) {
             Ok(0) => {
                 self.file = None;
+                self.why = None;
                 self.log.note(&[ENDED], &[]);
                 Ok(0)
             }
             Ok(count) => {
+                self.why = None;
                 self.log.note(&[MOVED], &into[..count]);
                 Ok(count)
             }
-            Err(_) => {
+            Err(error) => {
                 self.file = None;
+                self.why = Reason::of_error(&error);
                 self.log.note(&[READ_FAILED], &[]);
                 Err(DeviceFault)
             }
@@ -134,21 +152,38 @@ impl<T: Files> FileAccess for HostFiles<'_, T> {
 
     fn leave(&mut self) {
         self.file = None;
+        self.why = None;
         self.log.note(&[LEFT], &[]);
     }
 
     fn create(&mut self, name: &str) -> Result<(), DeviceFault> {
-        let Ok(file) = fs::create(self.files, name) else {
-            self.log.note(&[NOT_MADE], name.as_bytes());
-            return Err(DeviceFault);
-        };
-        self.file = Some(file);
-        self.log.note(&[MADE], name.as_bytes());
-        Ok(())
+        match fs::create(self.files, name) {
+            Ok(file) => {
+                self.file = Some(file);
+                self.why = None;
+                self.log.note(&[MADE], name.as_bytes());
+                Ok(())
+            }
+            Err(error) => {
+                self.why = Reason::of_error(&error);
+                self.log.note(&[NOT_MADE], name.as_bytes());
+                Err(DeviceFault)
+            }
+        }
     }
 
     fn write(&mut self, bytes: &[u8]) -> Result<usize, DeviceFault> {
-        let count = write(&mut self.file, bytes);
+        let count = match write(&mut self.file, bytes) {
+            Ok(count) => {
+                self.why = None;
+                count
+            }
+            Err(error) => {
+                self.why = Reason::of_error(&error);
+                0
+            }
+        };
+        // That nothing is taken is a failure too.
         if count == 0 {
             self.file = None;
             self.log.note(&[WRITE_FAILED], &[]);
@@ -169,11 +204,17 @@ impl<T: Files> FileAccess for HostFiles<'_, T> {
             None => Ok(()),
         };
         self.file = None;
-        if kept.is_err() {
-            self.log.note(&[NOT_CLOSED], &[]);
-            return Err(DeviceFault);
+        match kept {
+            Ok(()) => {
+                self.why = None;
+                self.log.note(&[CLOSED], &[]);
+                Ok(())
+            }
+            Err(error) => {
+                self.why = Reason::of_error(&error);
+                self.log.note(&[NOT_CLOSED], &[]);
+                Err(DeviceFault)
+            }
         }
-        self.log.note(&[CLOSED], &[]);
-        Ok(())
     }
 }
