@@ -66,7 +66,14 @@ OF_ARGUMENTS = """--keep-map needs binary output
 --outputs-as-bad excludes --undo-map
 --justice-as-bad excludes --outputs-as-bad, --keep-map and --undo-map
 model and stimulus are both standard input
-compressed output is not supported
+compressed output is not supported: use aiger COMMAND .. - | gzip > FILE.gz
+compressed output is not supported: use aiger COMMAND .. - | xz > FILE.xz
+compressed output is not supported: use aiger COMMAND .. - | zstd > FILE.zst
+compressed output is not supported: use aiger COMMAND .. - | bzip2 > FILE.bz2
+compressed input is not supported: use gzip -dc FILE.gz | aiger COMMAND .. - ..
+compressed input is not supported: use xz -dc FILE.xz | aiger COMMAND .. - ..
+compressed input is not supported: use zstd -dc FILE.zst | aiger COMMAND .. - ..
+compressed input is not supported: use bzip2 -dc FILE.bz2 | aiger COMMAND .. - ..
 --witness stands alone
 --vcd excludes --properties
 --cnf excludes --ascii
@@ -87,15 +94,19 @@ both circuits are standard input
 --sync needs the name of a destination
 an argument is not UTF-8 text""".split("\n")
 BY_CLAP = "error: .."
-ALL = [*NAMED, OF_MEMORY, *OF_ARGUMENTS, BY_CLAP]
+# and of arguments, where the standard output is a terminal
+TO_TERMINAL = "binary output to a terminal is refused: name a file, or use --ascii or --force"
+ALL = [*NAMED, OF_MEMORY, *OF_ARGUMENTS, BY_CLAP, TO_TERMINAL]
 
 
 def form_of(kind):
-    """What standard error is where a refusal is of this kind."""
+    """What standard error is where a refusal is of this kind. Of a file that a device is, it may say why."""
     if kind == BY_CLAP:
         return re.compile("error: .*", re.DOTALL)
     name = "[^\n]*: " if kind in NAMED else ""
-    return re.compile(f"aiger: {name}{re.escape(kind)}\n".replace("N", r"\d+"))
+    words = re.sub(r"\bN\b", r"\\d+", re.escape(kind))
+    why = "(?:: [^\n]+)?" if kind in OF_DEVICES else ""
+    return re.compile(f"aiger: {name}{words}{why}\n")
 
 
 FORMS = {kind: form_of(kind) for kind in ALL}

@@ -278,11 +278,11 @@ rows_answer_names() {
     unfound 'an unsatisfiable answer by its name' '' "$work/no_answer: unsatisfiable" --answer "$work/no_answer" "$model"
     unfound 'a bad answer by its name' '' "$work/bad_answer: line 1: bad answer line" --answer "$work/bad_answer" "$model"
     unfound 'the model as its own answer' '' "$model: line 1: bad answer line" --answer "$model" "$model"
-    unfound 'an answer that is not there' 'x' "$work/none: cannot read" --answer "$work/none" "$model"
-    unfound 'an empty name of an answer' 'x' ': cannot read' --answer '' "$model"
-    unfound 'a folder as answer' 'x' "$work: cannot read" --answer "$work" "$model"
-    unfound 'a model that is not there, and an answer' "$yes" "$work/none: cannot read" --answer - "$work/none"
-    unfound 'neither model nor answer is there' '' "$work/none: cannot read" --answer "$work/nothing" "$work/none"
+    unfound 'an answer that is not there' 'x' "$work/none: cannot read: No such file or directory" --answer "$work/none" "$model"
+    unfound 'an empty name of an answer' 'x' ': cannot read: No such file or directory' --answer '' "$model"
+    unfound 'a folder as answer' 'x' "$work: cannot read: Is a directory" --answer "$work" "$model"
+    unfound 'a model that is not there, and an answer' "$yes" "$work/none: cannot read: No such file or directory" --answer - "$work/none"
+    unfound 'neither model nor answer is there' '' "$work/none: cannot read: No such file or directory" --answer "$work/nothing" "$work/none"
     unfound 'a refused model by its name, and an answer' "$yes" "$work/answer: line 1: not an AIGER file" \
         --answer - "$work/answer"
     unfound 'a model without bad states by its name' "$unbad" "$work/in: no bad states" --cnf "$work/in"
@@ -295,7 +295,7 @@ rows_clause_words() {
     local none=$work/none all=$unrolling_usage tip='\n\n  tip:' file
     local convert='\n\nUsage: aiger aigtoaig [OPTIONS] [source] [destination]'
     local ascii='--cnf excludes --ascii' alone='--answer excludes --cnf and --ascii' needs='--bad needs --cnf, --answer or --refutation'
-    local both='model and answer are both standard input' gz='compressed output is not supported'
+    local both='model and answer are both standard input' gz='compressed output is not supported: use aiger COMMAND .. - | gzip > FILE.gz'
     unwanted 'clauses in ASCII' "$ascii" aigunroll --frames 2 --cnf --ascii
     unwanted 'clauses in ASCII of an answer' "$ascii" aigunroll --frames 2 --answer - --ascii --cnf - x.gz
     unwanted 'clauses of an answer' "$alone" aigunroll --frames 2 --answer "$none" --cnf "$none"

@@ -31,7 +31,7 @@ unrolling_usage='\n\nUsage: aiger aigunroll --frames <K> [OPTIONS] [source] [des
        aiger aigunroll --invariant <FILE> [OPTIONS] [source] [destination]'
 unwanted() { local name=$1 text=$2; shift 2; row "$name" 'aag 0 0 0 0 0\n' '' "aiger: $text\n" 2 "$@"; }
 # a source by its name that is not there
-missing() { local name=$1 file=$2; shift 2; row "$name" 'aag 0 0 0 0 0\n' '' "aiger: $file: cannot read\n" 1 "$@"; }
+missing() { local name=$1 file=$2; shift 2; row "$name" 'aag 0 0 0 0 0\n' '' "aiger: $file: cannot read: No such file or directory\n" 1 "$@"; }
 
 rows_accepted() {
     same 'one of each section' 'aag 3 1 1 2 0\n6\n2 7\n2\n0\n'
@@ -1037,7 +1037,7 @@ rows_words() {
         "unrecognized subcommand 'aigtoaig --ascii'\n\n  tip: a similar subcommand exists: 'aigtoaig'$usage" 'aigtoaig --ascii'
     row 'help' 'aag 0 0 0 0 0\n' "$help" '' 0 --help
     row 'help as a command' 'aag 0 0 0 0 0\n' "$help" '' 0 help
-    row 'help as the name of a file' '' '' 'aiger: help: cannot read\n' 1 aigtoaig help
+    row 'help as the name of a file' '' '' 'aiger: help: cannot read: No such file or directory\n' 1 aigtoaig help
     misused 'help on another command' "unrecognized subcommand 'convert'$usage" help convert
     misused 'help on two commands' \
         "unrecognized subcommand 'aigsim'\n\nUsage: aiger aigtoaig [OPTIONS] [source] [destination]" help aigtoaig aigsim
@@ -1079,7 +1079,11 @@ rows_words() {
     misused 'a disk twice' "the argument '--sync' cannot be used multiple times$every" aigtoaig --sync none/x none/y --sync
     misused 'outputs as bad states twice' "the argument '--outputs-as-bad' cannot be used multiple times$every" \
         aigtoaig --outputs-as-bad --outputs-as-bad
-    unwanted 'a compressed destination' 'compressed output is not supported' aigtoaig - none/x.aig.gz
+    unwanted 'a compressed destination' 'compressed output is not supported: use aiger COMMAND .. - | gzip > FILE.gz' aigtoaig - none/x.aig.gz
+    unwanted 'another compressed destination' \
+        'compressed output is not supported: use aiger COMMAND .. - | zstd > FILE.zst' aigtoaig - none/x.aag.zst
+    unwanted 'a compressed source that is not there' \
+        'compressed input is not supported: use xz -dc FILE.xz | aiger COMMAND .. - ..' aigtoaig none/x.aig.xz
     row 'undone to ASCII, the words the other way round' "$image" "$undone" '' 0 aigtoaig --ascii --undo-map
     misused 'a map undone twice' "the argument '--undo-map' cannot be used multiple times$every" aigtoaig --undo-map --undo-map
     missing 'a word behind the map and ASCII' none/x aigtoaig --undo-map --ascii none/x

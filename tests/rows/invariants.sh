@@ -210,12 +210,12 @@ rows_invariant_names() {
         --invariant "$work/wrong" --refutation - "$model"
     unknown 'a wrong refutation by its name' '' "$model: line 1: bad line" \
         --invariant "$work/right" --refutation "$model" "$model"
-    unknown 'an invariant that is not there' 'x' "$work/none: cannot read" --invariant "$work/none" --refutation - "$model"
-    unknown 'an invariant that is not there, for clauses' '' "$work/none: cannot read" --invariant "$work/none" --cnf "$model"
-    unknown 'a refutation for an invariant that is not there' '11 1\n' "$work/none: cannot read" \
+    unknown 'an invariant that is not there' 'x' "$work/none: cannot read: No such file or directory" --invariant "$work/none" --refutation - "$model"
+    unknown 'an invariant that is not there, for clauses' '' "$work/none: cannot read: No such file or directory" --invariant "$work/none" --cnf "$model"
+    unknown 'a refutation for an invariant that is not there' '11 1\n' "$work/none: cannot read: No such file or directory" \
         --invariant - --refutation "$work/none" "$model"
-    unknown 'a folder as invariant' '' "$work: cannot read" --invariant "$work" --cnf "$model"
-    unknown 'a model that is not there, and an invariant' '11 1\n' "$work/none: cannot read" --invariant - --cnf "$work/none"
+    unknown 'a folder as invariant' '' "$work: cannot read: Is a directory" --invariant "$work" --cnf "$model"
+    unknown 'a model that is not there, and an invariant' '11 1\n' "$work/none: cannot read: No such file or directory" --invariant - --cnf "$work/none"
 }
 
 # the options with others, which are refused before any file is opened, in this order
@@ -240,7 +240,7 @@ rows_invariant_words() {
         aigunroll --invariant "$none" --refutation - - x.gz
     unwanted 'invariant and refutation by standard input' 'invariant and refutation are both standard input' \
         aigunroll --invariant - --refutation - "$none" x.gz
-    unwanted 'the compressed clauses of an invariant' 'compressed output is not supported' \
+    unwanted 'the compressed clauses of an invariant' 'compressed output is not supported: use aiger COMMAND .. - | gzip > FILE.gz' \
         aigunroll --invariant "$none" --cnf "$none" x.cnf.gz
     misused 'no invariant' "a value is required for '--invariant <FILE>' but none was supplied" aigunroll --cnf --invariant
     misused 'two invariants' "the argument '--invariant <FILE>' cannot be used multiple times$unrolling_usage" \

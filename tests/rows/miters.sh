@@ -345,7 +345,7 @@ rows_miter_words() {
     local all='\n\nUsage: aiger aigmiter [OPTIONS] <first> <second> [destination]'
     local few='\n\nUsage: aiger aigmiter <first> <second> [destination]'
     local needed='the following required arguments were not provided:' both='both circuits are standard input'
-    local sync='--sync needs the name of a destination' gz='compressed output is not supported'
+    local sync='--sync needs the name of a destination' gz='compressed output is not supported: use aiger COMMAND .. - | gzip > FILE.gz'
     misused 'no circuits' "$needed\n  <first>\n  <second>$few" aigmiter
     misused 'one circuit' "$needed\n  <second>$few" aigmiter none/x
     misused 'one circuit, by name' \

@@ -319,11 +319,11 @@ rows_refutation_names() {
         printf 'aag 0 0 0 0 0 1\n0\n' > "$work/zero"; echo "$work/zero")"
     unfound 'a forged refutation by its name' '' "$work/forged: line 1: does not follow" --refutation "$work/forged" "$model"
     unfound 'the model as its own refutation' '' "$model: line 1: bad line" --refutation "$model" "$model"
-    unfound 'a refutation that is not there' 'x' "$work/none: cannot read" --refutation "$work/none" "$model"
-    unfound 'an empty name of a refutation' 'x' ': cannot read' --refutation '' "$model"
-    unfound 'a folder as refutation' 'x' "$work: cannot read" --refutation "$work" "$model"
-    unfound 'a model that is not there, and a refutation' '0\n' "$work/none: cannot read" --refutation - "$work/none"
-    unfound 'neither model nor refutation is there' '' "$work/none: cannot read" --refutation "$work/nothing" "$work/none"
+    unfound 'a refutation that is not there' 'x' "$work/none: cannot read: No such file or directory" --refutation "$work/none" "$model"
+    unfound 'an empty name of a refutation' 'x' ': cannot read: No such file or directory' --refutation '' "$model"
+    unfound 'a folder as refutation' 'x' "$work: cannot read: Is a directory" --refutation "$work" "$model"
+    unfound 'a model that is not there, and a refutation' '0\n' "$work/none: cannot read: No such file or directory" --refutation - "$work/none"
+    unfound 'neither model nor refutation is there' '' "$work/none: cannot read: No such file or directory" --refutation "$work/nothing" "$work/none"
 }
 
 # the options with others, which are refused before any file is opened, in this order
@@ -339,7 +339,7 @@ rows_refutation_words() {
     unwanted 'an answer and a refutation' "$alone" aigunroll --frames 2 --refutation - --answer - - x.gz
     unwanted 'model and refutation by standard input' "$both" aigunroll --frames 2 --refutation -
     unwanted 'model and refutation by -' "$both" aigunroll --frames 2 --bad 0 --refutation - - x.gz
-    unwanted 'what a compressed file would take' 'compressed output is not supported' \
+    unwanted 'what a compressed file would take' 'compressed output is not supported: use aiger COMMAND .. - | gzip > FILE.gz' \
         aigunroll --frames 2 --refutation "$none" "$none" x.gz
     misused 'no refutation' "a value is required for '--refutation <FILE>' but none was supplied" \
         aigunroll --frames 2 --refutation

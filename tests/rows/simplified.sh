@@ -374,7 +374,7 @@ rows_simplify_words() {
     unwanted 'a map kept and undone, and simplified' '--keep-map excludes --undo-map' aigtoaig --simplify --keep-map --undo-map
     unwanted 'a map kept of simplified outputs' "$map" aigtoaig --keep-map --simplify --outputs-as-bad
     unwanted 'a map kept of a simplified justice property' "$map" aigtoaig --justice-as-bad 0 --keep-map --simplify
-    unwanted 'a simplified circuit, compressed' 'compressed output is not supported' aigtoaig --simplify - x.aag.gz
+    unwanted 'a simplified circuit, compressed' 'compressed output is not supported: use aiger COMMAND .. - | gzip > FILE.gz' aigtoaig --simplify - x.aag.gz
     unwanted 'a map kept of a compressed and simplified circuit' "$map" aigtoaig --simplify --keep-map - x.gz
     unwanted 'a simplified circuit on a disk' '--sync needs the name of a destination' aigtoaig --simplify --sync
     unwanted 'no frames to simplify' '--frames or --invariant is needed' aigunroll --simplify

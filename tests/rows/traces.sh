@@ -292,10 +292,10 @@ rows_models() {
     model 'aag 3 2 0 1 1\n2\n4\n6\n6 2 4\n'
     traced 'a model within the limit' '11\n' ' 11 1 \n.\n' --max-var 3 "$model"
     untraced 'a model above the limit' '1\n' '' "$model: line 1: number above the limit" --max-var 2 "$model"
-    untraced 'a model that is not there' '11\n' '' "$work/none: cannot read" "$work/none"
-    untraced 'neither model nor stimulus is there' '' '' "$work/none: cannot read" "$work/none" "$work/nothing"
-    untraced 'an empty name of the model' '11\n' '' ': cannot read' ''
-    untraced 'a folder as model' '11\n' '' "$work: cannot read" "$work"
+    untraced 'a model that is not there' '11\n' '' "$work/none: cannot read: No such file or directory" "$work/none"
+    untraced 'neither model nor stimulus is there' '' '' "$work/none: cannot read: No such file or directory" "$work/none" "$work/nothing"
+    untraced 'an empty name of the model' '11\n' '' ': cannot read: No such file or directory' ''
+    untraced 'a folder as model' '11\n' '' "$work: cannot read: Is a directory" "$work"
     printf 'aag 1 1 0 0 0\nx\n' > "$work/model.bad"
     untraced 'a model that is refused, and no stimulus' '' '' "$work/model.bad: line 2: bad line" \
         "$work/model.bad" "$work/none"
@@ -317,9 +317,9 @@ rows_stimulus_names() {
         "$model" "$work/bad_steps"
     untraced 'a bad line by its name, the model by -' "$gate" ' 11 1 \n.\n' "$work/bad_steps: line 3: bad stimulus line" \
         - "$work/bad_steps"
-    untraced 'a stimulus that is not there' '11\n' '' "$work/none: cannot read" "$model" "$work/none"
-    untraced 'an empty name of the stimulus' '11\n' '' ': cannot read' "$model" ''
-    untraced 'a folder as stimulus' '11\n' '' "$work: cannot read" "$model" "$work"
+    untraced 'a stimulus that is not there' '11\n' '' "$work/none: cannot read: No such file or directory" "$model" "$work/none"
+    untraced 'an empty name of the stimulus' '11\n' '' ': cannot read: No such file or directory' "$model" ''
+    untraced 'a folder as stimulus' '11\n' '' "$work: cannot read: Is a directory" "$model" "$work"
     untraced 'the model as its own stimulus' '' '' "$model: line 1: bad stimulus line" "$model" "$model"
     traced 'options behind names' '11\n' ' 11 1   \n.\n' "$model" --max-var=3 --properties
     unwanted 'model and stimulus by standard input' 'model and stimulus are both standard input' aigsim -

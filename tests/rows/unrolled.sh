@@ -196,5 +196,5 @@ rows_unroll_words() {
     misused 'frames of a conversion' \
         "unexpected argument '--frames' found\n\n  tip: to pass '--frames' as a value, use '-- --frames'\n\nUsage: aiger aigtoaig [OPTIONS] [source] [destination]" \
         aigtoaig --frames 1
-    unwanted 'a compressed file to unroll to' 'compressed output is not supported' aigunroll --frames 2 - none/x.aig.gz
+    unwanted 'a compressed file to unroll to' 'compressed output is not supported: use aiger COMMAND .. - | gzip > FILE.gz' aigunroll --frames 2 - none/x.aig.gz
 }

@@ -140,8 +140,8 @@ rows_cut_dumps() {
     cut_short 'no time behind the last frame before a bad line' '0x\n1\n11\n' "$gate" "$(at 0 'b0 r' 0i0 xi1 0o0)" 2
     cut_short 'a bad line behind a run' '0x\n.\n1' "$gate" "$(at 0 'b0 r' 0i0 xi1 0o0)$(at 1 zi0 zi1 zo0)" 3
     not_dumped 'no dump behind a bad line 1' '1\n' '-: line 1: bad stimulus line' "$model"
-    not_dumped 'no dump of a model that is not there' '11\n' "$work/none: cannot read" "$work/none"
-    not_dumped 'no dump of a stimulus that is not there' '' "$work/none: cannot read" "$model" "$work/none"
+    not_dumped 'no dump of a model that is not there' '11\n' "$work/none: cannot read: No such file or directory" "$work/none"
+    not_dumped 'no dump of a stimulus that is not there' '' "$work/none: cannot read: No such file or directory" "$model" "$work/none"
     not_dumped 'no dump of a model above the limit' '11\n' "$model: line 1: number above the limit" --max-var 2 "$model"
     model 'aag 1 1 0 0 0\nx\n'
     not_dumped 'no dump of a model with a bad line' '1\n' "$model: line 2: bad line" "$model"
@@ -169,8 +169,8 @@ rows_witness_runs() {
     no_run 'no run without its end' '1\nb0\n01\n1\n' '-: line 5: bad witness line' "$model"
     no_run 'no run with a line behind it' '1\nb0\n01\n1\n.\n\n' '-: line 6: bad witness line' "$model"
     no_run 'no run of an empty witness' '' '-: line 1: bad witness line' "$model"
-    no_run 'no run of a witness that is not there' '' "$work/none: cannot read" "$model" "$work/none"
-    no_run 'no run for a model that is not there' '1\nb0\n01\n.\n' "$work/none: cannot read" "$work/none"
+    no_run 'no run of a witness that is not there' '' "$work/none: cannot read: No such file or directory" "$model" "$work/none"
+    no_run 'no run for a model that is not there' '1\nb0\n01\n.\n' "$work/none: cannot read: No such file or directory" "$work/none"
     model 'aag 1 0 1 0 0 1\n2 3 1\n2\n'
     latch=$(scope latches 'reg 1 l0 l0')$(scope bad 'wire 1 b0 b0')
     run_of 'the run of a witness from a reset to 1' '1\nb0\n1\n\n\n.\n' 'confirmed 0' "$latch" \

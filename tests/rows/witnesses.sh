@@ -376,11 +376,11 @@ rows_witness_names() {
     unjudged 'a bad witness by its name, the model by -' "$toggle" "$work/bad_witness: line 6: bad witness line" \
         - "$work/bad_witness" --witness
     unjudged 'the model as its own witness' '' "$model: line 1: bad witness line" --witness "$model" "$model"
-    unjudged 'a witness that is not there' '1\n' "$work/none: cannot read" --witness "$model" "$work/none"
-    unjudged 'an empty name of the witness' '1\n' ': cannot read' --witness "$model" ''
-    unjudged 'a folder as witness' '1\n' "$work: cannot read" --witness "$model" "$work"
-    unjudged 'a model that is not there, and a witness' '1\n' "$work/none: cannot read" --witness "$work/none"
-    unjudged 'neither model nor witness is there' '' "$work/none: cannot read" --witness "$work/none" "$work/nothing"
+    unjudged 'a witness that is not there' '1\n' "$work/none: cannot read: No such file or directory" --witness "$model" "$work/none"
+    unjudged 'an empty name of the witness' '1\n' ': cannot read: No such file or directory' --witness "$model" ''
+    unjudged 'a folder as witness' '1\n' "$work: cannot read: Is a directory" --witness "$model" "$work"
+    unjudged 'a model that is not there, and a witness' '1\n' "$work/none: cannot read: No such file or directory" --witness "$work/none"
+    unjudged 'neither model nor witness is there' '' "$work/none: cannot read: No such file or directory" --witness "$work/none" "$work/nothing"
     unjudged 'a refused model by standard input, and no witness' 'aag 1 1 0 0 0\nx\n' '-: line 2: bad line' \
         - "$work/none" --witness
 }

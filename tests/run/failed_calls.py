@@ -86,8 +86,8 @@ class Calls:
         size = piece or len(self.row.output)
         return [text[at : at + size] for text in texts for at in range(0, len(text), size)]
 
-    def after_failed_read(self, number, piece):
-        """What is wanted where this read fails."""
+    def after_failed_read(self, number, piece, error):
+        """What is wanted where this read fails. Of a file the program says why, in the words of the C library."""
         for name, text in self.read_in_order():
             # the last read of a file tells that it has ended
             count = 1 + (-(-len(text) // piece) if piece else 1)
@@ -97,14 +97,15 @@ class Calls:
         before = text[: (number - 1) * piece] if piece else text if number > 1 else b""
         is_sent = self.is_traced_line_by_line() and name == self.read_in_order()[-1][0]
         lines = self.parts()[: before.count(b"\n")] if is_sent else []
-        return b"".join(lines), f"aiger: {name}: cannot read\n".encode(), 1
+        why = "" if name == "-" else f": {os.strerror(int(error))}"
+        return b"".join(lines), f"aiger: {name}: cannot read{why}\n".encode(), 1
 
     def reads(self, piece, error):
         for number in range(1, 10**6):
             failed, came = self.failing(piece, FAIL_READ=str(number), ERROR=error)
             if not failed:
                 break
-            self.judge("failed reads", self.after_failed_read(number, piece), came, f"read {number} by {piece}")
+            self.judge("failed reads", self.after_failed_read(number, piece, error), came, f"read {number} by {piece}")
         self.judge("runs in pieces", self.whole(), came, f"by {piece}")
 
     def writes(self, piece, error):
@@ -150,7 +151,7 @@ class Calls:
             if name in self.row.files:
                 words = [*self.words[:place], FOLDER, *self.words[place + 1 :]]
                 came = self.runner.run(words, self.row.given)
-                self.judge("folders", (b"", b"aiger: /: cannot read\n", 1), came, name)
+                self.judge("folders", (b"", b"aiger: /: cannot read: Is a directory\n", 1), came, name)
         came = self.runner.run(self.words, None, source=FOLDER)
         self.judge("folders", (b"", b"aiger: -: cannot read\n", 1), came, "standard input")
 

@@ -124,32 +124,58 @@ refused_by 'no justice property 1' 'aag 0 0 0 0 0 0 0 1\n0\n' --justice-as-bad 1
 refused_by 'too large' 'aag 2147483647 0 0 0 0 0 0 1\n0\n' --justice-as-bad 0
 cd "$top" || exit
 
-# --- files that cannot be read or written ---
+# --- compressed files, by what their refusal says ---
+if command -v gzip > /dev/null; then
+    gzip -c "$source" > "$files/half_adder.aag.gz"
+    wants '' 'aiger: compressed input is not supported: use gzip -dc FILE.gz | aiger COMMAND .. - ..\n' 2
+    untouched 'a compressed source' "$files/a.aig" aig "$files/half_adder.aag.gz" "$files/a.aig"
+    cp "$work/binary" "$work/want_file"
+    made 'and as it says' "$files/z.aig" eval 'gzip -dc "$files/half_adder.aag.gz" | aig - "$files/z.aig"'
+    wants '' 'aiger: compressed output is not supported: use aiger COMMAND .. - | gzip > FILE.gz\n' 2
+    check 'a compressed destination' aig "$source" "$files/z.aig.gz"
+    if [ ! -e "$files/z.aig.gz" ]; then pass; else fail 'no compressed destination is made'; fi
+    made 'and as it says' "$files/z.aig" eval 'aig "$source" - | gzip > "$files/z.aig.gz"; gzip -dc "$files/z.aig.gz" > "$files/z.aig"'
+else
+    skip 8 'no gzip'
+fi
+# --- files that cannot be read or written, and why, in the words of the C library ---
+none='No such file or directory' folder='Is a directory' full='No space left on device' broken='Input/output error'
+# cannot_read NAME FILE WHY
 cannot_read() {
-    wants '' "aiger: $2: cannot read\n" 1
+    wants '' "aiger: $2: cannot read: $3\n" 1
     untouched "$1" "$files/a.aig" aig "$2" "$files/a.aig"
 }
 cannot_write() {
-    wants '' "aiger: $2: cannot write\n" 1
+    wants '' "aiger: $2: cannot write: $3\n" 1
     check "$1" aig "$source" "$2"
 }
-cannot_read 'a source that is not there' "$files/none.aag"
-cannot_read 'a source in a folder that is not there' "$files/none/a.aag"
-cannot_read 'a folder as source' "$files"
-cannot_read 'an empty name as source' ''
-cannot_read 'a name of spaces' "$files/a b  c"
+cannot_read 'a source that is not there' "$files/none.aag" "$none"
+cannot_read 'a source in a folder that is not there' "$files/none/a.aag" "$none"
+cannot_read 'a folder as source' "$files" "$folder"
+cannot_read 'an empty name as source' '' "$none"
+cannot_read 'a name of spaces' "$files/a b  c" "$none"
+cannot_read 'a source in a file' "$source/a.aag" 'Not a directory'
 ln -s "$files/none.aag" "$files/dangling"
-cannot_read 'a dangling link as source' "$files/dangling"
-cannot_write 'a folder as destination' "$files"
-cannot_write 'an empty name as destination' ''
-cannot_write 'a folder that is not there' "$files/none/a.aig"
-cannot_write 'a full device' /dev/full
-cannot_write 'a file in the place of a folder' "$files/a.aig/b.aig"
+cannot_read 'a dangling link as source' "$files/dangling" "$none"
+ln -s circle "$files/circle"
+cannot_read 'a link to itself as source' "$files/circle" 'Too many levels of symbolic links'
+cannot_write 'a link to itself as destination' "$files/circle" 'Too many levels of symbolic links'
+cannot_write 'a folder as destination' "$files" "$folder"
+cannot_write 'an empty name as destination' '' "$none"
+cannot_write 'a folder that is not there' "$files/none/a.aig" "$none"
+cannot_write 'a full device' /dev/full "$full"
+cannot_write 'a file in the place of a folder' "$files/a.aig/b.aig" 'Not a directory'
+mkdir "$files/running"
+cp "$(command -v sleep)" "$files/running/sleep"
+"$files/running/sleep" 60 &
+cannot_write 'a program that runs' "$files/running/sleep" 'Text file busy'
+kill $!
+wait $! 2> /dev/null
 # a source is read to its end first, and this one has none
 wants '' 'aiger: out of memory\n' 1
 untouched 'a device without an end as source' "$files/a.aig" within 20480 "$program" aigtoaig /dev/full "$files/a.aig"
 # what cannot be read is reported before what cannot be written
-wants '' "aiger: $files/none.aag: cannot read\n" 1
+wants '' "aiger: $files/none.aag: cannot read: $none\n" 1
 check 'neither can be opened' aig "$files/none.aag" "$files/none/a.aig"
 cp "$work/binary" "$work/want_file"
 made 'a dangling link as destination is made' "$files/none.aag" aig "$source" "$files/dangling"
@@ -162,9 +188,9 @@ if "${as_nobody[@]}" test -x "$program" 2> /dev/null; then
     chmod 755 "$closed"
     cp "$source" "$closed/closed.aag"
     chmod 0 "$closed/closed.aag"
-    wants '' "aiger: $closed/closed.aag: cannot read\n" 1
+    wants '' "aiger: $closed/closed.aag: cannot read: Permission denied\n" 1
     check 'a source without permission' "${as_nobody[@]}" "$program" aigtoaig "$closed/closed.aag"
-    wants '' "aiger: $closed/closed.aag: cannot write\n" 1
+    wants '' "aiger: $closed/closed.aag: cannot write: Permission denied\n" 1
     check 'a destination without permission' \
         "${as_nobody[@]}" "$program" aigtoaig - "$closed/closed.aag" < "$source"
     rm -rf "$closed"
@@ -175,14 +201,14 @@ fi
 # a disk that is full, and a limit on the size of files: what shows only when bytes are written is not lost
 awk 'BEGIN { print "aag 0 0 0 100000 0"; for (i = 0; i < 100000; i++) print i % 2 }' > "$work/long"
 limited() { ( trap '' XFSZ; ulimit -f 16 && exec "$program" aigtoaig "$work/long" "$files/limited.aag" ); }
-wants '' "aiger: $files/limited.aag: cannot write\n" 1
+wants '' "aiger: $files/limited.aag: cannot write: File too large\n" 1
 check 'a file above the limit on sizes' limited
 if cmp -s -n "$(stat -c %s "$files/limited.aag")" "$files/limited.aag" "$work/long"; then pass; else
     fail 'what was written of it is a beginning'
 fi
 mkdir "$work/disk"
 if mount -t tmpfs -o size=64k tmpfs "$work/disk" 2> /dev/null; then
-    wants '' "aiger: $work/disk/full.aag: cannot write\n" 1
+    wants '' "aiger: $work/disk/full.aag: cannot write: $full\n" 1
     check 'a full disk' aig "$work/long" "$work/disk/full.aag"
     umount "$work/disk"
 else
@@ -193,7 +219,7 @@ fi
 if compile_preload fail_sync && compile_preload device_major; then
     closing() { MAJOR=$1 LD_PRELOAD="$work/fail_sync.so $work/device_major.so" "$program" aigtoaig "${@:2}"; }
     disk=8 no_disk=0
-    wants '' "aiger: $files/closed.aig: cannot write\n" 1
+    wants '' "aiger: $files/closed.aig: cannot write: $broken\n" 1
     check 'a destination that a disk does not keep' closing $disk --sync "$source" "$files/closed.aig"
     check 'and from standard input' closing $disk - "$files/closed.aig" --sync < "$source"
     check 'a destination that is not kept where there is no disk' closing $no_disk "$source" "$files/closed.aig"
@@ -248,9 +274,9 @@ check 'model and stimulus by their names' sim "$source" "$files/steps"
 check 'the image and the stimulus by their names' sim "$files/a.aig" "$files/steps"
 check 'model and stimulus by links' eval 'ln -sf steps "$files/steps.link" && ln -sf source.aag "$files/model.link" &&
     sim "$files/model.link" "$files/steps.link"'
-cp "$files/steps" "$files/steps.gz"
-cp "$source" "$files/model.gz"
-check 'any ending of names' sim "$files/model.gz" "$files/steps.gz"
+cp "$files/steps" "$files/steps.GZ"
+cp "$source" "$files/model.gzip"
+check 'any ending of names, but for those of compressed files' sim "$files/model.gzip" "$files/steps.GZ"
 check 'a stimulus and a model with names, all other streams closed' eval 'sim "$source" "$files/steps" <&- 2>&-'
 check 'the stimulus by standard input' sim "$source" < "$files/steps"
 check 'the model by standard input' sim - "$files/steps" < "$source"
@@ -270,22 +296,22 @@ check 'a refused model is named' sim "$files/short.aag" "$files/bad_steps"
 check 'a refused model is reported, and not a stimulus that is not there' sim "$files/short.aag" "$files/none"
 wants '' 'aiger: -: line 2: file ends too early\n' 1
 check 'a refused model by standard input' sim - "$files/none" < "$files/short.aag"
-# neither: NAME FILE MESSAGE: as model, and as stimulus
+# neither NAME FILE WHY: as model, and as stimulus
 neither() {
-    wants '' "aiger: $2: cannot read\n" 1
+    wants '' "aiger: $2: cannot read: $3\n" 1
     check "$1 as model" sim "$2" "$files/steps"
     check "$1 as stimulus" sim "$source" "$2"
     check "$1 as stimulus, the model by standard input" sim - "$2" < "$source"
 }
-neither 'a file that is not there' "$files/none.aag"
-neither 'a file in a folder that is not there' "$files/none/a.aag"
-neither 'a folder' "$files"
-neither 'an empty name' ''
-neither 'a dangling link' "$files/dangling"
+neither 'a file that is not there' "$files/none.aag" "$none"
+neither 'a file in a folder that is not there' "$files/none/a.aag" "$none"
+neither 'a folder' "$files" "$folder"
+neither 'an empty name' '' "$none"
+neither 'a dangling link' "$files/dangling" "$none"
 wants '' 'aiger: -: cannot write\n' 1
 check 'a trace of named files into a full standard output' output_full sim "$source" "$files/steps"
 check 'a trace of named files into a closed standard output' output_closed sim "$source" "$files/steps"
-wants '' "aiger: $files/none: cannot read\n" 1
+wants '' "aiger: $files/none: cannot read: $none\n" 1
 check 'a stimulus that is not there, and a full standard output' output_full sim "$source" "$files/none"
 cp -p "$source" "$work/before"
 cp -p "$files/steps" "$work/before_steps"
@@ -337,34 +363,34 @@ wants '' 'aiger: -: line 1: not an AIGER file\n' 1
 untouched 'a refused standard input to unroll' "$files/u.aig" unroll 2 - "$files/u.aig" < /dev/null
 wants '' 'aiger: out of memory\n' 1
 untouched 'a device without an end to unroll' "$files/u.aig" within 20480 "$program" aigunroll --frames 2 /dev/full "$files/u.aig"
-wants '' "aiger: $files/none.aag: cannot read\n" 1
+wants '' "aiger: $files/none.aag: cannot read: $none\n" 1
 untouched 'a file to unroll that is not there' "$files/u.aig" unroll 2 "$files/none.aag" "$files/u.aig"
 check 'neither can be opened to unroll' unroll 2 "$files/none.aag" "$files/none/u.aig"
-wants '' "aiger: $files: cannot read\n" 1
+wants '' "aiger: $files: cannot read: $folder\n" 1
 untouched 'a folder to unroll' "$files/u.aig" unroll 2 "$files" "$files/u.aig"
 rm -f "$files/none.aig"
 wants '' "aiger: $files/live.aag: justice or fairness cannot be unrolled\n" 1
 check 'a circuit that cannot be unrolled, and a new file' unroll 2 "$files/live.aag" "$files/none.aig"
 check 'and a folder that is not there' unroll 2 "$files/live.aag" "$files/none/u.aig"
 if [ ! -e "$files/none.aig" ]; then pass; else fail 'no file is made for a circuit that cannot be unrolled'; fi
-# cannot_unroll_to NAME FILE
+# cannot_unroll_to NAME FILE WHY
 cannot_unroll_to() {
-    wants '' "aiger: $2: cannot write\n" 1
+    wants '' "aiger: $2: cannot write: $3\n" 1
     check "$1 to unroll to" unroll 2 "$held" "$2"
 }
-cannot_unroll_to 'a folder' "$files"
-cannot_unroll_to 'an empty name' ''
-cannot_unroll_to 'a folder that is not there' "$files/none/u.aig"
-cannot_unroll_to 'a full device' /dev/full
+cannot_unroll_to 'a folder' "$files" "$folder"
+cannot_unroll_to 'an empty name' '' "$none"
+cannot_unroll_to 'a folder that is not there' "$files/none/u.aig" "$none"
+cannot_unroll_to 'a full device' /dev/full "$full"
 limited_frames() { ( trap '' XFSZ; ulimit -f 16 && exec "$program" aigunroll --frames 5000 "$held" "$files/limited.aag" ); }
-wants '' "aiger: $files/limited.aag: cannot write\n" 1
+wants '' "aiger: $files/limited.aag: cannot write: File too large\n" 1
 check 'an unrolled file above the limit on sizes' limited_frames
 unroll 5000 --ascii "$held" > "$work/long_frames"
 if [ -s "$files/limited.aag" ] && cmp -s -n "$(stat -c %s "$files/limited.aag")" "$files/limited.aag" "$work/long_frames"; then pass; else
     fail 'what was written of an unrolled file is a beginning'
 fi
 if [ -e "$work/fail_sync.so" ]; then
-    wants '' "aiger: $files/u.aig: cannot write\n" 1
+    wants '' "aiger: $files/u.aig: cannot write: $broken\n" 1
     check 'an unrolled file that is not kept' eval 'LD_PRELOAD=$work/fail_sync.so unroll 2 --sync "$held" "$files/u.aig"'
 fi
 cp "$work/binary_frames" "$work/want_file"
@@ -436,11 +462,11 @@ no_miter 'a refused first circuit, and a second that is not there' "$files/short
     "$files/short.aag" "$files/none.aag"
 no_miter 'a limit that the first circuit passes' "$old: line 1: number above the limit" --max-var 0 "$old" "$new"
 no_miter 'a limit that the second circuit passes' "$new: line 1: number above the limit" --max-var 1 "$old" "$new"
-no_miter 'a first circuit that is not there' "$files/none.aag: cannot read" "$files/none.aag" "$new"
-no_miter 'a second circuit that is not there' "$files/none.aag: cannot read" "$old" "$files/none.aag"
-no_miter 'a folder as first circuit' "$files: cannot read" "$files" "$new"
-no_miter 'a folder as second circuit' "$files: cannot read" "$old" "$files"
-no_miter 'an empty name as second circuit' ': cannot read' "$old" ''
+no_miter 'a first circuit that is not there' "$files/none.aag: cannot read: $none" "$files/none.aag" "$new"
+no_miter 'a second circuit that is not there' "$files/none.aag: cannot read: $none" "$old" "$files/none.aag"
+no_miter 'a folder as first circuit' "$files: cannot read: $folder" "$files" "$new"
+no_miter 'a folder as second circuit' "$files: cannot read: $folder" "$old" "$files"
+no_miter 'an empty name as second circuit' ": cannot read: $none" "$old" ''
 wants '' "aiger: $files/live.aag: justice or fairness cannot be compared\n" 1
 untouched 'a second circuit that cannot be compared, as destination' "$files/live.aag" \
     miter "$old" "$files/live.aag" "$files/live.aag"
@@ -450,20 +476,20 @@ wants '' 'aiger: -: cannot read\n' 1
 untouched 'a closed standard input to compare' "$files/m.aig" miter "$old" - "$files/m.aig" <&-
 wants '' 'aiger: out of memory\n' 1
 untouched 'a device without an end to compare' "$files/m.aig" within 20480 "$program" aigmiter "$old" /dev/full "$files/m.aig"
-# cannot_miter_to NAME FILE
+# cannot_miter_to NAME FILE WHY
 cannot_miter_to() {
-    wants '' "aiger: $2: cannot write\n" 1
+    wants '' "aiger: $2: cannot write: $3\n" 1
     check "$1 for a miter" miter "$old" "$new" "$2"
 }
-cannot_miter_to 'a folder' "$files"
-cannot_miter_to 'an empty name' ''
-cannot_miter_to 'a folder that is not there' "$files/none/m.aig"
-cannot_miter_to 'a full device' /dev/full
+cannot_miter_to 'a folder' "$files" "$folder"
+cannot_miter_to 'an empty name' '' "$none"
+cannot_miter_to 'a folder that is not there' "$files/none/m.aig" "$none"
+cannot_miter_to 'a full device' /dev/full "$full"
 wants '' 'aiger: -: cannot write\n' 1
 check 'a miter into a full standard output' output_full miter "$old" "$new"
 check 'a miter into a closed standard output' output_closed miter "$old" "$new"
 if [ -e "$work/fail_sync.so" ]; then
-    wants '' "aiger: $files/m.aig: cannot write\n" 1
+    wants '' "aiger: $files/m.aig: cannot write: $broken\n" 1
     check 'a miter that is not kept' eval 'LD_PRELOAD=$work/fail_sync.so miter --sync "$old" "$new" "$files/m.aig"'
 fi
 cp "$work/binary_miter" "$work/want_file"
@@ -541,35 +567,67 @@ no_witness 'an unknown answer' "$files/unknown: unknown" witness "$files/unknown
 no_witness 'a bad answer' "$answered: line 1: bad answer line" witness "$answered" "$answered"
 no_witness 'an answer that reaches nothing' "$files/answer: no bad state is reached" \
     unroll 1 --answer "$files/answer" "$answered"
-no_witness 'an answer that is not there' "$files/none.ans: cannot read" witness "$files/none.ans" "$answered"
+no_witness 'an answer that is not there' "$files/none.ans: cannot read: $none" witness "$files/none.ans" "$answered"
 no_witness 'a forged refutation' "$files/answer: line 1: bad line" unroll 2 --refutation "$files/answer" "$answered"
 printf '3 0\n' > "$files/proof"
 no_witness 'a refutation that refutes nothing' "$files/proof: no refutation" unroll 2 --refutation "$files/proof" "$answered"
-no_witness 'a refutation that is not there' "$files/none.drat: cannot read" unroll 2 --refutation "$files/none.drat" "$answered"
+no_witness 'a refutation that is not there' "$files/none.drat: cannot read: $none" unroll 2 --refutation "$files/none.drat" "$answered"
 no_witness 'a refused model of a refutation that is not there' "$held: no bad states" \
     unroll 2 --refutation "$files/none.drat" "$held"
 no_witness 'a wrong invariant' "$files/answer: line 1: bad line" "$program" aigunroll --invariant "$files/answer" --cnf "$held_twice"
-no_witness 'an invariant that is not there' "$files/none.pla: cannot read" \
+no_witness 'an invariant that is not there' "$files/none.pla: cannot read: $none" \
     "$program" aigunroll --invariant "$files/none.pla" --refutation "$files/none.drat" "$held_twice"
 no_witness 'an invariant that is not right' "$files/proof: no refutation" \
     "$program" aigunroll --invariant /dev/null --refutation "$files/proof" "$held_twice"
 no_witness 'a refused model of an invariant that is not there' "$held: no bad states" \
     "$program" aigunroll --invariant "$files/none.pla" --refutation "$files/none.drat" "$held"
 no_witness 'a refused model of an answer that is not there' "$held: no bad states" witness "$files/none.ans" "$held"
-# cannot_write_both NAME FILE: neither clauses nor a witness
+# cannot_write_both NAME FILE WHY: neither clauses nor a witness
 cannot_write_both() {
-    wants '' "aiger: $2: cannot write\n" 1
+    wants '' "aiger: $2: cannot write: $3\n" 1
     check "$1 for clauses" clauses "$answered" "$2"
     check "$1 for a witness" witness "$files/answer" "$answered" "$2"
 }
-cannot_write_both 'a folder' "$files"
-cannot_write_both 'an empty name' ''
-cannot_write_both 'a full device' /dev/full
+cannot_write_both 'a folder' "$files" "$folder"
+cannot_write_both 'an empty name' '' "$none"
+cannot_write_both 'a full device' /dev/full "$full"
 if [ -e "$work/fail_sync.so" ]; then
-    wants '' "aiger: $files/w: cannot write\n" 1
+    wants '' "aiger: $files/w: cannot write: $broken\n" 1
     check 'clauses that are not kept' eval 'LD_PRELOAD=$work/fail_sync.so clauses --sync "$answered" "$files/w"'
     check 'a witness that is not kept' eval 'LD_PRELOAD=$work/fail_sync.so witness "$files/answer" --sync "$answered" "$files/w"'
 fi
+
+# --- binary to a terminal, by script of util-linux ---
+if command -v script > /dev/null; then
+    # to_terminal WORD..: what the words print at a terminal, but for its carriage returns, and on standard error
+    to_terminal() {
+        local status
+        SHELL=/bin/sh script -qec "$(printf '%q ' "$program" "$@") 2> $(printf %q "$work/told")" /dev/null < /dev/null > "$work/shown"
+        status=$?
+        tr -d '\r' < "$work/shown"
+        cat "$work/told" >&2
+        return "$status"
+    }
+    wants '' 'aiger: binary output to a terminal is refused: name a file, or use --ascii or --force\n' 2
+    check 'binary to a terminal' to_terminal aigtoaig "$source"
+    check 'binary to a terminal by -' to_terminal aigtoaig --keep-map "$source" -
+    check 'binary to a terminal, of a source that is not there' to_terminal aigtoaig "$files/none.aag"
+    check 'an unrolled circuit to a terminal' to_terminal aigunroll --frames 2 "$held"
+    check 'a miter to a terminal' to_terminal aigmiter "$old" "$new"
+    wants '' '' 0
+    cp "$work/binary" "$work/want_out"
+    check 'binary to a terminal, forced' to_terminal aigtoaig --force "$source"
+    cp "$work/binary" "$work/want_file"
+    made 'binary to a file, at a terminal' "$files/t.aig" to_terminal aigtoaig "$source" "$files/t.aig"
+    cp "$work/ascii" "$work/want_out"
+    check 'ASCII to a terminal' to_terminal aigtoaig --ascii "$source"
+    wants "$trace" '' 0
+    check 'a trace to a terminal' to_terminal aigsim "$source" "$files/steps"
+else
+    skip 10 'no script of util-linux'
+fi
+cp "$work/binary" "$work/want_out"
+check 'forced, and no terminal' aig --force "$source"
 
 # --- pipes with names ---
 mkfifo "$files/pipe"
@@ -585,7 +643,7 @@ if cmp -s "$work/through" "$work/binary"; then pass; else fail 'what came throug
 
 wants '' "aiger: $files/short.aag: line 2: file ends too early\n" 1
 check 'no pipe is waited for where a source is refused' timeout 10 "$program" aigtoaig "$files/short.aag" "$files/pipe"
-wants '' "aiger: $files/pipe: cannot write\n" 1
+wants '' "aiger: $files/pipe: cannot write: Broken pipe\n" 1
 head -c 1 < "$files/pipe" > "$work/first" &
 check 'a pipe that nobody reads any more' aig --ascii "$work/long" "$files/pipe"
 wait
@@ -637,7 +695,7 @@ mapfile -t many < <(yes x | head -n 300)
 longest=$(head -c 131071 /dev/zero | tr '\0' x)   # the longest argument that Linux passes on
 refused '300 arguments' 'x' aigtoaig "${many[@]}"
 refused 'a very long option' '--x' aigtoaig "--${longest:2}"
-wants '' "aiger: $longest: cannot read\n" 1
+wants '' "aiger: $longest: cannot read: File name too long\n" 1
 check 'a very long name' aig "$longest"
 refused 'an unknown option' '--asci' aigtoaig --asci
 refused 'an option close to one' '--ascii' aigtoaig --asci

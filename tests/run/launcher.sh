@@ -254,7 +254,7 @@ wants '' "error: unrecognized subcommand 'aigtoaig --ascii'\n\n  tip: a similar 
 check 'one word of two to the launcher' launch 'aigtoaig --ascii'
 wants '' 'aiger: an argument is not UTF-8 text\n' 2
 check 'a word that is no text to the launcher' launch aigtoaig $'\377'
-wants '' 'aiger: : cannot read\n' 1
+wants '' 'aiger: : cannot read: No such file or directory\n' 1
 check 'an empty word to the launcher' launch aigtoaig ''
 mkdir "$work/named"
 by_name() { cd "$work/named" && launch aigtoaig --ascii -- "$odd" -; }

@@ -23,7 +23,7 @@ if [ -n "$way" ]; then
     in_root() { $way "$root" /aiger "$@"; }
     wants "$small" '' 0
     check 'a conversion in a root without a C library' in_root aigtoaig --ascii /small
-    wants '' 'aiger: /none: cannot read\n' 1
+    wants '' 'aiger: /none: cannot read: No such file or directory\n' 1
     check 'a refusal in a root without a C library' in_root aigtoaig /none
     wants '' '' 0
     check 'a destination in a root without a C library' in_root aigtoaig --ascii /small /made
@@ -60,7 +60,7 @@ check 'a thousand variables' env -i "${many[@]}" "$program" aigtoaig --ascii "$w
 # --- a limit on the size of files ---
 awk 'BEGIN { print "aag 0 0 0 100000 0"; for (i = 0; i < 100000; i++) print i % 2 }' > "$work/long"
 limited() { ( ulimit -f 16 && exec env --default-signal=XFSZ "$program" aigtoaig "$work/long" "$work/limited.aag" ); }
-wants '' "aiger: $work/limited.aag: cannot write\n" 1
+wants '' "aiger: $work/limited.aag: cannot write: File too large\n" 1
 check 'a file above the limit on sizes, whose signal is not ignored before' limited
 
 # --- little memory: the system itself ends by SIGSEGV what it cannot load ---

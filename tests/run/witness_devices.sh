@@ -47,9 +47,9 @@ witness_inputs() {
     check 'a directory as witness by standard input' confirm < "$work"
     check 'a closed standard input as witness' confirm <&-
     check 'a closed standard input as model of a witness' "$program" aigsim --witness - "$judged/witness" <&-
-    wants '' "aiger: $work: cannot read\n" 1
+    wants '' "aiger: $work: cannot read: Is a directory\n" 1
     check 'a directory as witness' confirm "$work"
-    wants '' "aiger: $judged/none: cannot read\n" 1
+    wants '' "aiger: $judged/none: cannot read: No such file or directory\n" 1
     check 'a witness that is not there, a full standard output' output_full confirm "$judged/none"
     wants 'confirmed 1\n' '' 0
     check 'the witness by standard input' confirm < "$judged/witness"
@@ -99,14 +99,14 @@ witness_names() {
     local name=$judged/$'two\nlines and spaces'
     cp "$judged/witness" "$judged/-w"
     cp "$judged/model.aag" "$judged/-m"
-    cp "$judged/witness" "$judged/witness.gz"
+    cp "$judged/witness" "$judged/witness.gzip"
     cp "$judged/witness" "$name"
     ln -s witness "$judged/link"
     chmod 400 "$judged/model.aag" "$judged/witness"
     wants 'confirmed 1\n' '' 0
     check 'model and witness that may only be read' confirm "$judged/witness"
     check 'a link to a witness' confirm "$judged/link"
-    check 'any ending of the name of a witness' confirm "$judged/witness.gz"
+    check 'any ending of the name of a witness' confirm "$judged/witness.gzip"
     check 'a name of a witness with a line feed and spaces' confirm "$name"
     check 'names that begin with - behind --, to judge' eval 'cd "$judged" && "$program" aigsim --witness -- -m -w'
     check 'options behind the names of model and witness' \

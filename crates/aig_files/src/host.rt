@@ -1,5 +1,5 @@
 //! The files of the system. Each method makes one call of the system, and notes it with its answer.
-ghost use Rattle.std.specs.Prelude.{◌≡◌, ◌<◌, ◌≤◌, [], length, IfOk, is_some};
+ghost use Rattle.std.specs.Prelude.{◌≡◌, ◌<◌, ◌≤◌, [], length, IfOk, is_some, None};
 ghost use Rattle.aig_files.specs.Notes.{files_of};
 
 use crate::access::FileAccess;
@@ -50,7 +50,8 @@ pub struct HostFiles<'a, T: Files> {
 impl<'a, T: Files> HostFiles<'a, T> {
     /// The files of this runtime, with which nothing was done yet.
     pub fn new(files: &'a T) -> Self
-        ensures { result.log.notes ≡ [] }
+        ensures notes { result.log.notes ≡ [] }
+        ensures why { result.why ≡ None }
     {
         HostFiles {
             files,

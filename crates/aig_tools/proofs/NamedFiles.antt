@@ -9,6 +9,7 @@ use Rattle.aig_io.specs.Runs.{All, AtEnd, Beginning, Broken, Ending, IsCut, Open
 use Rattle.aig_io.specs.Runs.{Delivery, Sent, came}
 use Rattle.aig_io.proofs.Runs.{read_weaker}
 use Rattle.aig_files.specs.Named.{IsFailure, IsShown, named, used_as}
+use Rattle.aig_files.specs.declared.reason.Reason.{Reason}
 use Rattle.aig_tools.specs.Worlds.{IsReadAs, IsWriteEnd, ReadIn, SentIn, TakesAs, TransferredBetween}
 use Rattle.aig_tools.specs.Worlds.{with_use, world}
 
@@ -38,22 +39,23 @@ module _ (name : List ℕ) (lender : ℕ) (files files_now : Files) (history : H
         rw is at (used_is name lender files files_now history failed.0 idle (rw is refl) failed.2),
       )
 
-module _ (Says : List ℕ → Ending → Type 0) (source : Option (List ℕ)) (files : Files)
+module _ (Says : List ℕ → Ending → Type 0) (source : Option (List ℕ)) (files : Files) (why : Option Reason)
     (input output errors : History) where
   pub of_stream : (input_now : History) → source ≡ None → Read Says input input_now
-      → ReadIn Says source (world files input output errors) (world files input_now output errors)
+      → ReadIn Says source (world files why input output errors) (world files why input_now output errors)
   of_stream input_now none read = record {
     bytes = read.bytes;
     ending = read.ending;
     says = read.says;
-    came = rw none (ap (λ (history : History). world files history output errors) read.came);
+    came = rw none (ap (λ (history : History). world files why history output errors) read.came);
   }
 
-  pub of_file : (name : List ℕ) (lender : ℕ) (files_now : Files) (opened history : History) → source ≡ Some name
+  pub of_file : (name : List ℕ) (lender : ℕ) (files_now : Files) (why_now : Option Reason) (opened history : History)
+      → source ≡ Some name
       → opened ≡ unused (named lender name files) → files.current ≡ None → IsShown false Left history files_now
       → Read Says opened history
-      → ReadIn Says source (world files input output errors) (world files_now input output errors)
-  of_file name lender files_now opened history some new idle shown read = record {
+      → ReadIn Says source (world files why input output errors) (world files_now why_now input output errors)
+  of_file name lender files_now why_now opened history some new idle shown read = record {
     bytes = read.bytes;
     ending = read.ending;
     says = read.says;
@@ -65,42 +67,46 @@ module _ (Says : List ℕ → Ending → Type 0) (source : Option (List ℕ)) (f
   }
 
 -- what was sent to the output, of all that a call can reach
-pub to_output : (Says : List ℕ → Delivery → Type 0) (files : Files) (input output output_now errors : History)
+pub to_output : (Says : List ℕ → Delivery → Type 0) (files : Files) (why : Option Reason)
+    (input output output_now errors : History)
     → Sent Says output output_now
-    → SentIn Says None (world files input output errors) (world files input output_now errors)
-to_output Says files input output output_now errors s = record {
+    → SentIn Says None (world files why input output errors) (world files why input output_now errors)
+to_output Says files why input output output_now errors s = record {
   text = s.text;
   delivery = s.delivery;
   says = s.says;
-  sent = ap (λ (history : History). world files input history errors) s.sent;
+  sent = ap (λ (history : History). world files why input history errors) s.sent;
 }
 
 -- a source was read, and a text went to the output
 module _ (Says : List ℕ → Ending → List ℕ → Delivery → Type 0) (source : Option (List ℕ)) (files : Files)
-    (input output output_now errors : History) where
+    (why : Option Reason) (input output output_now errors : History) where
   -- of all that a call can reach, where these are the files and the input then
-  gone : (files_now : Files) (input_now : History) (s s_now : History) → Transferred Says s s_now output output_now
-      → Read (λ bytes ending. SentIn (Says bytes ending) None (world files_now input_now output errors)
-      (world files_now input_now output_now errors)) s s_now
-  gone files_now input_now s s_now = read_weaker _ _ s s_now
-      (λ bytes ending. to_output (Says bytes ending) files_now input_now output output_now errors)
+  gone : (files_now : Files) (why_now : Option Reason) (input_now : History) (s s_now : History)
+      → Transferred Says s s_now output output_now
+      → Read (λ bytes ending. SentIn (Says bytes ending) None (world files_now why_now input_now output errors)
+      (world files_now why_now input_now output_now errors)) s s_now
+  gone files_now why_now input_now s s_now = read_weaker _ _ s s_now
+      (λ bytes ending. to_output (Says bytes ending) files_now why_now input_now output output_now errors)
 
   pub transferred_of_stream : (input_now : History) → source ≡ None → Transferred Says input input_now output output_now
-      → TransferredBetween Says source None (world files input output errors) (world files input_now output_now errors)
+      → TransferredBetween Says source None (world files why input output errors)
+      (world files why input_now output_now errors)
   transferred_of_stream input_now none transferred = (
-    world files input_now output errors,
-    of_stream _ source files input output errors input_now none (gone files input_now input input_now transferred),
+    world files why input_now output errors,
+    of_stream _ source files why input output errors input_now none
+        (gone files why input_now input input_now transferred),
   )
 
-  pub transferred_of_file : (name : List ℕ) (lender : ℕ) (files_now : Files) (opened history : History)
-      → source ≡ Some name
-      → opened ≡ unused (named lender name files) → files.current ≡ None → IsShown false Left history files_now
+  pub transferred_of_file : (name : List ℕ) (lender : ℕ) (files_now : Files) (why_now : Option Reason)
+      (opened history : History) → source ≡ Some name → opened ≡ unused (named lender name files) → files.current ≡ None → IsShown false Left history files_now
       → Transferred Says opened history output output_now
-      → TransferredBetween Says source None (world files input output errors) (world files_now input output_now errors)
-  transferred_of_file name lender files_now opened history some new idle shown transferred = (
-    world files_now input output errors,
-    of_file _ source files input output errors name lender files_now opened history some new idle shown
-        (gone files_now input opened history transferred),
+      → TransferredBetween Says source None (world files why input output errors)
+      (world files_now why_now input output_now errors)
+  transferred_of_file name lender files_now why_now opened history some new idle shown transferred = (
+    world files_now why_now input output errors,
+    of_file _ source files why input output errors name lender files_now why_now opened history some new idle shown
+        (gone files_now why_now input opened history transferred),
   )
 
 -- a failure of a file that is written is an end of writing
@@ -116,37 +122,38 @@ write_end text bytes Synced failure = failure
 write_end text bytes NotKept failure = absurd failure
 
 -- a text went to a destination that a request names
-module _ (text : List ℕ) (destination : Option (List ℕ)) (files : Files) (input output errors : History) where
+module _ (text : List ℕ) (destination : Option (List ℕ)) (files : Files) (why : Option Reason)
+    (input output errors : History) where
   pub sent_whole : (output_now : History) → destination ≡ None → output_now ≡ took text output
-      → SentIn (λ t delivery. (t ≡ text) × (delivery ≡ All)) destination (world files input output errors)
-      (world files input output_now errors)
+      → SentIn (λ t delivery. (t ≡ text) × (delivery ≡ All)) destination (world files why input output errors)
+      (world files why input output_now errors)
   sent_whole output_now none all = record {
     text = text;
     delivery = All;
     says = (refl, refl);
-    sent = rw none (ap (λ (history : History). world files input history errors) all);
+    sent = rw none (ap (λ (history : History). world files why input history errors) all);
   }
 
   pub sent_in_part : (output_now : History) → destination ≡ None → TookBeginning text output output_now
-      → SentIn (λ t delivery. (t ≡ text) × IsCut delivery) destination (world files input output errors)
-      (world files input output_now errors)
+      → SentIn (λ t delivery. (t ≡ text) × IsCut delivery) destination (world files why input output errors)
+      (world files why input output_now errors)
   sent_in_part output_now none part = record {
     text = text;
     delivery = Beginning part.count;
     says = (refl, tt);
-    sent = rw none (ap (λ (history : History). world files input history errors) part.history);
+    sent = rw none (ap (λ (history : History). world files why input history errors) part.history);
   }
 
   -- by the answer
   pub sent_so : {A E : Type 0} (r : Result A E) (output_now : History) → destination ≡ None
       → OnOk r (output_now ≡ took text output) → OnErr r (TookBeginning text output output_now)
-      → SentIn (λ t delivery. (t ≡ text) × TakesAs r delivery) destination (world files input output errors)
-      (world files input output_now errors)
+      → SentIn (λ t delivery. (t ≡ text) × TakesAs r delivery) destination (world files why input output errors)
+      (world files why input output_now errors)
   sent_so (Ok done) output_now none all part = sent_whole output_now none all
   sent_so (Err fault) output_now none all part = sent_in_part output_now none part
 
-  module _ (name : List ℕ) (lender : ℕ) (files_now : Files) (opened history : History) (end : End)
-      (some : destination ≡ Some name) (new : opened ≡ unused (named lender name files))
+  module _ (name : List ℕ) (lender : ℕ) (files_now : Files) (why_now : Option Reason) (opened history : History)
+      (end : End) (some : destination ≡ Some name) (new : opened ≡ unused (named lender name files))
       (idle : files.current ≡ None) (shown : IsShown true end history files_now) where
     -- all was written, and the file was closed so
     used_whole : history ≡ took text opened → 0 < length text → files_now ≡ with_use name text end files
@@ -157,8 +164,8 @@ module _ (text : List ℕ) (destination : Option (List ℕ)) (files : Files) (in
         (shown.used (rw is refl) (rw is refl) (rw bytes long)))
 
     pub file_whole : history ≡ took text opened → 0 < length text → end ≡ end_of_close files
-        → SentIn (λ t delivery. (t ≡ text) × (delivery ≡ All)) destination (world files input output errors)
-        (world files_now input output errors)
+        → SentIn (λ t delivery. (t ≡ text) × (delivery ≡ All)) destination (world files why input output errors)
+        (world files_now why_now input output errors)
     file_whole all long closed = record {
       text = text;
       delivery = All;
@@ -167,8 +174,8 @@ module _ (text : List ℕ) (destination : Option (List ℕ)) (files : Files) (in
     }
 
     pub file_not_kept : history ≡ took text opened → 0 < length text → end ≡ NotKept
-        → SentIn (λ t delivery. (t ≡ text) × IsCut delivery) destination (world files input output errors)
-        (world files_now input output errors)
+        → SentIn (λ t delivery. (t ≡ text) × IsCut delivery) destination (world files why input output errors)
+        (world files_now why_now input output errors)
     file_not_kept all long closed = record {
       text = text;
       delivery = Beginning (length text);
@@ -181,8 +188,8 @@ module _ (text : List ℕ) (destination : Option (List ℕ)) (files : Files) (in
     }
 
     pub file_in_part : TookBeginning text opened history
-        → SentIn (λ t delivery. (t ≡ text) × IsCut delivery) destination (world files input output errors)
-        (world files_now input output errors)
+        → SentIn (λ t delivery. (t ≡ text) × IsCut delivery) destination (world files why input output errors)
+        (world files_now why_now input output errors)
     file_in_part part =
         let is = rw new at part.history in
         let failed = shown.failed (rw is (omega arith)) in

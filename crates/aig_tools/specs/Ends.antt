@@ -1,8 +1,8 @@
 -- How a job ends over files and streams, and a call of the program (this project's profile).
-use Rattle.std.specs.Prelude.{◌≡◌, ℕ, Bool, true, false, List, Option, None, Some, Result, Ok, Err}
+use Rattle.std.specs.Prelude.{◌≡◌, ◌&&◌, ℕ, Bool, true, false, List, Option, None, Some, Result, Ok, Err}
 use Rattle.aig_circuit.specs.declared.circuit.Circuit.{Circuit}
-use Rattle.aig_command.specs.Answer.{IsCommand, IsUsage, name_of}
-use Rattle.aig_command.specs.Asked.{asks_sync}
+use Rattle.aig_command.specs.Answer.{IsCommand, IsUsage, is_binary_stream, name_of}
+use Rattle.aig_command.specs.Asked.{asks_force, asks_sync}
 use Rattle.aig_command.specs.declared.request.CommandLine.{CommandLine}
 use Rattle.aig_command.specs.declared.request.Names.{Names}
 use Rattle.aig_command.specs.declared.usage.Usage.{Usage}
@@ -43,7 +43,7 @@ done_status (Some (Justice lassos.NotConfirmed)) = 1
 abbrev pub Concludes : Names → Part → Result (Option WitnessVerdict) Stopped → (before after : World) → ℕ → Type 0
 Concludes names part (Ok verdict) before after status = (status ≡ done_status verdict) × (after ≡ before)
 Concludes names part (Err stopped) before after status =
-    (status ≡ 1) × IsReportedIn (stop_line names part stopped) before after
+    (status ≡ 1) × IsReportedIn (stop_line names part stopped before.why) before after
 
 -- How a job ends: its next source is read, and what that makes of it ends so; or that is not read or is refused; or
 -- steps are answered as they come; or its answer is written.
@@ -74,7 +74,8 @@ status_of usage = 2
 
 -- what is answered to the words
 abbrev pub IsAnswered : List (List ℕ) → Result CommandLine Usage → Type 0
-IsAnswered words (Ok line) = IsCommand words line.names line.command × (line.sync ≡ asks_sync words)
+IsAnswered words (Ok line) =
+    IsCommand words line.names line.command × (line.sync ≡ asks_sync words) × (line.force ≡ asks_force words)
 IsAnswered words (Err usage) = IsUsage words usage
 
 -- what a program can reach, where what it writes is synced if that is asked for
@@ -82,14 +83,25 @@ abbrev pub with_sync_if : Bool → World → World
 with_sync_if true before = record before { files = with_sync before.files }
 with_sync_if false before = before
 
--- How the program ends, by that: its job does, and the destination is synced where the words ask for that; or the words
--- are refused, which is reported, and nothing else was done.
-abbrev pub EndsAs : Result CommandLine Usage → (before after : World) → ℕ → Type 0
-EndsAs (Ok line) before after status =
+-- the words are refused, which is reported, and nothing else was done
+abbrev pub IsRefused : Usage → (before after : World) → ℕ → Type 0
+IsRefused usage before after status = (status ≡ status_of usage) × IsReportedIn (usage_text usage) before after
+
+-- a command is refused that would garble a terminal; or its job ends so, and the destination is synced where the words
+-- ask for that
+abbrev pub CommandEnds : Bool → CommandLine → (before after : World) → ℕ → Type 0
+CommandEnds true line before after status = IsRefused usages.BinaryToTerminal before after status
+CommandEnds false line before after status =
     Ends line.names (job_of line.command) (with_sync_if line.sync before) after status
-EndsAs (Err usage) before after status = (status ≡ status_of usage) × IsReportedIn (usage_text usage) before after
+
+-- How the program ends, by that, where its standard output is a terminal or not: its command does, which garbles a
+-- terminal by binary that is not forced; or the words are refused.
+abbrev pub EndsAs : Bool → Result CommandLine Usage → (before after : World) → ℕ → Type 0
+EndsAs to_terminal (Ok line) before after status =
+    CommandEnds (to_terminal && is_binary_stream line) line before after status
+EndsAs to_terminal (Err usage) before after status = IsRefused usage before after status
 
 -- the program answers the words, and ends so
-abbrev pub ProgramEnds : List (List ℕ) → (before after : World) → ℕ → Type 0
-ProgramEnds words before after status =
-    (answer : Result CommandLine Usage) × IsAnswered words answer × EndsAs answer before after status
+abbrev pub ProgramEnds : List (List ℕ) → Bool → (before after : World) → ℕ → Type 0
+ProgramEnds words to_terminal before after status =
+    (answer : Result CommandLine Usage) × IsAnswered words answer × EndsAs to_terminal answer before after status

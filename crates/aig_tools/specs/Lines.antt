@@ -8,6 +8,8 @@ use Rattle.aig_command.specs.declared.usage.Usage.TheVariants as usages
 use Rattle.aig_commands.specs.declared.job.Part.{Part}
 use Rattle.aig_commands.specs.declared.job.Part.TheVariants.{File, Model, Refutation}
 use Rattle.aig_fault.specs.Stopping.{stopped_text}
+use Rattle.aig_files.specs.Reasons.{reason_words}
+use Rattle.aig_files.specs.declared.reason.Reason.{Reason}
 use Rattle.aig_fault.specs.declared.stopped.Stopped.{Stopped}
 use Rattle.aig_fault.specs.declared.stopped.Stopped.TheVariants.{OutOfMemory, ReadFailed, Refused, WriteFailed}
 use Rattle.aig_io.specs.Devices.{History, TookBeginning, took}
@@ -42,9 +44,22 @@ subject_text names part WriteFailed = shown (name_of names.destination) ++ codes
 subject_text names part ReadFailed = shown (name_at names part) ++ codes ": "
 subject_text names part (Refused fault) = shown (name_at names part) ++ codes ": "
 
--- the line that reports why a job stopped at this source, or after it
-abbrev pub stop_line : Names → Part → Stopped → List ℕ
-stop_line names part stopped = line_of (subject_text names part stopped) (stopped_text stopped)
+-- why a file could not be used, if the system told; of a stream it is not known
+abbrev pub why_text : Option (List ℕ) → Option Reason → List ℕ
+why_text (Some name) (Some reason) = codes ": " ++ reason_words reason
+why_text name why = []
+
+-- why a job stopped, if that was a file
+abbrev pub cause_text : Names → Part → Stopped → Option Reason → List ℕ
+cause_text names part OutOfMemory why = []
+cause_text names part WriteFailed why = why_text (name_of names.destination) why
+cause_text names part ReadFailed why = why_text (name_at names part) why
+cause_text names part (Refused fault) why = []
+
+-- the line that reports why a job stopped at this source, or after it, where the files failed for this reason
+abbrev pub stop_line : Names → Part → Stopped → Option Reason → List ℕ
+stop_line names part stopped why =
+    line_of (subject_text names part stopped) (stopped_text stopped ++ cause_text names part stopped why)
 
 -- what is printed where the words are refused: the text of `clap`, or a line
 abbrev pub usage_text : Usage → List ℕ

@@ -5,17 +5,19 @@ use Rattle.aig_io.specs.Devices.{History}
 use Rattle.aig_io.specs.Files.{End, Files, Left, NotKept, Whole, end_of_close, used}
 use Rattle.aig_io.specs.Runs.{All, AtEnd, Beginning, Broken, Delivery, Ending, IsCut, NotSent, Open, came, sent}
 use Rattle.aig_files.specs.Named.{IsFailure}
+use Rattle.aig_files.specs.declared.reason.Reason.{Reason}
 
--- all that a program can reach
+-- all that a program can reach, with why the last use of the files failed, if it did and the system told
 pub record World : Type 0 where
   pub files : Files
+  pub why : Option Reason
   pub input : History
   pub output : History
   pub errors : History
 
-abbrev pub world : Files → History → History → History → World
-world files input output errors =
-    record { files = files; input = input; output = output; errors = errors }
+abbrev pub world : Files → Option Reason → History → History → History → World
+world files why input output errors =
+    record { files = files; why = why; input = input; output = output; errors = errors }
 
 -- no file is open
 abbrev pub IsIdle : World → Type 0
@@ -56,13 +58,15 @@ TakesAs (Err fault) delivery = IsCut delivery
 abbrev pub CameFrom : Option (List ℕ) → List ℕ → Ending → (before after : World) → Type 0
 CameFrom None bytes ending before after = after ≡ record before { input = came bytes ending before.input }
 CameFrom (Some name) bytes ending before after =
-    (files : Files) × IsReadAs name bytes ending before.files files × (after ≡ record before { files = files })
+    (files : Files) × IsReadAs name bytes ending before.files files
+    × (after ≡ record before { files = files; why = after.why })
 
 -- the destination took so much of this text, and no other was touched
 abbrev pub SentTo : Option (List ℕ) → List ℕ → Delivery → (before after : World) → Type 0
 SentTo None text delivery before after = after ≡ record before { output = sent text delivery before.output }
 SentTo (Some name) text delivery before after =
-    (files : Files) × IsWrittenAs name text delivery before.files files × (after ≡ record before { files = files })
+    (files : Files) × IsWrittenAs name text delivery before.files files
+    × (after ≡ record before { files = files; why = after.why })
 
 -- The source was read, and this holds of what came.
 pub record ReadIn (Says : List ℕ → Ending → Type 0) (source : Option (List ℕ)) (before after : World) : Type 0 where

@@ -23,5 +23,5 @@ pub use aig_command::{
     BadStates, Command, CommandLine, Names, Sim, ToAig, Unroll, UnrolledForm, Usage, command,
 };
 pub use aig_commands::{Answer, Job, Reading, Stopped, Task, run_toaig, run_unroll, run_witness};
-pub use aig_files::HostFiles;
+pub use aig_files::{HostFiles, output_is_terminal};
 pub use aig_witness::Verdict;

@@ -87,26 +87,33 @@ fn ask_for_sync<A: FileAccess, R: Source, W: Sink, E: Sink>(
 
 /// Does what the arguments ask for, the program's name first, over the three streams and the files
 /// that they name, and answers the status: 0 done; 1 refused input, a witness that is not
-/// confirmed, a device that failed or out of memory; 2 refused words. An error is reported on the
-/// stream for errors; whether that takes it changes nothing.
+/// confirmed, a device that failed or out of memory; 2 refused words, also for binary that would go
+/// to a terminal. An error is reported on the stream for errors; whether that takes it changes
+/// nothing.
 pub fn serve<A: FileAccess, R: Source, W: Sink, E: Sink>(
     alloc: Global,
     words: &[String],
+    to_terminal: bool,
     world: &mut World<A, R, W, E>,
 ) -> u8
     requires { IsIdle world.old }
     ensures idle { world.new.files.current ≡ None }
-    ensures ends { ProgramEnds (texts words.now) world.old world.new result }
+    ensures ends { ProgramEnds (texts words.now) to_terminal world.old world.new result }
     ensures status { result ≤ 2 }
 {
     match command(alloc, words) {
-        Ok(
-            CommandLine {
+        Ok(line) => {
+            if to_terminal && line.is_binary_stream() {
+                let status = refuse(&mut world.errors, &Usage::BinaryToTerminal);
+                drop(line); // for the proof
+                return status;
+            }
+            let CommandLine {
                 command,
                 names,
                 sync,
-            },
-        ) => {
+                force: _,
+            } = line;
             ask_for_sync(world, sync);
             run(alloc, &names, Job::of_command(command), world)
         }

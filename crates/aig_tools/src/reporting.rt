@@ -5,11 +5,12 @@ ghost use Rattle.std.specs.Prelude.{◌≡◌, ◌++◌, [], codes};
 ghost use Rattle.aig_io.specs.Output.{Appended};
 ghost use Rattle.aig_command.specs.Answer.{name_of};
 ghost use Rattle.aig_tools.specs.Lines.{IsReported, line_of, memory_line, name_at, shown};
-ghost use Rattle.aig_tools.specs.Lines.{stop_line, subject_text, usage_text, words_line};
+ghost use Rattle.aig_tools.specs.Lines.{cause_text, stop_line, subject_text, usage_text, why_text, words_line};
 
 use aig_command::{Names, Usage};
 use aig_commands::{Part, Stopped};
 use aig_core::{Output, Sink};
+use aig_files::Reason;
 
 /// The name of a source.
 pub(crate) fn name_at(names: &Names, part: Part) -> &Option<String>
@@ -96,15 +97,54 @@ fn put_subject<E: Sink>(output: &mut Output<E>, names: &Names, part: Part, stopp
     }
 }
 
+/// Puts why a file could not be used; of a stream it is not known.
+fn put_why<E: Sink>(output: &mut Output<E>, name: &Option<String>, why: Option<Reason>)
+    ensures { Appended output.old output.new (why_text (name_of name.now) why) }
+{
+    match (name, why) {
+        (Some(_), Some(reason)) => {
+            output.put(b": ");
+            output.put(reason.words().as_bytes());
+        }
+        _ => output.put(b""),
+    }
+}
+
+/// Puts why a job stopped, if that was a file.
+fn put_cause<E: Sink>(
+    output: &mut Output<E>,
+    names: &Names,
+    part: Part,
+    stopped: &Stopped,
+    why: Option<Reason>,
+)
+    ensures { Appended output.old output.new (cause_text names.now part stopped.now why) }
+{
+    match stopped {
+        Stopped::OutOfMemory => output.put(b""),
+        Stopped::WriteFailed => put_why(output, &names.destination, why),
+        Stopped::ReadFailed => put_why(output, name_at(names, part), why),
+        Stopped::Refused(_) => output.put(b""),
+    }
+}
+
 /// Reports why a job stopped at this source, or after it, in one line that names what is at fault.
-pub(crate) fn report_stop<E: Sink>(errors: &mut E, names: &Names, part: Part, stopped: &Stopped)
-    ensures { IsReported (stop_line names.now part stopped.now)
+/// Where the files failed, it was for this reason.
+pub(crate) fn report_stop<E: Sink>(
+    errors: &mut E,
+    names: &Names,
+    part: Part,
+    stopped: &Stopped,
+    why: Option<Reason>,
+)
+    ensures { IsReported (stop_line names.now part stopped.now why)
         (E.history errors.old) (E.history errors.new) }
 {
     let mut output = Output::new(errors);
     output.put(b"aiger: ");
     put_subject(&mut output, names, part, stopped);
     stopped.put(&mut output);
+    put_cause(&mut output, names, part, stopped, why);
     output.put(b"\n");
     let (_sent, _errors) = output.finish();
 }

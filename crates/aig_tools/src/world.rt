@@ -44,7 +44,8 @@ impl<A: FileAccess, R: Source, W: Sink, E: Sink> Model for World<A, R, W, E> {
     ghost Value = { World };
 
     ghost view = { λ w.
-        world (A.files w.files) (R.history w.input) (W.history w.output) (E.history w.errors) };
+        world (A.files w.files) (A.why w.files) (R.history w.input) (W.history w.output)
+        (E.history w.errors) };
 }
 
 /// Answers the steps of this model that the file of this name has, which is opened at the first
@@ -61,8 +62,8 @@ fn answer_named<A: FileAccess, W: Sink>(
     ensures idle { (A.files files.new).current ≡ None }
     ensures transferred { (input errors : History)
         → TransferredBetween (TaskSays task model result) (Some name.now) None
-        (world (A.files files.old) input (W.history output.old) errors)
-        (world (A.files files.new) input (W.history output.new) errors) }
+        (world (A.files files.old) (A.why files.old) input (W.history output.old) errors)
+        (world (A.files files.new) (A.why files.new) input (W.history output.new) errors) }
 {
     let mut file = NamedSource::new(files, name);
     let done = perform(alloc, task, model, &mut file, output);
@@ -179,7 +180,8 @@ impl<A: FileAccess, R: Source, W: Sink, E: Sink> World<A, R, W, E> {
         match done {
             Ok(verdict) => done_status(verdict),
             Err(stopped) => {
-                report_stop(&mut self.errors, names, part, &stopped);
+                let why = self.files.reason();
+                report_stop(&mut self.errors, names, part, &stopped, why);
                 FAILED
             }
         }

@@ -1,7 +1,8 @@
 //! The program: the arguments and the streams of the process, and the status that `serve` answers.
 //!
 //! `main` lends `serve` of `aig_tools` the arguments and a `World`, of the files of the system and
-//! the three standard streams, and ends with the status that it answers. Nothing else is done here. The
+//! the three standard streams, tells it whether the standard output is a terminal, and ends with the
+//! status that it answers. Nothing else is done here. The
 //! program's own name is not looked at, since it may be no text. Arguments that are no text are
 //! refused, and so is a start without memory for them.
 //!
@@ -10,7 +11,7 @@
 #![tactic(auto)]
 
 use aig_core::{ReadSource, WriteSink};
-use aig_tools::{HostFiles, World, refuse_for_memory, refuse_words, serve};
+use aig_tools::{HostFiles, World, output_is_terminal, refuse_for_memory, refuse_words, serve};
 use std::alloc::Global;
 use std::env::FillError;
 use std::process::ExitCode;
@@ -67,5 +68,6 @@ fn main(rt: HostRuntime) -> ExitCode {
         output: WriteSink::new(rt.stdout()),
         errors,
     };
-    ExitCode::from(serve(alloc, words.as_slice(), &mut world))
+    let to_terminal = output_is_terminal(&rt);
+    ExitCode::from(serve(alloc, words.as_slice(), to_terminal, &mut world))
 }

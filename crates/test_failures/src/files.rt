@@ -4,7 +4,8 @@ use crate::failures::row_parts;
 use crate::memory_files::{Calls, MemoryFiles, Readable};
 use crate::run::{Behaviour, run};
 use crate::streams::NEVER;
-use std::alloc::Global;
+use aig_tools::output_is_terminal;
+use std::alloc::{AllocError, Global};
 use std::fs;
 use std::fs::Metadata;
 use std::os::unix::fs::MetadataExt;
@@ -116,12 +117,10 @@ fn row_of<'a>(row: &'a str, calls: &'a Calls) -> (&'a str, MemoryFiles<'a, 'a>) 
     (words, files)
 }
 
-fn unwritten(words: &str) -> &'static str {
-    if words.ends_with(".aag") {
-        "aiger: destination.aag: cannot write\n"
-    } else {
-        "aiger: destination: cannot write\n"
-    }
+/// What is told where the destination is not written, and why.
+fn unwritten(alloc: Global, words: &str, why: &str) -> Result<String, AllocError> {
+    let ending = if words.ends_with(".aag") { ".aag" } else { "" };
+    format!(in alloc; "aiger: destination{ending}: cannot write: {why}\n")
 }
 
 /// The files hold what is wanted. One is opened, one made and, where there is no disk, synced;
@@ -173,7 +172,7 @@ fn unsynced_files(rt: HostRuntime) -> Result<(), Fail> {
 /// The source cannot be opened, or each of its reads fails in turn.
 #[test]
 fn failed_sources(rt: HostRuntime) {
-    let line = "aiger: source: cannot read\n";
+    let line = "aiger: source: cannot read: Interrupted system call\n";
     for row in ROWS.split('#') {
         let calls = Calls::none();
         let (words, mut files) = row_of(row, &calls);
@@ -185,29 +184,51 @@ fn failed_sources(rt: HostRuntime) {
             );
         }
         let words = "aiger aigtoaig another destination";
-        let line = "aiger: another: cannot read\n";
+        let line = "aiger: another: cannot read: No such file or directory\n";
         assert!(rt; is_reported(rt.alloc(), &files, words, 1, line));
     }
 }
 
 /// The destination cannot be made or closed, or each of its writes fails in turn.
 #[test]
-fn failed_destinations(rt: HostRuntime) {
+fn failed_destinations(rt: HostRuntime) -> Result<(), Fail> {
     for row in ROWS.split('#') {
         let calls = Calls::none();
         let (words, mut files) = row_of(row, &calls);
-        let line = unwritten(words);
-        assert!(rt; is_reported(rt.alloc(), &files, words, 1, line), "close");
+        let line = unwritten(rt.alloc(), words, "Input/output error")?;
+        assert!(rt;
+            is_reported(rt.alloc(), &files, words, 1, line.as_str()),
+            "close"
+        );
+        let line = unwritten(rt.alloc(), words, "No space left on device")?;
         for write in 0..row_parts(row).2.len() as u64 / 3 {
             files.failing_write = write;
-            assert!(rt;
-                is_reported(rt.alloc(), &files, words, 1, line),
-                "write {write}"
-            );
+            let held = is_reported(rt.alloc(), &files, words, 1, line.as_str());
+            assert!(rt; held, "write {write}");
         }
         files.wanted = None;
-        assert!(rt; is_reported(rt.alloc(), &files, words, 1, line), "create");
+        let line = unwritten(rt.alloc(), words, "Permission denied")?;
+        assert!(rt;
+            is_reported(rt.alloc(), &files, words, 1, line.as_str()),
+            "create"
+        );
     }
+    Ok(())
+}
+
+/// The standard output is a terminal where it is a character device with such a number. Without
+/// metadata of it nothing is known.
+#[test]
+fn terminals(rt: HostRuntime) -> Result<(), Fail> {
+    for (name, is_terminal) in [("/dev/tty", true), ("/dev/null", false), (".", false)] {
+        let metadata = fs::metadata(&rt, name)?;
+        let calls = Calls::none();
+        let (_, mut files) = row_of(ROWS, &calls);
+        assert!(rt; !output_is_terminal(&files));
+        files.metadata = Some(&metadata);
+        assert!(rt; output_is_terminal(&files) == is_terminal, "{name}");
+    }
+    Ok(())
 }
 
 /// Words, `$` and a source that is refused, or whose circuit cannot be unrolled, `=` and what is

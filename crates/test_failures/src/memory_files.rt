@@ -7,6 +7,15 @@ use std::io;
 use std::io::{ErrorKind, Read, Seek, SeekFrom, Write};
 use std::rt::Files;
 
+/// The numbers of errors: `ENOENT`, `EIO`, `EACCES` and `ENOSPC`.
+const NOT_FOUND: i32 = 2;
+
+const BROKEN: i32 = 5;
+
+const DENIED: i32 = 13;
+
+const NO_SPACE: i32 = 28;
+
 /// How many files were opened to be read, made and synced, and how many other calls there were.
 #[derive(Drop)]
 pub(crate) struct Calls {
@@ -49,7 +58,8 @@ pub(crate) struct Readable<'a> {
 
 /// Files that move at most `piece` bytes in a call. The destination can be made if there is a text
 /// that is wanted, and takes that text and no other. The write numbered `failing_write`, counted
-/// from 0, fails, and no other does. A file without metadata cannot be closed.
+/// from 0, fails, and no other does. A file without metadata cannot be closed; the standard output
+/// has them too.
 #[derive(Drop)]
 pub(crate) struct MemoryFiles<'a, 'c> {
     pub readable: [Readable<'a>; 2],
@@ -85,7 +95,7 @@ impl<'a, 'c> MemoryFiles<'a, 'c> {
                 return Ok(self.file(it.text, it.failing, b""));
             }
         }
-        Err(io::Error::from(ErrorKind::NotFound))
+        Err(io::Error::from_raw_os_error(NOT_FOUND))
     }
 
     /// The answer to all that the program is not to call.
@@ -118,7 +128,7 @@ impl Write for MemoryFile<'_, '_> {
         self.writes = write.saturating_add(1);
         let count = self.piece.min(bytes.len());
         if write == self.failing_write || !self.wanted.starts_with(&bytes[..count]) {
-            return Err(io::Error::from(ErrorKind::WriteZero));
+            return Err(io::Error::from_raw_os_error(NO_SPACE));
         }
         self.wanted = &self.wanted[count..];
         Ok(count)
@@ -141,7 +151,7 @@ impl OpenFile for MemoryFile<'_, '_> {
     fn metadata(&self) -> io::Result<Metadata> {
         match self.metadata {
             Some(metadata) if self.wanted.is_empty() => Ok(metadata.clone()?),
-            _ => Err(io::Error::from(ErrorKind::Unsupported)),
+            _ => Err(io::Error::from_raw_os_error(BROKEN)),
         }
     }
 
@@ -174,7 +184,7 @@ impl<'a, 'c> Files for MemoryFiles<'a, 'c> {
         }
         if path.starts_with("destination") && how.asks_create() && how.asks_truncate() {
             count_call(&self.calls.made);
-            let wanted = self.wanted.ok_or(io::Error::from(ErrorKind::NotFound))?;
+            let wanted = self.wanted.ok_or(io::Error::from_raw_os_error(DENIED))?;
             return Ok(self.file(b"", 0, wanted));
         }
         self.refuse()
@@ -184,8 +194,11 @@ impl<'a, 'c> Files for MemoryFiles<'a, 'c> {
         self.refuse()
     }
 
-    fn metadata(&self, _path: &str) -> io::Result<Metadata> {
-        self.refuse()
+    fn metadata(&self, path: &str) -> io::Result<Metadata> {
+        match self.metadata {
+            Some(metadata) if path == "/proc/self/fd/1" => Ok(metadata.clone()?),
+            _ => self.refuse(),
+        }
     }
 
     fn symlink_metadata(&self, _path: &str) -> io::Result<Metadata> {

@@ -76,7 +76,7 @@ pub(crate) fn run<T: Files>(
         output: WriteSink::new(&mut output),
         errors: WriteSink::new(&mut errors),
     };
-    let status = serve(alloc, words.as_slice(), &mut world);
+    let status = serve(alloc, words.as_slice(), false, &mut world);
     drop(world);
     Ok(Outcome {
         status,

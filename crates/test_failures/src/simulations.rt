@@ -154,13 +154,13 @@ pub(crate) fn unread_model(words: &str) -> &'static str {
     if words.ends_with(" - stimulus") {
         "aiger: -: cannot read\n"
     } else {
-        "aiger: model: cannot read\n"
+        "aiger: model: cannot read: Interrupted system call\n"
     }
 }
 
 pub(crate) fn unread_stimulus(words: &str) -> &'static str {
     if words.ends_with(" stimulus") {
-        "aiger: stimulus: cannot read\n"
+        "aiger: stimulus: cannot read: Interrupted system call\n"
     } else {
         "aiger: -: cannot read\n"
     }
@@ -282,7 +282,7 @@ fn unread_ends(rt: HostRuntime) {
     for call in 2..5 {
         devices.failing_stimulus = call;
         let words = "aiger aigsim model stimulus";
-        let line = "aiger: stimulus: cannot read\n";
+        let line = "aiger: stimulus: cannot read: Interrupted system call\n";
         let comes = devices.comes_to(rt.alloc(), words, 1, line, &TRACE[..7]);
         assert!(rt; comes, "read {call}");
     }

@@ -2,15 +2,15 @@
 use aig_core::{ReadSource, Sink, Source, WriteSink};
 use std::alloc::Global;
 use std::io;
-use std::io::{ErrorKind, Read, Write};
+use std::io::{Read, Write};
 use std::test::Fail;
 
 /// The number of no call.
 pub(crate) const NEVER: u64 = u64::MAX;
 
-/// The error after which std's own loops call once more.
+/// The error after which std's own loops call once more, by its number (`EINTR`).
 fn interruption() -> io::Error {
-    io::Error::from(ErrorKind::Interrupted)
+    io::Error::from_raw_os_error(4)
 }
 
 /// Gives these bytes, at most `piece` in a call. The call numbered `failing`, counted from 0,

@@ -13,8 +13,8 @@ WORDS = """aigtoaig aigtoaig aigsim aigsim aigunroll aigunroll aigmiter aigmiter
     --outputs-as-bad --justice-as-bad --justice-as-bad=0 --simplify --simplify
     --max-var --max-var=9 --max-var=2147483648 --frames --frames=2 --frames=0 --batch --properties
     --vcd --witness --cnf --cnf --bad=0 --bad=1 --justice=0 --answer=source --answer
-    --refutation=source --refutation --lrat --invariant=source --invariant --by-name --sync --help -h -- - source source source out.aag
-    out.aig out.gz 3 --unknown""".split() + [""]
+    --refutation=source --refutation --lrat --invariant=source --invariant --by-name --sync --force
+    --help -h -- - source source source out.aag out.aig out.gz source.xz 3 --unknown""".split() + [""]
 # what the arguments that refusals.py lists are refused for, in this order; and names of files that cannot be there
 REFUSED_WORDS = """aigtoaig --keep-map --ascii
 aigtoaig --strip --keep-map
@@ -25,6 +25,13 @@ aigtoaig --undo-map --outputs-as-bad
 aigtoaig --justice-as-bad 0 --outputs-as-bad
 aigsim - -
 aigunroll --frames 2 - out.aig.gz
+aigtoaig - out.xz
+aigmiter a b out.aag.zst
+aigtoaig --force - .bz2
+aigtoaig source.gz
+aigsim model stimulus.xz
+aigunroll --frames 2 --refutation proof.zst model
+aigmiter - second.aig.bz2
 aigsim --witness --batch model
 aigsim --vcd --properties model
 aigunroll --frames 2 --cnf --ascii
@@ -45,10 +52,10 @@ aigmiter - -
 aigtoaig --sync model
 aigtoaig \udcff""".split("\n")
 NO_FILES = {
-    "aigtoaig none/source": "none/source: cannot read",
-    "aigsim none/model": "none/model: cannot read",
-    "aigmiter none/first -": "none/first: cannot read",
-    "aigtoaig - none/out.aag": "none/out.aag: cannot write",
+    "aigtoaig none/source": "none/source: cannot read: No such file or directory",
+    "aigsim none/model": "none/model: cannot read: No such file or directory",
+    "aigmiter none/first -": "none/first: cannot read: No such file or directory",
+    "aigtoaig - none/out.aag": "none/out.aag: cannot write: No such file or directory",
 }
 
 

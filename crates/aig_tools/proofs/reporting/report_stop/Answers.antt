@@ -9,6 +9,6 @@ returns g c =
     reported_by _ _ _ _ _ _ refl c.new-output.ensures refl refl
     (put_twice _ _ _ _ _ c.put.ensures.put
     (put_twice _ _ _ _ _ c.put_subject.ensures
-    (put_twice _ _ _ _ _ c.put-2.ensures c.put-3.ensures.put)))
+    (put_twice _ _ _ _ _ (put_twice _ _ _ _ _ c.put-2.ensures c.put_cause.ensures) c.put-3.ensures.put)))
     c.finish-sent.ensures.put refl in
     search rules

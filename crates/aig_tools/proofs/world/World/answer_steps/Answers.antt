@@ -9,5 +9,5 @@ returns-in-Some-clause-transferred g c =
 
 pub returns-in-None-clause-transferred : goal.returns-in-None-clause-transferred
 returns-in-None-clause-transferred g c =
-    rw (← c.self.view_is) (transferred_of_stream _ _ _ _ _ _ _ _ (ap name_of c.in-None.is)
+    rw (← c.self.view_is) (transferred_of_stream _ _ _ _ _ _ _ _ _ (ap name_of c.in-None.is)
     c.perform.ensures.transferred)

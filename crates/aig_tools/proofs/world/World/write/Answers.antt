@@ -8,7 +8,7 @@ use Rattle.aig_tools.proofs.world.World.write.Goals as goal
 pub returns-in_err-sent-in-Some-clause-sent : goal.returns-in_err-sent-in-Some-clause-sent
 returns-in_err-sent-in-Some-clause-sent g c =
     let h = err_from_is_err_and c.from_residual.result c.from_residual.ensures.1 in
-    rw (h.1, ← c.self.view_is) (file_in_part _ _ _ _ _ _ _ _ _ c.new-file.result c.write-sent.new.sink
+    rw (h.1, ← c.self.view_is) (file_in_part _ _ _ _ _ _ _ _ _ _ _ c.new-file.result c.write-sent.new.sink
     (closing c.write-sent.new.sink.origin.before c.finish-closed.result.0) (ap name_of c.in-Some.is)
     (rw c.as_str.ensures.value at c.new-file.ensures)
     (rw (← c.self.view_is) at c.requires.ready) (search rules) c.in_err-sent-in-Some.ensures.err)
@@ -17,7 +17,7 @@ pub returns-in_err-closed-in-Some-clause-sent : goal.returns-in_err-closed-in-So
 returns-in_err-closed-in-Some-clause-sent g c =
     let h =
     err_from_is_err_and c.from_residual-in_err-closed-in-Some.result c.from_residual-in_err-closed-in-Some.ensures.1 in
-    rw (h.1, ← c.self.view_is) (file_not_kept _ _ _ _ _ _ _ _ _ c.new-file.result c.write-sent.new.sink
+    rw (h.1, ← c.self.view_is) (file_not_kept _ _ _ _ _ _ _ _ _ _ _ c.new-file.result c.write-sent.new.sink
     (closing c.write-sent.new.sink.origin.before c.finish-closed.result.0) (ap name_of c.in-Some.is)
     (rw c.as_str.ensures.value at c.new-file.ensures)
     (rw (← c.self.view_is) at c.requires.ready) (search rules) c.in_ok-sent-in-Some.ensures.ok c.requires.some
@@ -25,5 +25,5 @@ returns-in_err-closed-in-Some-clause-sent g c =
 
 pub returns-in-None-clause-sent : goal.returns-in-None-clause-sent
 returns-in-None-clause-sent g c =
-    rw (← c.self.view_is) (sent_so _ _ _ _ _ _ c.write.result _ (ap name_of c.in-None.is) c.write.ensures.ok
+    rw (← c.self.view_is) (sent_so _ _ _ _ _ _ _ c.write.result _ (ap name_of c.in-None.is) c.write.ensures.ok
     c.write.ensures.err)
