@@ -170,7 +170,7 @@ def wanted_of_run(made, names, name, text):
     answer, errors, status = witnesses.wanted(made, name, text)
     if errors:
         return answer, errors, status
-    shown = marked(made, names, witnesses.lines_of(text))
+    shown = marked(made, names, witnesses.said(witnesses.lines_of(text)))
     if not shown:
         return b"", f"aiger: {name}: too large\n".encode(), 1
     made, names, lines = shown
@@ -387,7 +387,7 @@ def judge_run(program, folder, number, names, models, file):
     text, errors, _ = should
     if errors:
         return None
-    made, _, lines = marked(made, names, witnesses.lines_of(given))
+    made, _, lines = marked(made, names, witnesses.said(witnesses.lines_of(given)))
     said = of_dump(made, lines_of_run(made, lines), text, file)
     return f"{model!r} and the witness {given!r}, the dump {text!r}: {said}" if said else None
 

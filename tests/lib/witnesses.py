@@ -15,7 +15,8 @@ from lib import images, traces
 
 CIRCUITS = 2000
 LINES = ["", ".", "0", "1", "x", "b0", "b1", "b00", "b", "b2147483648", "01", "..", " ", "1 ", "10x", "c"]
-LINES += ["j0", "j1", "j00", "j", "j2147483648"]
+COMMENTS = ["c", "c 1", "cb0", "c.", "c\t\0", "c" + 65535 * "1"]
+LINES += ["j0", "j1", "j00", "j", "j2147483648", "c", "cb0", "c.", "c" + 65536 * "1"]
 
 
 def lines_of(text):
@@ -35,8 +36,25 @@ def properties(made):
     return [f"{letter}{at}" for letter, of in (("b", made.bad), ("j", made.justice)) for at in range(len(of))]
 
 
+def is_comment(line):
+    """Whether a line says nothing."""
+    return line.startswith("c") and len(line) <= 65536
+
+
+def said(lines):
+    """The lines that are no comments."""
+    return [line for line in lines if not is_comment(line)]
+
+
 def wrong_line(made, lines):
-    """The number of the first line that is not as a witness of the circuit has it, if there is one."""
+    """The number of the first line that is not as a witness of the circuit has it, comments counted, if there is one."""
+    places = [number for number, line in enumerate(lines, 1) if not is_comment(line)] + [len(lines) + 1]
+    number = wrong_said(made, said(lines))
+    return number and places[number - 1]
+
+
+def wrong_said(made, lines):
+    """The same where none is a comment."""
     if lines[:1] != ["1"]:
         return 1
     if not set(lines[1:2]) & set(properties(made)):
@@ -90,8 +108,8 @@ def wanted(made, name, text):
     number = wrong_line(made, lines)
     if number:
         return b"", f"aiger: {name}: line {number}: bad witness line\n".encode(), 1
-    said = answer(made, lines)
-    return f"{said}\n".encode(), b"", 0 if said.startswith("confirmed") else 1
+    told = answer(made, said(lines))
+    return f"{told}\n".encode(), b"", 0 if told.startswith("confirmed") else 1
 
 
 def circuit(chance):
@@ -135,9 +153,15 @@ def text_of(chance, lines):
     return "".join(map("".join, zip(lines, ends)))
 
 
+def commented(chance, lines):
+    """The lines, with comments between some of them."""
+    return [line for it in lines for line in [*chance.choices(COMMENTS, k=chance.choice([0, 0, 1, 3])), it]]
+
+
 def given(chance, made):
     """The text of a witness, or of what is nearly one."""
     lines = witness(chance, made)
+    lines = commented(chance, lines) if not chance.randrange(3) else lines
     how = chance.randrange(6)
     text = text_of(chance, spoiled(chance, lines) if how < 2 else lines)
     return text[: chance.randrange(len(text) + 1)] if how == 2 else text

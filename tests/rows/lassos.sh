@@ -184,7 +184,7 @@ rows_bad_lasso_lines() {
     bad_witness 'a lasso that no dot ends' '1\nj0\n01\n11\n11\n' 6
     bad_witness 'a lasso of no step and no dot' '1\nj0\n01\n' 4
     bad_witness 'a lasso without its first state' '1\nj0\n' 3
-    for line in '' '\r' . 11 j0 c '\0000'; do
+    for line in '' '\r' . 11 j0 C '\0000'; do
         bad_witness "the line '$line' behind the dot of a lasso" "1\nj0\n01\n11\n11\n.\n$line\n" 7
         [ -z "$line" ] || bad_witness "the bytes '$line' behind the dot of a lasso" "1\nj0\n01\n11\n11\n.\n$line" 7
     done
@@ -194,6 +194,9 @@ rows_bad_lasso_lines() {
     bad_witness 'a first value 1 of a lasso, where the reset is 0' '1\nj0\n1\n\n\n.\n' 3
     bad_witness 'a first value x of a lasso, where the reset is 0' '1\nj0\nx\n\n\n.\n' 3
     bad_witness 'a value of a lasso, where there are no inputs' '1\nj0\n0\n\n0\n.\n' 5
+    confirms 'comments in a lasso' 'c\n1\ncj0\nj0\nc b0\n0\nc.\n\nc\n\nc\n.\nc\n' 0
+    bad_witness 'two lassos, and comments' 'c\n1\nc\nj0\n0\n\n\n.\nc\n1\nj0\n0\n\n\n.\n' 10
+    bad_witness 'a second line behind a comment, of no property' '1\ncj0\nj1\n0\n\n\n.\n' 3
     cuts 'a lasso' '1\nj0\n0\n\n\n.\n' 0 1 2 2 2 3 3 4 4 5 6 + +
     cuts 'a lasso' '1\r\nj0\r\n0\r\n\r\n\r\n.\r\n' 0 1 2 1 2 2 3 2 3 4 3 4 4 5 5 6 + 6 +
 }

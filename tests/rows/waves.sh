@@ -158,6 +158,8 @@ rows_witness_runs() {
             at 3 zi0 xl0 0l1 zb0 zb1 zc0)$(at 4)"
     run_of 'the run of a witness for the other bad state, CR LF and . without LF' '1\r\nb1\r\n01\r\n1\r\n.' \
         'confirmed 0' "$all" "$(at 0 'b0 r' 1i0 0l0 1l1 0b0 1b1 1c0)$(at 1 zi0 1l0 0l1 zb0 zb1 zc0)$(at 2)"
+    run_of 'the run of a witness with comments' 'c\n1\nc x\nb1\ncc\n01\nc 0\n1\nc\n.\nc' \
+        'confirmed 0' "$all" "$(at 0 'b0 r' 1i0 0l0 1l1 0b0 1b1 1c0)$(at 1 zi0 1l0 0l1 zb0 zb1 zc0)$(at 2)"
     run_of 'the run of a witness that is not confirmed' '1\nb1\n00\n0\n.\n' 'not confirmed' "$all" \
         "$(at 0 'b0 r' 0i0 0l0 0l1 0b0 0b1 1c0)$(at 1 $closed)$(at 2)"
     run_of 'a first state, and no step' '1\nb1\n01\n.\n' 'not confirmed' "$all" \
@@ -192,6 +194,8 @@ rows_lasso_runs() {
         'confirmed 0' "$marked" "$(at 0 'b0 r' 1i0 1i1 0l0)$(at 1 0i0 1l0)$(at 2 zi0 zi1 0l0)$(at 3)"
     run_of 'the run of a lasso with x and a stem of two steps' '1\nj0\n0\nx\n1\n1\n.\n' 'confirmed 2' "$marked" \
         "$(at 0 'b0 r' xi0 0i1 0l0)$(at 1 1i0 xl0)$(at 2 1i1 1l0)$(at 3 zi0 zi1)$(at 4)"
+    run_of 'the run of a lasso with comments' 'c\n1\nc 1\nj0\nc\n0\nc 0\n1\nc\n1\nc 1\n.\nc\n' 'confirmed 1' "$marked" \
+        "$(at 0 'b0 r' 1i0 0i1 0l0)$(at 1 1i1 1l0)$(at 2 zi0 zi1)$(at 3)"
     run_of 'the run of no lasso has no mark' '1\nj0\n0\n0\n.\n' 'not confirmed' \
         "$(scope inputs 'wire 1 i0 go')$latch" "$(at 0 'b0 r' 0i0 0l0)$(at 1 zi0)$(at 2)"
     run_of 'a first state of a lasso, and no step' '1\nj0\n0\n.\n' 'not confirmed' \

@@ -43,6 +43,7 @@ rows_witnesses() {
     rows_bad_state_lines
     rows_bad_step_lines
     rows_behind_the_dot
+    rows_witness_comments
     rows_witness_ends
     rows_witness_cuts
     rows_long_witnesses
@@ -162,7 +163,7 @@ rows_bad_positions() {
     confirms 'the last position' '1\nb11\n\n\n.\n' 0
     denies 'a position below it' '1\nb9\n\n\n.\n'
     denies 'the first position' '1\nb0\n\n\n.\n'
-    for line in '' b b12 b20 b110 b00 b010 b011 b+0 b-0 b+10 b1x bx b1. bb0 'b 0' 'b0 ' ' b0' b0b1 'b0 b1' B0 c0 j0 f0 \
+    for line in '' b b12 b20 b110 b00 b010 b011 b+0 b-0 b+10 b1x bx b1. bb0 'b 0' 'b0 ' ' b0' b0b1 'b0 b1' B0 j0 f0 \
         o0 i0 l0 0 10 . 'b1\t' 'b1\0000' 'b\0261' '\0001b0' b2147483647 b4294967295 b4294967296 b4294967306 \
         b18446744073709551616 b18446744073709551626; do
         bad_witness "a second line '$line'" "1\n$line\n\n\n.\n" 2
@@ -185,7 +186,7 @@ rows_bad_positions() {
 rows_bad_first_lines() {
     local line
     model 'aag 1 0 1 0 0 1\n2 3\n2\n'
-    for line in '' 0 2 01 10 11 +1 '1 ' ' 1' '1.' '.' x b0 sat '1\t' '1\0000' '\0001' '\0261' '#1' c; do
+    for line in '' 0 2 01 10 11 +1 '1 ' ' 1' '1.' '.' x b0 sat '1\t' '1\0000' '\0001' '\0261' '#1' C; do
         bad_witness "a first line '$line'" "$line\nb0\n0\n\n\n.\n" 1
     done
     bad_witness 'no line at all' '' 1
@@ -241,14 +242,45 @@ rows_bad_step_lines() {
 rows_behind_the_dot() {
     local line
     model 'aag 1 0 1 0 0 1\n2 3\n2\n'
-    for line in '' '\r' 1 . 0 x c b0 ' ' '# end' z '\0000'; do
+    for line in '' '\r' 1 . 0 x C b0 ' ' ' c' '# end' z '\0000'; do
         bad_witness "the line '$line' behind the dot" "1\nb0\n0\n\n\n.\n$line\n" 7
         bad_witness "the line '$line' behind the dot, and no step" "1\nb0\n0\n.\n$line\n" 5
         [ -z "$line" ] || bad_witness "the bytes '$line' behind the dot" "1\nb0\n0\n\n\n.\n$line" 7
     done
     bad_witness 'two witnesses' '1\nb0\n0\n\n\n.\n1\nb0\n0\n\n\n.\n' 7
-    bad_witness 'a comment behind the dot' '1\nb0\n0\n\n\n.\nc\nfound by hand\n' 7
+    bad_witness 'two witnesses, and comments' 'c a\n1\nb0\n0\n\n\n.\nc b\n1\nb0\n0\n\n\n.\n' 9
+    bad_witness 'a line behind a comment behind the dot' '1\nb0\n0\n\n\n.\nc\nfound by hand\n' 8
     bad_witness 'a dot behind the dot' '1\nb0\n0\n\n\n.\n.' 7
+}
+
+# lines that begin with c say nothing, wherever they stand, and are counted
+rows_witness_comments() {
+    local line long longer
+    long=$(digits 65535 7)
+    longer=$(digits 65536 7)
+    model 'aag 1 0 1 0 0 1\n2 3\n2\n'
+    for line in c 'c ' 'c found by hand' c0 cb0 'c.' 'c\r' 'c\0000\0377' "c$long" "c$long\r"; do
+        confirms "the comment '${line::20}' before a witness" "$line\n1\nb0\n0\n\n\n.\n" 1
+        confirms "the comment '${line::20}' behind a witness" "1\nb0\n0\n\n\n.\n$line\n" 1
+        confirms "the comment '${line::20}' after each line" \
+            "1\n$line\nb0\n$line\n0\n$line\n\n$line\n\n$line\n.\n$line\n" 1
+        bad_witness "a comment '${line::20}' alone" "$line\n" 2
+        bad_witness "a comment '${line::20}' in the place of the line of the bad state" "1\n$line\n0\n\n\n.\n" 3
+        bad_witness "a comment '${line::20}' before a bad first line" "$line\n2\nb0\n0\n\n\n.\n" 2
+        bad_witness "a comment '${line::20}' behind a bad line" "1\nb1\n$line\n0\n\n\n.\n" 2
+        bad_witness "a comment '${line::20}' and no dot" "1\nb0\n0\n\n\n$line\n" 7
+    done
+    for line in C ' c' '\rc' '#' ';' '//' "c$longer" "c$longer\r"; do
+        bad_witness "the line '${line::20}' is no comment" "1\nb0\n$line\n0\n\n\n.\n" 3
+    done
+    confirms 'comments alone between many steps' "1\nb0\n0\n$(printf 'c %d\\n%.0s' $(seq 3000))\n\n.\n" 1
+    denies 'a comment in the place of a step' '1\nb0\n0\n\nc\n.\n'
+    model 'aag 2 1 1 0 0 1\n2\n4 2 4\n4\n'
+    confirms 'comments between values' '1\nc\nb0\nc\nx\nc 1\n1\nc\n0\nc\n.\n' 1
+    cuts 'a witness with comments' 'c\n1\nca\nb0\nx\n1\nc\n0\n.\nc' 1 1 2 2 3 3 4 4 4 4 5 5 6 6 7 7 8 8 9 9 \
+        + + +
+    model 'aag 0 0 0 0 0\n'
+    bad_witness 'a comment, and a circuit without bad states' '1\nc\nb0\n\n\n.\n' 3
 }
 
 # where a CR is dropped, and where not; the last line may lack its LF

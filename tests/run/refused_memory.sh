@@ -54,7 +54,10 @@ ran_out() {
 }
 
 # names_justice FILE: whether the input, or this file, is a witness that names a justice property
-names_justice() { sed -sn 2p "$work/in" "$1" 2> /dev/null | grep -aq '^j'; }
+names_justice() {
+    local file
+    for file in "$work/in" "$1"; do grep -av '^c' "$file" 2> /dev/null | sed -n 2p; done | grep -aq '^j'
+}
 
 # Whether the answer may be that without a refusal.
 can_do_without() { [ "$status" = 2 ] || { [ "$holds" ] && [ -s "$work/want_err" ]; }; }

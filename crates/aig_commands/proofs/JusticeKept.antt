@@ -20,6 +20,7 @@ use Rattle.aig_meaning.specs.Meaning.{IsReadOff, IsRow, IsStepAssignment, MeansT
 use Rattle.aig_meaning.proofs.Traces.{means_itself, same_back, same_meaning_same_traces, same_through}
 use Rattle.aig_simplify.specs.Kept.{KeepsGoals}
 use Rattle.aig_simplify.proofs.Kept.{goals_carried, goals_through, image_stays, values_back}
+use Rattle.aig_verdicts.specs.Comments.{uncommented}
 use Rattle.aig_verdicts.specs.Kinds.{SaysJustice, justice_shape}
 use Rattle.aig_verdicts.specs.declared.verdict.WitnessVerdict.TheVariants.{Justice}
 use Rattle.aig_witness.specs.Witness.{Claim, Says, Shape}
@@ -178,8 +179,8 @@ judged_there before after file other witness verdict c d limit limit_after is is
       found = d;
       claim = p.claim;
       read = subst (λ n. IsFileOf other n d) (sym limit_after) is_other;
-      says = says_there c d good good_too s witness p.claim
-          (subst (λ (e : Circuit). SaysJustice e witness p.claim) same p.says);
+      says = says_there c d good good_too s (uncommented witness) p.claim
+          (subst (λ (e : Circuit). SaysJustice e (uncommented witness) p.claim) same p.says);
       is_verdict = verdict_there c d good good_too s p.claim verdict
           (subst (λ (e : Circuit). IsLassoVerdict e p.claim verdict) same p.is_verdict);
     }

@@ -25,6 +25,8 @@ use Rattle.aig_lasso.proofs.Round.{lassos_are_fair_runs}
 use Rattle.aig_replay.proofs.WitnessText.{text_is}
 use Rattle.aig_verdicts.proofs.Files.{lasso_file_says, lassos_have_files}
 use Rattle.aig_verdicts.proofs.Verdicts.{justice_claims_have_verdicts}
+use Rattle.aig_verdicts.proofs.Plain.{justice_kept}
+use Rattle.aig_verdicts.specs.Comments.{uncommented}
 use Rattle.aig_verdicts.specs.Kinds.{SaysJustice}
 use Rattle.aig_verdicts.specs.declared.verdict.WitnessVerdict.TheVariants as verdicts
 use Rattle.aig_command.specs.declared.request.Reach.{Reach}
@@ -153,7 +155,7 @@ answers_are_lassos request number c selected model answer text is_justice file o
 
 -- a lasso that a file claims is confirmed, at a step that is no later
 confirmed_by : (judging : Sim) (c : Circuit) (file witness : List ℕ) (claim : Claim) (start : ℕ) (verdict : LassoVerdict)
-    → IsFileOf file judging.max_var c → SaysJustice c witness claim → IsLasso c claim start
+    → IsFileOf file judging.max_var c → SaysJustice c (uncommented witness) claim → IsLasso c claim start
     → IsLassoVerdict c claim verdict
     → (first : ℕ) × (first ≤ start) × IsWitnessAnswer judging file witness (verdicts.Justice (Confirmed first))
 confirmed_by judging c file witness claim start (Confirmed first) read says lasso is = (
@@ -171,7 +173,8 @@ right_lassos_are_confirmed judging c file claim start read goals lasso =
     let good = well_formed_file file judging.max_var c read in
     let written = lassos_have_files c claim start good goals.0 lasso in
     let verdict = justice_claims_have_verdicts c written.0 claim good written.1 goals in
-    let found = confirmed_by judging c file written.0 claim start verdict.0 read written.1 lasso verdict.1 in
+    let found = confirmed_by judging c file written.0 claim start verdict.0 read
+    (justice_kept c written.0 claim written.1) lasso verdict.1 in
     (written.0, written.1, found.0, found.1, found.2)
 
 -- the model has the property, of not too many goals
@@ -197,7 +200,7 @@ lasso_answers_are_confirmed request number judging c selected model answer text 
     (lasso_file_says c claim start good goals.0 lasso) in
     let verdict = justice_claims_have_verdicts c text claim good says goals in
     let found = confirmed_by judging c model text claim start verdict.0
-    (subst (λ (n : ℕ). IsFileOf model n c) (sym limit) file) says lasso verdict.1 in
+    (subst (λ (n : ℕ). IsFileOf model n c) (sym limit) file) (justice_kept c text claim says) lasso verdict.1 in
     (found.0, found.2)
 
 pub refutations_mean_none_is_confirmed : RefutationsMeanNoneIsConfirmed

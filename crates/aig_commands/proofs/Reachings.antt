@@ -1,6 +1,7 @@
 -- What is written for a solver's answer is one text, and it is confirmed.
 use Rattle.std.proofs.Common.{◌≡◌, ◌∙◌, ℕ, List, ap, subst, sym}
 use Rattle.aig_circuit.specs.declared.circuit.Circuit.{Circuit}
+use Rattle.aig_verdicts.proofs.Plain.{bad_state_kept}
 use Rattle.aig_witness.specs.Witness.{SaysClaim}
 use Rattle.aig_replay.specs.Reached.{ReachedBy}
 use Rattle.aig_replay.specs.WitnessLines.{witness_text}
@@ -51,7 +52,8 @@ solver_answers_are_confirmed request bad judging selected model answer text is_b
         found = p.found;
         claim = is.claim;
         read = subst (λ n. IsFileOf model n p.found) (sym limit) p.read;
-        says = subst (λ bytes. SaysClaim p.found bytes is.claim) (sym written) reached.says;
+        says = bad_state_kept p.found text is.claim
+            (subst (λ bytes. SaysClaim p.found bytes is.claim) (sym written) reached.says);
         is_verdict = reached.is_verdict;
       },
       reached.named,

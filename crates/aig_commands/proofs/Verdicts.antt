@@ -1,6 +1,6 @@
 -- A model and a witness file have one verdict, a file and its conversion have the same, and right runs are confirmed.
-use Rattle.std.proofs.Common.{◌≡◌, ◌⊎◌, ℕ, List, Bool, None, Result, Ok, Err, false, true, inl, inr, length, refl, subst}
-use Rattle.std.proofs.Common.{sym}
+use Rattle.std.proofs.Common.{◌≡◌, ◌⊎◌, ℕ, List, Bool, None, Option, Result, Ok, Err, Some, false, true, inl, inr, length}
+use Rattle.std.proofs.Common.{option_map, refl, subst, sym}
 use Rattle.std.proofs.lemmas.Bool.{cases_lt}
 use Rattle.aig_circuit.specs.declared.circuit.Circuit.{Circuit}
 use Rattle.aig_circuit.specs.declared.circuit.TheConstants.{LARGEST}
@@ -21,6 +21,8 @@ use Rattle.aig_fault.specs.declared.kind.Kind.TheVariants.{TooLargeJustice}
 use Rattle.aig_io.specs.Runs.{AtEnd}
 use Rattle.aig_lasso.specs.Goals.{goals_of}
 use Rattle.aig_verdicts.proofs.Files.{justice_files_are_read}
+use Rattle.aig_verdicts.proofs.Plain.{bad_state_kept}
+use Rattle.aig_verdicts.specs.Comments.{uncommented}
 use Rattle.aig_verdicts.proofs.Verdicts.{justice_claims_have_verdicts, one_verdict_at_most}
 use Rattle.aig_verdicts.specs.Judged.{HasLargeProperty, IsVerdictFor, SaysFor}
 use Rattle.aig_verdicts.specs.Kinds.{SaysJustice, is_of_justice, shape_if}
@@ -54,16 +56,16 @@ all_said lines (Err number) none = cc
 
 -- what is claimed of a justice property has a verdict, where its goals are not too many
 judged_justice : (request : Sim) (c : Circuit) (file witness : List ℕ) (claim : Claim) → IsFileOf file request.max_var c
-    → SaysJustice c witness claim
+    → SaysJustice c (uncommented witness) claim
     → ((verdict : WitnessVerdict) × IsWitnessAnswer request file witness verdict)
     ⊎ ((fault : Fault) × HasLargeProperty c fault witness AtEnd)
 judged_justice request c file witness claim read says =
     let good = well_formed_file file request.max_var c read in
-    let there = ((justice_files_are_read c witness claim).0 says).below in
+    let there = ((justice_files_are_read c (uncommented witness) claim).0 says).below in
     elim (cases_lt LARGEST (length (goals_of claim.property c))) [
       | inl many ↦ inr (fault_at TooLargeJustice Whole 0, (refl, claim, says, (refl, there, many)))
       | inr few ↦
-          let one = justice_claims_have_verdicts c witness claim good says (there, few) in
+          let one = justice_claims_have_verdicts c (uncommented witness) claim good says (there, few) in
           inl (
             Justice one.0,
             record { found = c; claim = claim; read = read; says = says; is_verdict = one.1 },
@@ -71,21 +73,27 @@ judged_justice request c file witness claim read says =
     ]
 
 judged_by_kind : (request : Sim) (c : Circuit) (file witness : List ℕ) (kind : Bool) → IsFileOf file request.max_var c
-    → first_bad_line (shape_if (length c.justice.sizes) c kind) witness true ≡ None
+    → first_bad_line (shape_if (length c.justice.sizes) c kind) (uncommented witness) true ≡ None
     → ((verdict : WitnessVerdict) × IsWitnessAnswer request file witness verdict)
     ⊎ ((fault : Fault) × HasLargeProperty c fault witness AtEnd)
 judged_by_kind request c file witness false read none_bad =
-    let said = all_said (length (judged_lines witness true)) (witness_of (shape_of c) witness true) none_bad in
-    let one = one_verdict c witness said.0 (well_formed_file file request.max_var c read) said.1 in
+    let bytes = uncommented witness in
+    let said = all_said (length (judged_lines bytes true)) (witness_of (shape_of c) bytes true) none_bad in
+    let one = one_verdict c bytes said.0 (well_formed_file file request.max_var c read) said.1 in
     inl (BadState one.0, record { found = c; claim = said.0; read = read; says = said.1; is_verdict = one.1 })
 judged_by_kind request c file witness true read none_bad =
-    let said = all_said (length (judged_lines witness true))
-    (witness_of (shape_if (length c.justice.sizes) c true) witness true) none_bad in
+    let bytes = uncommented witness in
+    let said = all_said (length (judged_lines bytes true))
+    (witness_of (shape_if (length c.justice.sizes) c true) bytes true) none_bad in
     judged_justice request c file witness said.0 read said.1
+
+none_before : {X Y : Type 0} (f : X → Y) (o : Option X) → option_map f o ≡ None → o ≡ None
+none_before f None none = refl
+none_before f (Some x) none = cc
 
 pub witness_answer_exists : WitnessAnswersExist
 witness_answer_exists request c file witness read none_bad =
-    judged_by_kind request c file witness (is_of_justice witness true) read none_bad
+    judged_by_kind request c file witness (is_of_justice (uncommented witness) true) read (none_before _ _ none_bad)
 
 pub right_run_is_confirmed : RightRunsAreConfirmed
 right_run_is_confirmed request c file claim rows step read below trace confirmed =
@@ -96,7 +104,7 @@ right_run_is_confirmed request c file claim rows step read below trace confirmed
         found = c;
         claim = claim;
         read = read;
-        says = written.1;
+        says = bad_state_kept c written.0 claim written.1;
         is_verdict = record { rows = rows; trace = trace; is_verdict = confirmed };
       },
     )
@@ -115,8 +123,8 @@ carried before after file other witness verdict c d limit limit_after is is_othe
       found = d;
       claim = p.claim;
       read = subst (λ n. IsFileOf other n d) (sym limit_after) is_other;
-      says = says_too d c back bad witness p.claim
-          (subst (λ (e : Circuit). SaysClaim e witness p.claim) same p.says);
+      says = says_too d c back bad (uncommented witness) p.claim
+          (subst (λ (e : Circuit). SaysClaim e (uncommented witness) p.claim) same p.says);
       is_verdict = verdict_too d c back bad p.claim verdict
           (subst (λ (e : Circuit). IsVerdict e p.claim verdict) same p.is_verdict);
     }

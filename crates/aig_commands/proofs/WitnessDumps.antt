@@ -27,6 +27,7 @@ use Rattle.aig_claims.specs.RunDump.{IsRunDump, IsShownRun, comment_line, reset_
 use Rattle.aig_lasso.specs.declared.verdict.LassoVerdict.TheVariants.{Confirmed, NotConfirmed}
 use Rattle.aig_verdicts.proofs.Files.{justice_files_are_read}
 use Rattle.aig_verdicts.proofs.Verdicts.{one_verdict_at_most}
+use Rattle.aig_verdicts.specs.Comments.{uncommented}
 use Rattle.aig_verdicts.specs.Judged.{IsVerdictFor, SaysFor}
 use Rattle.aig_verdicts.specs.declared.verdict.WitnessVerdict.{WitnessVerdict}
 use Rattle.aig_verdicts.specs.declared.verdict.WitnessVerdict.TheVariants.{BadState, Justice}
@@ -52,12 +53,14 @@ shown_run : (c : Circuit) (witness : List ℕ) (claim : Claim) (verdict : Witnes
     → SaysFor c verdict witness claim → IsBadState verdict ⊎ (c.max_var < LARGEST)
     → (run : List ℕ) × IsShownRun c claim verdict run
 shown_run c witness claim (BadState v) good says room =
-    let file = (witness_files_are_read c witness claim).0 says in run_dump_of c claim good file.starts file.each
+    let file = (witness_files_are_read c (uncommented witness) claim).0 says in
+    run_dump_of c claim good file.starts file.each
 shown_run c witness claim (Justice NotConfirmed) good says room =
-    let file = (justice_files_are_read c witness claim).0 says in run_dump_of c claim good file.starts file.each
+    let file = (justice_files_are_read c (uncommented witness) claim).0 says in
+    run_dump_of c claim good file.starts file.each
 shown_run c witness claim (Justice (Confirmed start)) good says (inl never) = absurd never
 shown_run c witness claim (Justice (Confirmed start)) good says (inr room) =
-    let file = (justice_files_are_read c witness claim).0 says in
+    let file = (justice_files_are_read c (uncommented witness) claim).0 says in
     run_dump_of (with_loop_mark c) (marked start claim) (marked_is_well_formed c good room) file.starts
     (marked_long c start claim.steps file.each)
 

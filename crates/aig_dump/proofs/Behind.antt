@@ -1,11 +1,15 @@
 -- A bad line of what was read at first is a bad line of all of it, whatever comes after.
 use Rattle.std.proofs.Common.{◌≡◌, ◌∙◌, ◌++◌, ◌∷◌, ◌==◌, ◌||◌, ℕ, suc, List, [], Bool, true, false, codes, filter, length}
 use Rattle.std.proofs.Common.{bytes_eq, take, drop, Option, None, Some, Result, Ok, Err, refl, ap, sym, subst, take-append-drop}
+use Rattle.std.proofs.Common.{◌<◌, ◌≤◌, ◌+◌, arith, option_map, zero}
+use Rattle.std.proofs.lemmas.List.Elements.{filter-append}
 use Rattle.std.specs.List.{AllByRecursion}
 use Rattle.aig_circuit.specs.declared.circuit.Circuit.{Circuit}
 use Rattle.aig_lines.specs.Lines.{Line, begun_by, line, lines_of}
 use Rattle.aig_step.specs.Outcome.{first_bad_line}
 use Rattle.aig_step.specs.Stimulus.{Entry, Stimulus, before_rest, entry_of, judged_lines, lines_say, text_of}
+use Rattle.aig_verdicts.proofs.Passed.{no_line, said_judged}
+use Rattle.aig_verdicts.specs.Comments.{is_comment, line_number, lines_said, uncommented}
 use Rattle.aig_verdicts.specs.Kinds.{are_of_justice, first_bad_file_line, shape_if}
 use Rattle.aig_witness.specs.Witness.{Nothing, Said, Shape, said_behind, said_by, said_with, shape_of, wrong_line}
 
@@ -172,15 +176,71 @@ kind_stays c k (l ∷ []) behind is =
 kind_stays c k (l ∷ m ∷ ls) behind is =
     wrong_stays (shape_if (length c.justice.sizes) c (are_of_justice (l ∷ m ∷ ls))) 1 k Nothing (l ∷ m ∷ ls) behind is
 
+-- a wrong line has a number among the lines
+wrong_at : (said : Option Said) (number k : ℕ) (ls : List Line) (rest : Said → Result Said ℕ)
+    → ((next : Said) → rest next ≡ Err k → k < suc number + length ls) → said_behind number said rest ≡ Err k
+    → k < number + suc (length ls)
+wrong_at None number k ls rest within is = let same : number ≡ k = cc in omega arith
+wrong_at (Some said) number k ls rest within is = let here = within said is in omega arith
+
+wrong_within : (shape : Shape) (number k : ℕ) (said : Said) (ls : List Line) → said_by shape number said ls ≡ Err k
+    → k < number + length ls
+wrong_within shape number k said [] is = cc
+wrong_within shape number k said (l ∷ ls) is =
+    wrong_at (said_with shape said (text_of l)) number k ls _
+    (λ next. wrong_within shape (suc number) k next ls) is
+
+-- and that is counted alike, whatever comes after
+counted_at : (l : Line) (ls behind : List Line) (k : ℕ) (comment : Bool) → is_comment (text_of l) ≡ comment
+    → suc k ≤ length (lines_said (l ∷ ls))
+    → ((n : ℕ) → n ≤ length (lines_said ls) → line_number (ls ++ behind) n ≡ line_number ls n)
+    → line_number (l ∷ (ls ++ behind)) (suc k) ≡ line_number (l ∷ ls) (suc k)
+counted_at l ls behind k true is within again =
+    let here : suc k ≤ length (lines_said ls) = rw is at within in rw is (ap suc (again (suc k) here))
+counted_at l ls behind k false is within again =
+    let here : suc k ≤ suc (length (lines_said ls)) = rw is at within in rw is (ap suc (again k (omega arith)))
+
+counted_stays : (ls behind : List Line) (k : ℕ) → k ≤ length (lines_said ls)
+    → line_number (ls ++ behind) k ≡ line_number ls k
+counted_stays [] behind zero within = no_line behind
+counted_stays [] behind (suc k) within = absurd (omega arith)
+counted_stays (l ∷ ls) behind zero within = refl
+counted_stays (l ∷ ls) behind (suc k) within =
+    counted_at l ls behind k (is_comment (text_of l)) refl within (λ n. counted_stays ls behind n)
+
+-- the number before it was counted with the comments
+record IsCounted (count : ℕ → ℕ) (o : Option ℕ) (k : ℕ) : Type 0 where
+  before : ℕ
+  some : o ≡ Some before
+  counted : count before ≡ k
+
+counted_from : (count : ℕ → ℕ) (o : Option ℕ) (k : ℕ) → option_map count o ≡ Some k → IsCounted count o k
+counted_from count None k is = cc
+counted_from count (Some n) k is = record { before = n; some = refl; counted = cc }
+
+-- the first wrong line among lines that are no comments
+abbrev among : Circuit → Bool → List Line → Option ℕ
+among c over ls =
+    wrong_line (length ls) over (said_by (shape_if (length c.justice.sizes) c (are_of_justice ls)) 1 Nothing ls)
+
 pub wrong_line_stays : (c : Circuit) (n k : ℕ) (text : List ℕ) → first_bad_file_line c (take n text) false ≡ Some k
     → first_bad_file_line c text true ≡ Some k
 wrong_line_stays c n k text is =
     let j = judged (take n text) (drop n text) in
-    let all = ap (λ t. judged_lines t true) (take-append-drop n text) in
+    let all : judged_lines text true ≡ judged_lines (take n text) false ++ j.0 =
+    sym (ap (λ t. judged_lines t true) (take-append-drop n text)) ∙ j.1 in
     let lines = judged_lines (take n text) false in
-    let wrong = wrong_is (length lines) k
-    (said_by (shape_if (length c.justice.sizes) c (are_of_justice lines)) 1 Nothing lines) is in
-    let stays = subst
-    (λ ls. said_by (shape_if (length c.justice.sizes) c (are_of_justice ls)) 1 Nothing ls ≡ Err k) (sym j.1 ∙ all)
-    (kind_stays c k lines j.0 wrong) in
-    ap (wrong_line (length (judged_lines text true)) true) stays
+    let said = lines_said lines in
+    let front = counted_from (line_number lines) (among c false said) k
+    (subst (λ ls. option_map (line_number lines) (among c false ls) ≡ Some k) (said_judged (take n text) false) is) in
+    let wrong = wrong_is (length said) front.before
+    (said_by (shape_if (length c.justice.sizes) c (are_of_justice said)) 1 Nothing said) front.some in
+    let within = wrong_within (shape_if (length c.justice.sizes) c (are_of_justice said)) 1 front.before Nothing said
+    wrong in
+    let both : judged_lines (uncommented text) true ≡ said ++ lines_said j.0 =
+    said_judged text true ∙ ap lines_said all ∙ filter-append _ lines j.0 in
+    let stays : among c true (said ++ lines_said j.0) ≡ Some front.before =
+    ap (wrong_line (length (said ++ lines_said j.0)) true) (kind_stays c front.before said (lines_said j.0) wrong) in
+    ap (option_map (line_number (judged_lines text true))) (ap (among c true) both ∙ stays)
+    ∙ ap (λ m. Some m)
+    (ap (λ ls. line_number ls front.before) all ∙ counted_stays lines j.0 front.before (omega arith) ∙ front.counted)

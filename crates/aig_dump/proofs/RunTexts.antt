@@ -1,6 +1,6 @@
 -- The texts of a run, in a witness file of either kind, and with the mark of a loop.
 use Rattle.std.proofs.Common.{◌≡◌, ◌-◌, ◌==◌, ◌++◌, ◌∙◌, ◌∷◌, ℕ, zero, suc, List, [], Bool, true, false, ap, ap₂, codes}
-use Rattle.std.proofs.Common.{append_assoc, arith, bytes_eq, ne_eqb, if◌then◌else◌, length, length-append, map, refl, subst, sym}
+use Rattle.std.proofs.Common.{append_assoc, arith, bytes_eq, ne_eqb, if◌then◌else◌, length, map, refl, sym}
 use Rattle.std.specs.List.{AllByRecursion}
 use Rattle.std.proofs.lemmas.Slice.Eq.{bytes_eq-Decides}
 use Rattle.std.proofs.lemmas.List.{map-append}
@@ -15,6 +15,7 @@ use Rattle.aig_claims.proofs.Marking.{marked_long}
 use Rattle.aig_claims.specs.LoopMark.{marked, marked_from, with_loop_mark, with_mark}
 use Rattle.aig_dump.specs.Parts.Showing.{IsRunText, marked_line, marked_lines}
 use Rattle.aig_verdicts.proofs.Files.{justice_files_are_read}
+use Rattle.aig_verdicts.specs.Comments.{uncommented}
 use Rattle.aig_verdicts.specs.Judged.{SaysFor}
 use Rattle.aig_verdicts.specs.declared.verdict.WitnessVerdict.{WitnessVerdict}
 use Rattle.aig_verdicts.specs.declared.verdict.WitnessVerdict.TheVariants.{BadState, Justice}
@@ -65,17 +66,17 @@ claimed c claim witness first st one two texts starts each parted =
       are_steps = ap (map text_of) known.1 ∙ lines.others;
     }
 
-pub run_texts : (c : Circuit) (claim : Claim) (verdict : WitnessVerdict) (witness first st : List ℕ)
-    → SaysFor c verdict witness claim
-    → ((one two three : Line) (ls : List Line) → lines_of witness ≡ one ∷ two ∷ three ∷ ls
+pub run_texts : (c : Circuit) (claim : Claim) (verdict : WitnessVerdict) (witness said first st : List ℕ)
+    → said ≡ uncommented witness → SaysFor c verdict witness claim
+    → ((one two three : Line) (ls : List Line) → lines_of said ≡ one ∷ two ∷ three ∷ ls
     → (first ≡ text_of three) × (lines_of st ≡ ls))
     → IsRunText c claim first st
-run_texts c claim (BadState v) witness first st says parted =
-    let file = (witness_files_are_read c witness claim).0 says in
-    claimed c claim witness first st _ _ file.texts file.starts file.each parted
-run_texts c claim (Justice v) witness first st says parted =
-    let file = (justice_files_are_read c witness claim).0 says in
-    claimed c claim witness first st _ _ file.texts file.starts file.each parted
+run_texts c claim (BadState v) witness said first st is says parted =
+    let file = (witness_files_are_read c said claim).0 (rw is says) in
+    claimed c claim said first st _ _ file.texts file.starts file.each parted
+run_texts c claim (Justice v) witness said first st is says parted =
+    let file = (justice_files_are_read c said claim).0 (rw is says) in
+    claimed c claim said first st _ _ file.texts file.starts file.each parted
 
 -- ---- the mark
 

@@ -6,7 +6,7 @@ use Rattle.aig_circuit.specs.declared.circuit.Circuit.{Circuit}
 use Rattle.aig_circuit.specs.declared.value.Val.{Val}
 use Rattle.aig_meaning.specs.Meaning.{Row}
 use Rattle.aig_meaning.specs.Trace.{IsTrace, reset_state}
-use Rattle.aig_lines.specs.Lines.{Line, lines_of}
+use Rattle.aig_lines.specs.Lines.{lines_of}
 use Rattle.aig_step.specs.declared.trace.Columns.TheVariants.{Properties}
 use Rattle.aig_step.specs.Stimulus.{Runs, judged_lines, runs_of, stimulus, text_of}
 use Rattle.aig_step.specs.TraceText.{IsTraceText, last_stop, rows_text, run_text, values_text}

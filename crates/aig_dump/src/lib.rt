@@ -7,6 +7,7 @@
 //! The definitions that matter most are `DumpSays`, and of `aig_claims` `IsRunDump`.
 #![tactic(auto)]
 
+mod comments;
 mod in_memory;
 mod marking;
 mod run_dump;

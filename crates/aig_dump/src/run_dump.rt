@@ -10,8 +10,10 @@ ghost use Rattle.aig_claims.specs.LoopMark.{HasNoVariable, marked, with_loop_mar
 ghost use Rattle.aig_claims.specs.RunDump.{IsRunDump, IsShownRun, IsUndumped, comment_line};
 ghost use Rattle.aig_dump.specs.InMemory.{JudgedRun, StopsInMemory};
 ghost use Rattle.aig_dump.specs.Parts.Showing.{IsRunText, LacksMark, loop_start};
+ghost use Rattle.aig_verdicts.specs.Comments.{uncommented};
 ghost use Rattle.aig_verdicts.specs.Judged.{IsUnjudged, SaysFor};
 
+use crate::comments::without_comments;
 use crate::in_memory::{dump_as, verdict_on};
 use crate::marking::{mark_steps, text_of};
 use aig_claims::{mark_loop, started_by};
@@ -103,6 +105,25 @@ fn loop_start(verdict: WitnessVerdict) -> Option<u64>
     }
 }
 
+/// The dump of the run that lines of a witness file with this verdict claim, none of them a comment.
+fn dump_said(
+    alloc: Global,
+    found: Checked,
+    verdict: WitnessVerdict,
+    said: &[u8],
+) -> Result<Vec<u8>, Stopped>
+    ensures ok { (claim : Claim) (witness : List ℕ) → said.now ≡ uncommented witness
+        → SaysFor found verdict witness claim
+        → IfOk result (λ run. IsShownRun found claim verdict run.items) }
+    ensures err { IfErr result (StopsFor (LacksMark found verdict)) }
+{
+    let (first, steps) = state_and_steps(said);
+    match loop_start(verdict) {
+        Some(start) => dump_lasso(alloc, found, start, first, steps),
+        None => Ok(dump_from(alloc, found, first, steps)?),
+    }
+}
+
 /// The dump of the run that a witness file with this verdict claims.
 fn dump_run(
     alloc: Global,
@@ -114,10 +135,16 @@ fn dump_run(
         → IfOk result (λ run. IsShownRun found claim verdict run.items) }
     ensures err { IfErr result (StopsFor (LacksMark found verdict)) }
 {
-    let (first, steps) = state_and_steps(witness);
-    match loop_start(verdict) {
-        Some(start) => dump_lasso(alloc, found, start, first, steps),
-        None => Ok(dump_from(alloc, found, first, steps)?),
+    match without_comments(alloc, witness) {
+        Ok(said) => {
+            let made = dump_said(alloc, found, verdict, said.as_slice());
+            drop(said); // for the proof
+            made
+        }
+        Err(_refused) => {
+            drop(found); // for the proof
+            Err(Stopped::OutOfMemory)
+        }
     }
 }
 

@@ -22,7 +22,7 @@ use Rattle.aig_witness.proofs.Verdicts.{each_long, file_by, file_by_says}
 use Rattle.aig_witness.proofs.WitnessTexts.{said_all, said_texts, texts_say}
 use Rattle.aig_witness.proofs.Witnessing.{NamesProperty, may_start, property_read}
 use Rattle.aig_witness.specs.Witness.{Claim, Property, Nothing, Shape, Steps, Version, Whole, begun_at, first_state_in}
-use Rattle.aig_witness.specs.Witness.{property_by, said_behind, with_entry, Said}
+use Rattle.aig_witness.specs.Witness.{property_by, said_behind, with_entry}
 
 -- the file that is written of a lasso claims it
 pub lasso_file_says : (c : Circuit) (claim : Claim) (start : ℕ) → IsWellFormed c

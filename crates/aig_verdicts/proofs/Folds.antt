@@ -9,7 +9,8 @@ use Rattle.aig_circuit.specs.declared.value.Val.{Val}
 use Rattle.aig_lines.specs.Feeding.{Folded, Turn, checked_line, fold_lines, folded_to}
 use Rattle.aig_lines.specs.Lines.{Line}
 use Rattle.aig_step.specs.Stimulus.{Entry, Step, Stop, entry_in, text_of}
-use Rattle.aig_verdicts.specs.Kinds.{are_of_justice, begins_with, shape_if}
+use Rattle.aig_verdicts.specs.Comments.{begins_with}
+use Rattle.aig_verdicts.specs.Kinds.{are_of_justice, shape_if}
 use Rattle.aig_verdicts.specs.Parts.Reading.{ReadingState, kind_with, reading_state, reading_step, reading_turn}
 use Rattle.aig_verdicts.specs.Parts.Reading.{said_in}
 use Rattle.aig_witness.proofs.WitnessState.{IsSaid, long_due}
@@ -101,14 +102,12 @@ module _ (c : Circuit) (justices : ℕ) where
       ap (λ (k : Bool). said_with (shape_if justices c k) (Steps claim) (text_of l)) is
   by_kind justice kind (Whole claim) l ls is = refl
 
-  module _ (few : length c.bad ≤ LARGEST) (few_justices : justices ≤ LARGEST) where
-    abbrev limit : ℕ
-    limit = longest_line (shape_of c)
-
+  module _ (few : length c.bad ≤ LARGEST) (few_justices : justices ≤ LARGEST) (limit : ℕ)
+      (reaches : longest_line (shape_of c) ≤ limit) where
     long_if : (kind : Bool) (said : Said) (text : List ℕ) → limit < length text
         → said_with (shape_if justices c kind) said text ≡ None
-    long_if true said text long = long_due (shape_if justices c true) said text few_justices long
-    long_if false said text long = long_due (shape_if justices c false) said text few long
+    long_if true said text long = long_due (shape_if justices c true) said text few_justices (omega arith)
+    long_if false said text long = long_due (shape_if justices c false) said text few (omega arith)
 
     -- a line that is too long is not due
     checked_is : (justice : Bool) (said : Said) (text : List ℕ)

@@ -6,10 +6,11 @@ use Rattle.aig_circuit.specs.declared.value.Val.{Val}
 use Rattle.aig_lines.specs.Feeding.{TookTurn}
 use Rattle.aig_step.proofs.LineValues.{vector_says}
 use Rattle.aig_step.specs.Stimulus.{Entry, entry_in}
-use Rattle.aig_verdicts.specs.Kinds.{begins_with, shape_if}
+use Rattle.aig_verdicts.specs.Comments.{begins_with, is_comment}
+use Rattle.aig_verdicts.specs.Kinds.{shape_if}
 use Rattle.aig_verdicts.specs.Parts.Reading.{HoldsClaim, IsReading, Reading, ReadingState, StandsAtBad}
 use Rattle.aig_verdicts.specs.Parts.Reading.{StandsIn, TookAs, TookEntry, TookFirstState, TookLine, TookProperty}
-use Rattle.aig_verdicts.specs.Parts.Reading.{kind_with, reading_step, reading_turn, run_of, said_in, with_step}
+use Rattle.aig_verdicts.specs.Parts.Reading.{file_step, kind_with, reading_step, reading_turn, run_of, said_in, with_step}
 use Rattle.aig_verdicts.specs.declared.reader.Stage.TheVariants as stage
 use Rattle.aig_witness.proofs.Witnessing.{property_read}
 use Rattle.aig_witness.specs.Parts.Witnessing.{HasWitnessState, StandsWhen, WitnessState, said_turn}
@@ -243,14 +244,24 @@ module _ (r v : Reading) (text : List ℕ) where
     took.0,
   )
 
-  pub step_taken : (h : ReadingState) (result : Bool) → IsReading r h → TookAs r v text h.justice h.said result
+  line_taken : (h : ReadingState) (result : Bool) → IsReading r h → TookAs r v text h.justice h.said result
       → IsReading v (reading_step h text).state × (result ≡ (reading_step h text).goes_on)
-  step_taken h result at took =
+  line_taken h result at took =
       let kind = kind_with h.justice h.said text in
       let same : said_in c r.justices h.justice h.said text ≡ said_in h.circuit h.justices h.justice h.said text =
       ap₂ (λ (d : Circuit) (n : ℕ). said_in d n h.justice h.said text) at.circuit at.justices in
       next_state h kind result (said_in h.circuit h.justices h.justice h.said text) at
       (subst (TookLine r v h.justice kind h.said result) same (took at.stands))
+
+  pub step_taken : (h : ReadingState) (result : Bool) → is_comment text ≡ false → IsReading r h
+      → TookAs r v text h.justice h.said result
+      → IsReading v (file_step h text).state × (result ≡ (file_step h text).goes_on)
+  step_taken h result none at took = rw none (line_taken h result at took)
+
+-- a comment
+pub comment_taken : (r : Reading) (text : List ℕ) (h : ReadingState) → is_comment text ≡ true → IsReading r h
+    → IsReading r (file_step h text).state × (true ≡ (file_step h text).goes_on)
+comment_taken r text h is at = rw is (at, refl)
 
 -- a line that comes when none is due
 pub nothing_came : (r : Reading) (text : List ℕ) → r.stage ≡ stage.Nothing → (justice : Bool) (said : Said)

@@ -1,8 +1,7 @@
 -- What a witness file of either kind claims has one verdict.
-use Rattle.std.proofs.Common.{◌≡◌, ◌<◌, ◌∙◌, ◌∷◌, ℕ, List, [], Ok, ap, arith, codes, inl, inr, length, refl, subst, sym}
+use Rattle.std.proofs.Common.{◌≡◌, ◌∙◌, ℕ, List, ap, arith, inl, inr, length, refl, subst, sym}
 use Rattle.std.proofs.lemmas.Bool.{cases_lt}
 use Rattle.aig_circuit.specs.declared.circuit.Circuit.{Circuit}
-use Rattle.aig_circuit.specs.Wellformed.{IsWellFormed}
 use Rattle.aig_lasso.proofs.Claims.{verdicts_are_on_claims}
 use Rattle.aig_lasso.proofs.GoalsShown.{goals_are_well_formed}
 use Rattle.aig_lasso.proofs.Judged.{is_verdict_on}
@@ -11,9 +10,9 @@ use Rattle.aig_lasso.specs.Lasso.{IsLassoVerdict}
 use Rattle.aig_lasso.specs.Parts.Searching.{verdict_by}
 use Rattle.aig_lasso.specs.declared.verdict.LassoVerdict.{LassoVerdict}
 use Rattle.aig_lasso.specs.declared.verdict.LassoVerdict.TheVariants.{Confirmed, NotConfirmed}
-use Rattle.aig_meaning.specs.Meaning.{Row}
 use Rattle.aig_meaning.proofs.Traces.{one_trace}
 use Rattle.aig_verdicts.proofs.Files.{justice_files_are_read}
+use Rattle.aig_verdicts.specs.Comments.{uncommented}
 use Rattle.aig_verdicts.specs.Kinds.{SaysJustice}
 use Rattle.aig_verdicts.specs.Laws.{JusticeClaimsHaveVerdicts, OneVerdictAtMost}
 use Rattle.aig_verdicts.specs.declared.verdict.WitnessVerdict.TheVariants.{BadState, Justice}
@@ -59,13 +58,13 @@ not_both c bytes claim other says justice =
 pub one_verdict_at_most : OneVerdictAtMost
 one_verdict_at_most c bytes (BadState v) (BadState w) claim more formed says is says_too is_too =
     let claims : claim ≡ more = cc in
-    let one = one_verdict c bytes claim formed says in
+    let one = one_verdict c (uncommented bytes) claim formed says in
     let here = subst (λ (k : Claim). IsVerdict c k w) (sym claims) is_too in
     (ap BadState (one.2 v is ∙ sym (one.2 w here)), claims)
 one_verdict_at_most c bytes (BadState v) (Justice w) claim more formed says is says_too is_too =
-    absurd (not_both c bytes claim more says says_too)
+    absurd (not_both c (uncommented bytes) claim more says says_too)
 one_verdict_at_most c bytes (Justice v) (BadState w) claim more formed says is says_too is_too =
-    absurd (not_both c bytes more claim says_too says)
+    absurd (not_both c (uncommented bytes) more claim says_too says)
 one_verdict_at_most c bytes (Justice v) (Justice w) claim more formed says is says_too is_too =
     let claims : claim ≡ more = cc in
     let here = subst (λ (k : Claim). IsLassoVerdict c k w) (sym claims) is_too in

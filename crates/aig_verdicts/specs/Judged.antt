@@ -7,16 +7,17 @@ use Rattle.aig_fault.specs.declared.stopped.Stopped.{Stopped}
 use Rattle.aig_fault.specs.declared.stopped.Stopped.TheVariants as stops
 use Rattle.aig_lasso.specs.Goaled.{HasTooManyGoals}
 use Rattle.aig_lasso.specs.Lasso.{IsLassoVerdict}
+use Rattle.aig_verdicts.specs.Comments.{uncommented}
 use Rattle.aig_verdicts.specs.Kinds.{SaysJustice, first_bad_file_line}
 use Rattle.aig_verdicts.specs.declared.verdict.WitnessVerdict.{WitnessVerdict}
 use Rattle.aig_verdicts.specs.declared.verdict.WitnessVerdict.TheVariants.{BadState, Justice}
 use Rattle.aig_witness.specs.Confirming.{bad_witness}
 use Rattle.aig_witness.specs.Witness.{Claim, IsVerdict, SaysClaim}
 
--- the bytes are a witness file of the kind that the verdict is of, and this is claimed
+-- the bytes, without comments, are a witness file of the kind that the verdict is of, and this is claimed
 abbrev pub SaysFor : Circuit → WitnessVerdict → List ℕ → Claim → Type 0
-SaysFor c (BadState verdict) bytes claim = SaysClaim c bytes claim
-SaysFor c (Justice verdict) bytes claim = SaysJustice c bytes claim
+SaysFor c (BadState verdict) bytes claim = SaysClaim c (uncommented bytes) claim
+SaysFor c (Justice verdict) bytes claim = SaysJustice c (uncommented bytes) claim
 
 -- the verdict on that
 abbrev pub IsVerdictFor : Circuit → Claim → WitnessVerdict → Type 0
@@ -32,7 +33,7 @@ pub record IsJudged (c : Circuit) (verdict : WitnessVerdict) (bytes : List ℕ) 
 
 -- the file is of a justice property, and memory was refused to hold or to judge what it claims
 abbrev pub HasNoMemory : Circuit → List ℕ → Ending → Type 0
-HasNoMemory c bytes ending = (ending ≡ AtEnd) × (claim : Claim) × SaysJustice c bytes claim
+HasNoMemory c bytes ending = (ending ≡ AtEnd) × (claim : Claim) × SaysJustice c (uncommented bytes) claim
 
 -- the line of this number is the first that is wrong or missing
 abbrev pub HasBadLine : Circuit → Fault → List ℕ → Ending → Type 0
@@ -43,7 +44,7 @@ HasBadLine c fault bytes ending =
 -- the file is of a justice property that has more goals than a circuit may have bad states
 abbrev pub HasLargeProperty : Circuit → Fault → List ℕ → Ending → Type 0
 HasLargeProperty c fault bytes ending =
-    (ending ≡ AtEnd) × (claim : Claim) × SaysJustice c bytes claim × HasTooManyGoals claim.property c fault
+    (ending ≡ AtEnd) × (claim : Claim) × SaysJustice c (uncommented bytes) claim × HasTooManyGoals claim.property c fault
 
 -- the whole file has no verdict for this reason
 abbrev pub IsUnjudged : Circuit → List ℕ → Fault → Type 0

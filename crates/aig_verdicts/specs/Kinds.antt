@@ -1,10 +1,12 @@
 -- Witness files of justice properties (this project's profile): like those of bad states, but the second line is `j`
--- with the number of a justice property. The second line of a file decides which of the two it is.
-use Rattle.std.specs.Prelude.{ℕ, List, [], ◌∷◌, ◌==◌, Bool, true, false, Option, length, map}
+-- with the number of a justice property. The second line of a file decides which of the two it is. Comments are passed
+-- over, and counted with the lines.
+use Rattle.std.specs.Prelude.{ℕ, List, [], ◌∷◌, Bool, true, false, Option, length, map, option_map}
 use Rattle.aig_circuit.specs.declared.circuit.Circuit.{Circuit}
 use Rattle.aig_circuit.specs.declared.circuit.Latch.{Latch}
 use Rattle.aig_lines.specs.Lines.{Line}
 use Rattle.aig_step.specs.Stimulus.{judged_lines, text_of}
+use Rattle.aig_verdicts.specs.Comments.{begins_with, line_number, uncommented}
 use Rattle.aig_witness.specs.Witness.{Claim, Says, Shape, first_bad_line, shape_of}
 
 -- where there are so many justice properties
@@ -21,10 +23,6 @@ abbrev pub shape_if : ℕ → Circuit → Bool → Shape
 shape_if justices c true = justice_shape justices c
 shape_if justices c false = shape_of c
 
-abbrev pub begins_with : ℕ → List ℕ → Bool
-begins_with letter [] = false
-begins_with letter (b ∷ bs) = b == letter
-
 -- whether the second line begins with `j`
 abbrev pub are_of_justice : List Line → Bool
 are_of_justice [] = false
@@ -39,8 +37,13 @@ abbrev pub shape_by : ℕ → Circuit → List ℕ → Bool → Shape
 shape_by justices c bytes ended = shape_if justices c (is_of_justice bytes ended)
 
 -- the number of the first line that is not as it has to be, or that is missing where the bytes have ended
+abbrev pub first_bad_by : ℕ → Circuit → List ℕ → Bool → Option ℕ
+first_bad_by justices c bytes ended =
+    let said = uncommented bytes in
+    option_map (line_number (judged_lines bytes ended)) (first_bad_line (shape_by justices c said ended) said ended)
+
 abbrev pub first_bad_file_line : Circuit → List ℕ → Bool → Option ℕ
-first_bad_file_line c bytes ended = first_bad_line (shape_by (length c.justice.sizes) c bytes ended) bytes ended
+first_bad_file_line c bytes ended = first_bad_by (length c.justice.sizes) c bytes ended
 
 -- the bytes are a witness file of a justice property of the circuit, which says this
 abbrev pub SaysJustice : Circuit → List ℕ → Claim → Type 0

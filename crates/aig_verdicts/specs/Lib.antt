@@ -1,3 +1,4 @@
+pub mod Comments
 pub mod Kinds
 pub mod JusticeText
 pub mod Judged

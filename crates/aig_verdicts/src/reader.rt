@@ -5,16 +5,17 @@ ghost use Rattle.aig_circuit.specs.declared.circuit.TheConstants.{LARGEST};
 ghost use Rattle.aig_meaning.specs.Meaning.{MeansTheSame};
 ghost use Rattle.aig_step.specs.Parts.Lines.{vector_in};
 ghost use Rattle.aig_step.specs.Stimulus.{entry_in};
-ghost use Rattle.aig_verdicts.specs.Kinds.{begins_with};
+ghost use Rattle.aig_verdicts.specs.Comments.{begins_with};
 ghost use Rattle.aig_verdicts.specs.Parts.Reading.{IsBegun, TookAs, TookEntry, TookFirstState, TookProperty};
-ghost use Rattle.aig_verdicts.specs.Parts.Reading.{TookStep, IsDone};
+ghost use Rattle.aig_verdicts.specs.Parts.Reading.{TookStep, IsDone, longest_file_line};
 ghost use Rattle.aig_verdicts.specs.declared.reader.Stage.TheVariants as stage;
-ghost use Rattle.aig_witness.specs.Parts.Witnessing.{HasWitnessState, WitnessState, longest_line};
+ghost use Rattle.aig_witness.specs.Parts.Witnessing.{HasWitnessState, WitnessState};
 ghost use Rattle.aig_witness.specs.Parts.Witnessing.{witness_step};
 ghost use Rattle.aig_witness.specs.Witness.{Said, first_state_in, property_by, shape_of};
 ghost use Rattle.aig_witness.specs.declared.checker.Due.TheVariants as due;
 ghost use Rattle.aig_lines.specs.Feeding.{TookTurn};
 
+use crate::comment::{LONGEST_COMMENT, begins_with, is_comment};
 use crate::held::{hold_first, hold_step};
 use aig_checked::Checked;
 use aig_circuit::OutOfMemory;
@@ -71,16 +72,6 @@ impl Model for Reader {
     ghost invariant = { λ r. r.justices ≤ LARGEST };
 }
 
-/// Whether the line names a justice property, if it names any.
-fn begins_with_j(text: &[u8]) -> bool
-    ensures { result ≡ begins_with 106 text.now }
-{
-    match text {
-        [first, ..] => *first == b'j',
-        _ => false,
-    }
-}
-
 impl Reader {
     /// It stands before the first line. All room that a file of a bad state needs is made here.
     pub(crate) fn new(alloc: Global, checked: &Checked) -> Result<Self, OutOfMemory>
@@ -103,12 +94,12 @@ impl Reader {
         })
     }
 
-    /// How long a line may be: none that is due is longer.
+    /// How long a line may be: none that is due is longer, and no comment.
     pub(crate) fn longest_line(&self) -> usize
-        ensures is { result ≡ longest_line (shape_of self.now.checker.circuit) }
+        ensures is { result ≡ longest_file_line (shape_of self.now.checker.circuit) }
         ensures few { result < 2 ^ 62 }
     {
-        self.checker.longest_line()
+        self.checker.longest_line().max(LONGEST_COMMENT)
     }
 
     /// Takes the line that names a justice property, and answers whether it is good.
@@ -136,7 +127,7 @@ impl Reader {
         if !self.checker.awaits_property() {
             return false;
         }
-        begins_with_j(text)
+        begins_with(b'j', text)
     }
 
     /// Takes a line while no justice property is named, and answers whether it is good.
@@ -234,11 +225,11 @@ impl Reader {
 }
 
 impl LineTaker for Reader {
-    ghost use Rattle.aig_verdicts.specs.Parts.Reading.{IsReading, ReadingState, reading_step};
+    ghost use Rattle.aig_verdicts.specs.Parts.Reading.{IsReading, ReadingState, file_step};
 
     ghost State = { ReadingState };
 
-    ghost step = { reading_step };
+    ghost step = { file_step };
 
     ghost IsAt = { IsReading };
 
@@ -246,6 +237,9 @@ impl LineTaker for Reader {
 
     #[tactic(auto, using(crate::proofs::Lines::step_taken))]
     fn take(&mut self, text: &[u8]) -> bool {
+        if is_comment(text) {
+            return true;
+        }
         self.take_line(text)
     }
 }

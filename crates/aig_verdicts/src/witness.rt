@@ -5,8 +5,7 @@ ghost use Rattle.aig_circuit.specs.declared.circuit.Circuit.{Circuit as CircuitR
 ghost use Rattle.aig_io.specs.Runs.{AtEnd, Ending, Read};
 ghost use Rattle.aig_lines.specs.Feeders.{IsInitial};
 ghost use Rattle.aig_verdicts.specs.Judged.{WitnessSays};
-ghost use Rattle.aig_verdicts.specs.Parts.Reading.{FileSays, IsBegun, IsLike, IsReadOf};
-ghost use Rattle.aig_witness.specs.Parts.Witnessing.{longest_line};
+ghost use Rattle.aig_verdicts.specs.Parts.Reading.{FileSays, IsBegun, IsLike, IsReadOf, longest_file_line};
 ghost use Rattle.aig_witness.specs.Witness.{shape_of};
 
 use crate::held::judge_held;
@@ -25,7 +24,7 @@ fn read_all<R: Source>(
     source: &mut R,
 ) -> Result<(), Stopped>
     requires initial { IsInitial feeder.old }
-    requires limit { feeder.old.limit ≡ longest_line (shape_of reader.old.checker.circuit) }
+    requires limit { feeder.old.limit ≡ longest_file_line (shape_of reader.old.checker.circuit) }
     requires begun { IsBegun reader.old }
     requires few { length reader.old.checker.circuit.bad ≤ LARGEST }
     requires few_justices { reader.old.justices ≤ LARGEST }
@@ -76,8 +75,8 @@ fn judge_if_read(
 
 /// Reads a witness file, of a bad state or of a justice property, and tells whether the circuit's
 /// trace confirms what it claims: that the bad state is reached, or that the trace is a lasso that
-/// meets the goals of the property. The whole file is judged before there is a verdict. For a bad
-/// state all memory is taken before the first fetch, and how much does not depend on the file; the
+/// meets the goals of the property. Comment lines are passed over. The whole file is judged before
+/// there is a verdict. For a bad state all memory is taken before the first fetch, and how much does not depend on the file; the
 /// steps to a justice property are held. Where there is no memory for them, the lines are judged
 /// still, and that is told only if none of them is wrong.
 pub fn judge_witness<R: Source>(

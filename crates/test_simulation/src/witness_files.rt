@@ -68,3 +68,26 @@ fn wrong_lines_are_told(rt: HostRuntime) {
     assert!(rt; bad_line(alloc, b"1\nj0\n0\n00\n.\n") == Some(4));
     assert!(rt; bad_line(alloc, b"1\nj0\n0\n1\n") == Some(5));
 }
+
+#[test]
+fn comments_are_passed_over(rt: HostRuntime) {
+    let alloc = rt.alloc();
+    let reached = matches!(
+        verdict(alloc, b"c a\n1\nc\nb0\n0\nc 1\n0\n1\nc.\n.\nc"),
+        Some(Ok(WitnessVerdict::BadState(Verdict::Confirmed(1))))
+    );
+    let lasso = matches!(
+        verdict(alloc, b"1\nc b0\r\nj0\nc\n0\n0\n1\nc\n.\nc z\n"),
+        Some(Ok(WitnessVerdict::Justice(LassoVerdict::Confirmed(1))))
+    );
+    assert!(rt; reached);
+    assert!(rt; lasso);
+}
+
+#[test]
+fn comments_are_counted(rt: HostRuntime) {
+    let alloc = rt.alloc();
+    assert!(rt; bad_line(alloc, b"c\n1\nc\nb1\n0\n.\n") == Some(4));
+    assert!(rt; bad_line(alloc, b"1\nb0\n0\nc\n.\nc\n1\n") == Some(7));
+    assert!(rt; bad_line(alloc, b"1\nb0\nc\n0\nc\n") == Some(6));
+}

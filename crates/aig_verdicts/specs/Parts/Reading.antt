@@ -1,6 +1,6 @@
 -- How far a witness file of either kind was read. Only private functions cite this.
 use Rattle.std.specs.Prelude.{◌≡◌, ◌⊎◌, ◌<◌, ◌++◌, ℕ, List, [], ◌∷◌, Bool, true, false, Option, None, Some, IfSome}
-use Rattle.std.specs.Prelude.{Result, ◌≤◌, Ok, Err, length}
+use Rattle.std.specs.Prelude.{Result, ◌≤◌, Ok, Err, if◌then◌else◌, length, max}
 use Rattle.aig_circuit.specs.declared.circuit.Circuit.{Circuit}
 use Rattle.aig_circuit.specs.declared.value.Val.{Val}
 use Rattle.aig_fault.specs.declared.stopped.Stopped.{Stopped}
@@ -12,12 +12,14 @@ use Rattle.aig_lines.specs.Feeding.{Turn, turn}
 use Rattle.aig_meaning.specs.Meaning.{MeansTheSame}
 use Rattle.aig_step.specs.Parts.Lines.{vector_in}
 use Rattle.aig_step.specs.Stimulus.{Stop, entry_in}
-use Rattle.aig_verdicts.specs.Kinds.{begins_with, is_of_justice, shape_by, shape_if}
+use Rattle.aig_verdicts.specs.Comments.{begins_with, is_comment, uncommented}
+use Rattle.aig_verdicts.specs.Kinds.{first_bad_by, is_of_justice, shape_by, shape_if}
+use Rattle.aig_verdicts.specs.declared.comment.TheConstants.{LONGEST_COMMENT}
 use Rattle.aig_verdicts.specs.declared.reader.Stage.{Stage}
 use Rattle.aig_verdicts.specs.declared.reader.Stage.TheVariants as stage
 use Rattle.aig_witness.specs.Confirming.{bad_witness}
-use Rattle.aig_witness.specs.Parts.Witnessing.{StandsWhen, Witnessing}
-use Rattle.aig_witness.specs.Witness.{Claim, Nothing, Property, Said, Says, Steps, Version, Whole, first_bad_line}
+use Rattle.aig_witness.specs.Parts.Witnessing.{StandsWhen, Witnessing, longest_line}
+use Rattle.aig_witness.specs.Witness.{Claim, Nothing, Property, Said, Says, Shape, Steps, Version, Whole}
 use Rattle.aig_witness.specs.Witness.{first_state_in, property_by, said_with, shape_of}
 use Rattle.aig_witness.specs.declared.checker.Due.TheVariants as due
 
@@ -108,6 +110,14 @@ abbrev pub reading_step : ReadingState → List ℕ → Turn ReadingState
 reading_step h text =
     reading_turn h (kind_with h.justice h.said text) (said_in h.circuit h.justices h.justice h.said text)
 
+-- the same, where comments are passed over
+abbrev pub file_step : ReadingState → List ℕ → Turn ReadingState
+file_step h text = if is_comment text then turn h true else reading_step h text
+
+-- how long a line may be: none that is due is longer, and no comment
+abbrev pub longest_file_line : Shape → ℕ
+longest_file_line shape = max (longest_line shape) LONGEST_COMMENT
+
 -- what reads stands there
 pub record IsReading (r : Reading) (h : ReadingState) : Type 0 where
   pub circuit : r.checker.circuit ≡ h.circuit
@@ -168,7 +178,7 @@ TookEntry before after text =
     ⊎ ((entry_in (length before.checker.circuit.inputs) text ≡ Some Stop)
     × (after ≡ record before { stage = stage.Nothing }))
 
--- the whole file was read, and what it claims is as it stands
+-- a whole file without comments was read, and what it claims is as it stands
 pub record IsRead (c : Circuit) (justices : ℕ) (r : Reading) (bytes : List ℕ) : Type 0 where
   pub claim : Claim
   pub says : Says (shape_by justices c bytes true) bytes claim
@@ -176,13 +186,13 @@ pub record IsRead (c : Circuit) (justices : ℕ) (r : Reading) (bytes : List ℕ
 
 -- what the answer of reading a file says
 abbrev pub FileSays : Circuit → ℕ → Reading → Result (Unit {0}) Stopped → List ℕ → Ending → Type 0
-FileSays c justices r (Ok done) bytes ending = (ending ≡ AtEnd) × IsRead c justices r bytes
+FileSays c justices r (Ok done) bytes ending = (ending ≡ AtEnd) × IsRead c justices r (uncommented bytes)
 FileSays c justices r (Err stops.OutOfMemory) bytes ending = ⊥
 FileSays c justices r (Err (stops.Refused fault)) bytes ending =
     (number : ℕ) × (fault ≡ bad_witness number) × IsUnbroken ending
-    × (first_bad_line (shape_by justices c bytes (is_at_end ending)) bytes (is_at_end ending) ≡ Some number)
+    × (first_bad_by justices c bytes (is_at_end ending) ≡ Some number)
 FileSays c justices r (Err stops.ReadFailed) bytes ending =
-    (ending ≡ Broken) × (first_bad_line (shape_by justices c bytes false) bytes false ≡ None)
+    (ending ≡ Broken) × (first_bad_by justices c bytes false ≡ None)
 FileSays c justices r (Err stops.WriteFailed) bytes ending = ⊥
 
 -- the circuits mean the same, and have as many bad states
@@ -194,4 +204,4 @@ pub record IsLike (c d : Circuit) : Type 0 where
 pub record IsReadOf (c : Circuit) (r : Reading) (bytes : List ℕ) : Type 0 where
   pub circuit : Circuit
   pub like : IsLike c circuit
-  pub read : IsRead circuit (length c.justice.sizes) r bytes
+  pub read : IsRead circuit (length c.justice.sizes) r (uncommented bytes)
