@@ -30,6 +30,10 @@ too large to unroll
 no bad states
 no bad state N
 no justice property N
+no output N
+no constraint N
+no fairness constraint N
+N gates, more than --gates; draw less with --cone, or raise --gates
 line N: bad stimulus line
 line N: bad witness line
 line N: bad answer line
@@ -83,6 +87,9 @@ compressed input is not supported: use bzip2 -dc FILE.bz2 | aiger COMMAND .. - .
 --bad needs --cnf, --answer or --refutation
 --justice needs --cnf, --answer or --refutation
 --lrat needs --refutation
+--output, --bad or --justice is needed
+--cone needs o, b, c, j or f and a position: o0 is the first output, b0 the first bad state
+--all-steps needs --cone
 model and answer are both standard input
 model and refutation are both standard input
 --frames or --invariant is needed

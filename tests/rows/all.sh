@@ -4,7 +4,7 @@
 # \t is TAB, \0ooo is the byte ooo in octal). What is wanted was worked out by hand from docs/FORMAT.md. A row may have
 # files in the folder $work.
 
-for table in conversions traces waves witnesses lassos unrolled answers refutations invariants liveness miters simplified; do
+for table in conversions traces waves witnesses lassos unrolled answers refutations invariants liveness miters simplified parts; do
     . "${BASH_SOURCE[0]%/*}/$table.sh"
 done
 
@@ -52,6 +52,7 @@ rows() {
     rows_liveness
     rows_miters
     rows_simplified
+    rows_parts
     rows_words
     rows_hints
 }

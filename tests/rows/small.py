@@ -11,6 +11,11 @@ HALF_NAMES = b"i0 x\ni1 y\no0 s\no1 c\nc\n"
 HALF_IMAGE = HALF_GATES + HALF_NAMES + b"half adder\n"
 HALF_BLOCK = b"aigmap 1 7 2 0 3 1\n1\n2\n3 2 1\n6 0 1\n7 1 1\naigmap end\n"
 HALF_MAPPED = HALF_GATES + HALF_NAMES + HALF_BLOCK + b"half adder\n"
+HALF_COUNTS = (
+    b"max_var 7\ninputs 2\nlatches 0\noutputs 2\ngates 3\nbad 0\nconstraints 0\njustice 0\nfairness 0\nlatches_at_one 0\n"
+    b"uninitialised_latches 0\nsymbols 4\ncomment_bytes 11\nlevels 2\nused_inputs 2\nused_latches 0\nused_gates 3\n"
+    b"unused_inputs 0\nunused_latches 0\nunused_gates 0\n"
+)
 SUMS = b" 01 10 \n 11 01 \n.\n 10 10 \n x0 x0 \n" * 6 + b".\n"
 EQUAL = b"aag 2 1 0 1 1\n2\n4\n4 2 2\n"
 EQUAL_IMAGE = b"aig 2 1 0 1 1\n4\n\x02\x00"
@@ -38,6 +43,7 @@ EVERY_LIVE = (
     b"60 53 1\n62 60 59\n64 23 21\n66 65 19\n68 67 29\n70 65 4\n72 71 31\n74 65 5\n76 75 33\n78 22 1\n80 78 62\n82 80 28\n"
     b"84 82 30\n86 84 32\n"
 )
+EVERY_PART = b"aag 9 1 2 0 1 0 1 1 1\n18\n4 19 1\n14 4 14\n7\n2\n19\n4\n5\n6 19 14\nc0 b\nj0 c\nf0 d\nl1 f\ni0 g\n"
 EVERY_MAPPED = EVERY_IMAGE + EVERY_NAMES + b"aigmap 1 9 1 2 1 1\n9\n2\n7\n3 0 1\naigmap end\nx"
 
 COMB = b"aag 3 2 0 0 1 2\n2\n4\n6\n7\n6 4 2\n"
@@ -181,6 +187,9 @@ ROWS = [
     Row("a half adder by its map", "aigtoaig --undo-map --ascii", HALF_MAPPED, HALF),
     Row("equal operands with their map", "aigtoaig --keep-map", EQUAL, EQUAL_MAPPED),
     Row("equal operands by their map", "aigtoaig --undo-map --ascii", EQUAL_MAPPED, EQUAL),
+    Row("the counts of a half adder", "aiginfo", HALF, HALF_COUNTS),
+    Row("a part of a half adder", "aigselect --output 1", HALF, b"aig 3 2 0 1 1\n6\n\x02\x02i0 x\ni1 y\no0 c\n"),
+    Row("a part of a circuit of each section", "aigselect --ascii --justice 0", EVERY + EVERY_NAMES, EVERY_PART),
     *simulated("a toggle", "", TOGGLE, b"\n\n\n.\n", b"0  01 1\n1  10 0\n0  01 1\n.\n"),
     *simulated("a latch and a gate", "", HELD, b"1\n1\n", b"0 1 1 1\n1 1 0 0\n.\n"),
     *simulated("the dump of a toggle", "--vcd", TOGGLE, b"\n\n\n.\n", TOGGLE_DUMP),

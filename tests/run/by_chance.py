@@ -19,10 +19,10 @@ from pathlib import Path
 sys.dont_write_bytecode = True
 sys.path[0] = str(Path(__file__).resolve().parent.parent)
 from lib import answers, batches, counts, images, invariants, liveness, miters, refutations, simplified, traces, unrolled
-from lib import waves, witnesses
+from lib import parts, waves, witnesses
 
 MODULES = images, traces, batches, unrolled, witnesses, waves, answers, refutations, invariants, miters, liveness
-MODULES += (simplified,)
+MODULES += simplified, parts
 KINDS = {it.__name__.rpartition(".")[2]: it for it in MODULES}
 
 

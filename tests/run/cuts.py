@@ -136,7 +136,8 @@ class Judge:
             simulations = ["aigsim - steps", "aigsim --batch --properties - steps", "aigsim --witness - witness"]
             miter = ["aigmiter - nothing", "aigmiter --by-name nothing -"]
             simple = ["aigtoaig --simplify --ascii", f"{unrolling} --simplify --cnf", "aigmiter --simplify - nothing"]
-            for words in ("aigtoaig --keep-map", undoing, *others, *simulations, *miter, *simple):
+            parts = ["aiginfo", "aigselect --output 0", "aigtodot"]
+            for words in ("aigtoaig --keep-map", undoing, *parts, *others, *simulations, *miter, *simple):
                 self.expect(words, text, b"", errors, 1)
             return
         made, end = generators.parsed(canonical)

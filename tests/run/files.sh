@@ -614,6 +614,7 @@ if command -v script > /dev/null; then
     check 'binary to a terminal, of a source that is not there' to_terminal aigtoaig "$files/none.aag"
     check 'an unrolled circuit to a terminal' to_terminal aigunroll --frames 2 "$held"
     check 'a miter to a terminal' to_terminal aigmiter "$old" "$new"
+    check 'a selection to a terminal' to_terminal aigselect --output 0 "$source"
     wants '' '' 0
     cp "$work/binary" "$work/want_out"
     check 'binary to a terminal, forced' to_terminal aigtoaig --force "$source"
@@ -624,7 +625,7 @@ if command -v script > /dev/null; then
     wants "$trace" '' 0
     check 'a trace to a terminal' to_terminal aigsim "$source" "$files/steps"
 else
-    skip 10 'no script of util-linux'
+    skip 11 'no script of util-linux'
 fi
 cp "$work/binary" "$work/want_out"
 check 'forced, and no terminal' aig --force "$source"
@@ -736,6 +737,16 @@ refused 'an option that comparing does not have' '--strip' aigmiter --strip a b
 refused 'one stream for both circuits' 'aiger: both circuits are standard input' aigmiter - -
 refused 'a miter on the disk of standard output' 'aiger: --sync needs the name of a destination' aigmiter --sync a b
 refused 'a compressed miter' 'aiger: compressed output is not supported' aigmiter a b x.gz
+refused 'numbers in ASCII' '--ascii' aiginfo --ascii
+refused 'numbers on the disk of standard output' 'aiger: --sync needs the name of a destination' aiginfo --sync a
+refused 'compressed numbers' 'aiger: compressed output is not supported' aiginfo a x.gz
+refused 'a selection of nothing' 'aiger: --output, --bad or --justice is needed' aigselect a b
+refused 'positions with a comma' '0,1' aigselect --bad 0,1 a b
+refused 'a compressed selection' 'aiger: compressed output is not supported' aigselect --bad 0 a x.gz
+refused 'a cone of an input' 'aiger: --cone needs o, b, c, j or f and a position' aigtodot --cone i0 a
+refused 'two cones' '--cone' aigtodot --cone b0 --cone b1 a
+refused 'all steps of no cone' 'aiger: --all-steps needs --cone' aigtodot --all-steps a
+refused 'a compressed picture' 'aiger: compressed output is not supported' aigtodot a x.gz
 refused 'no subcommand' 'aigtoaig'
 refused 'an unknown subcommand' 'aigsom' aigsom
 refused 'help on a command that there is not' 'aigsom' help aigsom
@@ -766,7 +777,7 @@ helps() {
 }
 helps 'help' --help
 helps 'the short option for help' -h
-for words in '' aigtoaig aigsim aigunroll aigmiter; do
+for words in '' aigtoaig aigsim aigunroll aigmiter aiginfo aigselect aigtodot; do
     helps "help $words" help $words
     wants '' '' 0
     "$program" $words --help > "$work/want_out"
@@ -840,9 +851,27 @@ if [ "$ran" = $'none within 1\nall' ] && [ "$(wc -l < "$work/examples")" = 6 ] &
     cmp -s "$files/miter.aag" "$work/miter_of_binary"; then pass; else
     fail 'the examples of help of aigmiter run' "came   $ran, of" "$(cat "$work/examples")"
 fi
+# those of the small tools too, over a model with four bad states; dot is one that only takes the graph
+printf 'aag 3 2 0 4 1 4 0 1\n2\n4\n6\n2\n4\n7\n6\n7\n2\n5\n1\n6\n6 2 4\nb3 last\n' > "$files/model.aag"
+aig "$files/model.aag" "$files/model.aig"
+dot() { [ "$1" = -Tsvg ] && cat; }
+rm -f "$files/model.json" "$files"/part.* "$files/cone.dot" "$files/model.svg"
+for words in aiginfo aigselect aigtodot; do
+    helps "help of $words" $words --help
+    grep '^  aiger ' "$work/out" | sed 's/   .*//; s/aiger aig/"$program" aig/g' > "$work/examples"
+    ran=$(cd "$files" && set -e -o pipefail && . "$work/examples" 2>&1 > "$work/said" && echo all)
+    if [ "$ran" = all ] && [ "$(wc -l < "$work/examples")" = 3 ]; then pass; else
+        fail "the examples of help of $words run" "came   $ran, of" "$(cat "$work/examples")"
+    fi
+done
+for made in model.json part.aig part.aag cone.dot model.svg; do
+    if [ -s "$files/$made" ]; then pass; else fail "the examples of help write $made"; fi
+done
+wants 'aag 3 2 0 1 1 2\n2\n4\n2\n6\n5\n6 4 2\nb1 last\n' '' 0
+check 'the example of help of aigselect writes what is chosen' cat "$files/part.aag"
 # the manual page has the same options
 options() { grep -o -- '--[a-z][a-z-]*' | sort -u; }
-for words in aigtoaig aigsim aigunroll aigmiter; do "$program" $words --help; done | options > "$work/help_options"
+for words in aigtoaig aigsim aigunroll aigmiter aiginfo aigselect aigtodot; do "$program" $words --help; done | options > "$work/help_options"
 sed 's/Fl \\-/--/g; s/\\-/-/g' "$top/man/aiger.1" | options > "$work/man_options"
 wants '' '' 0
 cp "$work/help_options" "$work/want_out"

@@ -232,7 +232,16 @@ each_is_ours = (
     λ name words e other. refl,
     (
       λ name words e other. refl,
-      (λ name words e other. refl, (λ name words e other. absurd (only_help name e other), tt)),
+      (
+        λ name words e other. refl,
+        (
+          λ name words e other. refl,
+          (
+            λ name words e other. refl,
+            (λ name words e other. refl, (λ name words e other. absurd (only_help name e other), tt)),
+          ),
+        ),
+      ),
     ),
   ),
 )

@@ -29,7 +29,8 @@ use Rattle.clap.proofs.CallerReads.{signed_reads}
 use Rattle.clap.proofs.ValueTestLemmas.{accepts-Accepts}
 use Rattle.aig_command.specs.Asked.{file, number_in, Asked, AsksWithinLimits, asked_by, command_of}
 use Rattle.aig_command.specs.Asked.{faults, frames, limit, number, refused}
-use Rattle.aig_command.specs.Asked.{aigmiter, aigunroll, asked_reaching, asks, comparison, conversion, is_given}
+use Rattle.aig_command.specs.Asked.{aiginfo, aigmiter, aigselect, aigtodot, aigunroll, asked_reaching, asks}
+use Rattle.aig_command.specs.Asked.{comparison, conversion, counting, drawing, is_given, selection}
 use Rattle.aig_command.specs.Asked.{options_refusal, proving}
 use Rattle.aig_command.specs.Asked.{reaching, simulation, source_refusal, sync_refusal, to_aig, unless_packed, unrolling}
 use Rattle.aig_command.specs.Aiger.{aiger, largest_index, max_var, most_frames, frames as frames_rule}
@@ -78,10 +79,10 @@ abbrev pub is_number : List ℕ → Bool
 is_number ds =
     nat_lt 0 (length ds) && list_all (λ d. nat_lt (digit_value d) 10) ds && nat_lt (digits_value 10 ds) (2 ^ 32)
 
-abbrev gives : List ℕ → Result ℕ ParseIntError → Type 0
+abbrev pub gives : List ℕ → Result ℕ ParseIntError → Type 0
 gives bs r = ParsesUnsigned 32 10 bs r × ExplainsUnsignedError 10 bs r × HasUnsignedDigitsIfOk bs r
 
-read_number : (text : Text) (r : Option ℕ) → ReadsOne gives text r → r ≡ number_in text
+pub read_number : (text : Text) (r : Option ℕ) → ReadsOne gives text r → r ≡ number_in text
 read_number text (Some n) h = search (rules, lt-ltb, digits_pass)
 read_number text None h = search (rules, both, ltb-true, digits_from)
 
@@ -274,6 +275,17 @@ aigmiter_is_in rows =
     unless_one_refused _ (sync_refusal rows)
     (asks _ (commands.Miter (comparison rows (file (codes "destination") rows))))
 
+aiginfo_is_in : (rows : List Row) → limit rows ≤ largest_index → AsksWithinLimits (aiginfo rows)
+aiginfo_is_in rows = unless_one_refused _ (sync_refusal rows) (asks _ (commands.Info (counting rows)))
+
+aigselect_is_in : (rows : List Row) → limit rows ≤ largest_index → AsksWithinLimits (aigselect rows)
+aigselect_is_in rows =
+    unless_one_refused _ (sync_refusal rows)
+    (asks _ (commands.Select (selection rows (file (codes "destination") rows))))
+
+aigtodot_is_in : (rows : List Row) → limit rows ≤ largest_index → AsksWithinLimits (aigtodot rows)
+aigtodot_is_in rows = unless_one_refused _ (sync_refusal rows) (asks _ (commands.ToDot (drawing rows)))
+
 subcommands_are_bounded : AllByRecursion IsBounded (built aiger).subs
 subcommands_are_bounded = (
   (search rules, λ rows h. to_aig_is_in rows (limit_is_in _ _ refl refl rows h)),
@@ -289,7 +301,16 @@ subcommands_are_bounded = (
       ),
       (
         (search rules, λ rows h. aigmiter_is_in rows (limit_is_in _ _ refl refl rows h)),
-        ((search rules, λ rows h. tt), tt),
+        (
+          (search rules, λ rows h. aiginfo_is_in rows (limit_is_in _ _ refl refl rows h)),
+          (
+            (search rules, λ rows h. aigselect_is_in rows (limit_is_in _ _ refl refl rows h)),
+            (
+              (search rules, λ rows h. aigtodot_is_in rows (limit_is_in _ _ refl refl rows h)),
+              ((search rules, λ rows h. tt), tt),
+            ),
+          ),
+        ),
       ),
     ),
   ),

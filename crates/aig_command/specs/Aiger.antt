@@ -5,12 +5,16 @@ use Rattle.clap.specs.Words.{App, Rule, Text, app_of, new_app, new_rule, rule_of
 use Rattle.clap.specs.declared.builder.arg.Arg.{Arg}
 use Rattle.clap.specs.declared.builder.command.Command.{Command}
 use Rattle.clap.specs.declared.builder.command.Command.TheViews.{out-Command as fields_of}
-use Rattle.clap.specs.declared.builder.action.ArgAction.TheVariants.{Set, SetTrue}
+use Rattle.clap.specs.declared.builder.action.ArgAction.TheVariants.{Append, Set, SetTrue}
 use Rattle.clap.specs.declared.builder.value_parser.ValueParser.TheVariants as parser
 
 -- the largest index that a file may have: 2^31 - 1, so that each literal fits into 32 bits
 abbrev pub largest_index : ℕ
 largest_index = 2147483647
+
+-- the most gates that are drawn where no number is set
+abbrev pub most_drawn : ℕ
+most_drawn = 1000
 
 -- the most frames over which a circuit is unrolled
 abbrev pub most_frames : ℕ
@@ -32,7 +36,7 @@ max_var = record (new_rule (codes "max-var")) {
 abbrev pub with_rules : App → List Rule → App
 with_rules = fold with_rule
 
--- `--bad N`, `--justice N` or `--justice-as-bad N`
+-- `--bad N`, `--justice N`, `--justice-as-bad N` or `--gates N`
 abbrev pub property_option : Text → Rule
 property_option name = record (new_rule name) {
   long = Some name;
@@ -67,7 +71,7 @@ frames = record (new_rule (codes "frames")) {
   parser = Some (parser.Signed (pos 1) (pos most_frames));
 }
 
--- `--answer FILE`, `--refutation FILE` or `--invariant FILE`
+-- `--answer FILE`, `--refutation FILE`, `--invariant FILE` or `--cone PLACE`
 abbrev pub solver_file : Text → Rule
 solver_file name = record (new_rule name) { long = Some name; action = Some Set; value_names = 1 }
 
@@ -85,6 +89,29 @@ aigmiter = with_rules (new_app (codes "aigmiter"))
     (flag (codes "by-name") ∷ flag (codes "ascii") ∷ flag (codes "simplify") ∷ flag (codes "sync") ∷ flag (codes "force") ∷ max_var
     ∷ required_file (codes "first") ∷ required_file (codes "second") ∷ new_rule (codes "destination") ∷ [])
 
+-- `--output N`, `--bad N` or `--justice N`, which may be given many times
+abbrev pub choice_option : Text → Rule
+choice_option name = record (property_option name) { action = Some Append }
+
+-- `aiginfo`: its options in any order, then the names of the two files, by place
+abbrev pub aiginfo : App
+aiginfo = with_rules (new_app (codes "aiginfo"))
+    (flag (codes "json") ∷ flag (codes "sync") ∷ max_var ∷ new_rule (codes "source") ∷ new_rule (codes "destination")
+    ∷ [])
+
+-- `aigselect`: likewise
+abbrev pub aigselect : App
+aigselect = with_rules (new_app (codes "aigselect"))
+    (choice_option (codes "output") ∷ choice_option (codes "bad") ∷ choice_option (codes "justice")
+    ∷ flag (codes "ascii") ∷ flag (codes "sync") ∷ flag (codes "force") ∷ max_var ∷ new_rule (codes "source")
+    ∷ new_rule (codes "destination") ∷ [])
+
+-- `aigtodot`: likewise
+abbrev pub aigtodot : App
+aigtodot = with_rules (new_app (codes "aigtodot"))
+    (solver_file (codes "cone") ∷ flag (codes "all-steps") ∷ property_option (codes "gates") ∷ flag (codes "sync")
+    ∷ max_var ∷ new_rule (codes "source") ∷ new_rule (codes "destination") ∷ [])
+
 -- a command that has to be given a subcommand, answers with help where nothing is given, and has a version, as its
 -- subcommands have; `clap` adds the subcommand `help`
 abbrev pub above : App → App
@@ -101,8 +128,13 @@ above a = record a {
 abbrev pub aiger : App
 aiger =
     with_subcommand
+    (with_subcommand
+    (with_subcommand
+    (with_subcommand
     (with_subcommand (with_subcommand (with_subcommand (above (new_app (codes "aiger"))) to_aig.top) aigsim.top)
-    aigunroll.top) aigmiter.top
+    aigunroll.top) aigmiter.top)
+    aiginfo.top) aigselect.top)
+    aigtodot.top
 
 -- `clap` reads this of the command, and none of its arguments is one of its subcommands too. Only private functions
 -- cite it.

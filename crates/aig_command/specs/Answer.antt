@@ -10,14 +10,16 @@ use Rattle.clap.specs.Words.{IsAmong, Text, takes}
 use Rattle.clap.specs.declared.error.kind.ErrorKind.{ErrorKind}
 use Rattle.clap.specs.declared.error.kind.ErrorKind.TheVariants.{DisplayHelp, DisplayVersion, OutOfMemory}
 use Rattle.aig_command.specs.Aiger.{aiger, most_frames}
-use Rattle.aig_command.specs.Asked.{Asked, Files, asks, command_of, faults, refused, writes_binary}
+use Rattle.aig_command.specs.Asked.{Asked, Files, asks, command_of, faults, is_empty, refused, writes_binary}
 use Rattle.aig_command.specs.declared.builder.TheConstants.{VERSION}
 use Rattle.aig_command.specs.declared.request.BadStates.TheVariants.{Kept}
 use Rattle.aig_command.specs.declared.request.Invariant.{Invariant}
 use Rattle.aig_command.specs.declared.request.Names.{Names}
 use Rattle.aig_command.specs.declared.request.Reach.{Reach}
+use Rattle.aig_command.specs.declared.request.Select.{Select}
 use Rattle.aig_command.specs.declared.request.Sim.{Sim}
 use Rattle.aig_command.specs.declared.request.ToAig.{ToAig}
+use Rattle.aig_command.specs.declared.request.ToDot.{ToDot}
 use Rattle.aig_command.specs.declared.request.Unroll.{Unroll}
 use Rattle.aig_command.specs.declared.request.Command.{Command}
 use Rattle.aig_command.specs.declared.request.CommandLine.{CommandLine}
@@ -139,6 +141,14 @@ abbrev pub CanProve : Names → Invariant → Type 0
 CanProve names request =
     HasOneStandardInput names × IsRefutationApart names request × IsNamedToBeChecked names request
 
+-- A selection is of something.
+abbrev pub IsSomeChosen : Select → Type 0
+IsSomeChosen request = is_empty request ≡ false
+
+-- More than a step is drawn of a cone alone.
+abbrev pub IsOfCone : ToDot → Type 0
+IsOfCone request = request.all_steps ≡ true → request.cone ≢ None
+
 -- what the command asks for can be done with the files of these names
 abbrev pub CanDo : Names → Command → Type 0
 CanDo names (commands.ToAig request) = IsKeptAlone request × IsWithoutMap request
@@ -147,6 +157,9 @@ CanDo names (commands.Unroll request) = HasFrames request
 CanDo names (commands.Reach request) = HasOneStandardInput names × CanReach request
 CanDo names (commands.Invariant request) = CanProve names request
 CanDo names (commands.Miter request) = HasOneStandardInput names
+CanDo names (commands.Info request) = ⊤
+CanDo names (commands.Select request) = IsSomeChosen request
+CanDo names (commands.ToDot request) = IsOfCone request
 CanDo names (commands.Help text) = ⊤
 CanDo names (commands.Version text) = ⊤
 

@@ -2,28 +2,34 @@
 use Rattle.std.specs.Prelude.{ℕ, ◌≤◌, ⊤, List, [], ◌∷◌, ◌==◌, ◌&&◌, ◌||◌, ◌^◌, Bool, false, length, nat_lt, nat_eq}
 use Rattle.std.specs.Prelude.{Option, Some, None, unwrap_or, option_and_then, option_map, find}
 use Rattle.std.specs.Prelude.{codes, if◌then◌else◌, is_some, not, true}
-use Rattle.std.specs.List.{ends_with, list_all}
+use Rattle.std.specs.List.{ends_with, filter_map, list_all}
 use Rattle.std.specs.Option.{is_none, option_map_or, option_or}
 use Rattle.std.specs.Char.{digit_value}
 use Rattle.std.specs.Str.{bytes_eq}
 use Rattle.std.specs.Str.Parse.{digits_value, without_leading_plus}
-use Rattle.clap.specs.Words.{Kinds, Row, Text, fault_of, first_of, one_of, subcommand_of}
-use Rattle.aig_command.specs.Aiger.{aiger, largest_index, most_frames}
+use Rattle.clap.specs.Words.{Kinds, Row, Text, fault_of, first_of, many_of, one_of, subcommand_of}
+use Rattle.aig_circuit.specs.declared.circuit.Kind.{Kind}
+use Rattle.aig_circuit.specs.declared.circuit.Kind.TheVariants as kinds
+use Rattle.aig_command.specs.Aiger.{aiger, largest_index, most_drawn, most_frames}
 use Rattle.aig_command.specs.declared.packed.Packer.{Packer}
 use Rattle.aig_command.specs.declared.packed.Packer.TheVariants as packers
 use Rattle.aig_command.specs.declared.request.BadStates.{BadStates}
 use Rattle.aig_command.specs.declared.request.BadStates.TheVariants as bads
 use Rattle.aig_command.specs.declared.request.Command.{Command}
 use Rattle.aig_command.specs.declared.request.Command.TheVariants as commands
+use Rattle.aig_command.specs.declared.request.Info.{Info}
 use Rattle.aig_command.specs.declared.request.Invariant.{Invariant}
 use Rattle.aig_command.specs.declared.request.Miter.{Miter}
+use Rattle.aig_command.specs.declared.request.Place.{Place}
 use Rattle.aig_command.specs.declared.request.Reach.{Reach}
+use Rattle.aig_command.specs.declared.request.Select.{Select}
 use Rattle.aig_command.specs.declared.request.Sim.{Sim}
 use Rattle.aig_command.specs.declared.request.Property.{Property}
 use Rattle.aig_command.specs.declared.request.Property.TheVariants as properties
 use Rattle.aig_command.specs.declared.request.SolverFile.{SolverFile}
 use Rattle.aig_command.specs.declared.request.SolverFile.TheVariants as written
 use Rattle.aig_command.specs.declared.request.ToAig.{ToAig}
+use Rattle.aig_command.specs.declared.request.ToDot.{ToDot}
 use Rattle.aig_command.specs.declared.request.Unroll.{Unroll}
 use Rattle.aig_command.specs.declared.request.UnrolledForm.{UnrolledForm}
 use Rattle.aig_command.specs.declared.request.UnrolledForm.TheVariants as forms
@@ -57,6 +63,10 @@ frames = number (codes "frames") 1
 -- the number of the property that the option chooses
 abbrev pub chosen : Text → List Row → Option ℕ
 chosen name rows = option_and_then number_in (one_of name rows)
+
+-- the numbers that the uses of the option choose, in their order
+abbrev pub all_chosen : Text → List Row → List ℕ
+all_chosen name rows = filter_map number_in (unwrap_or (many_of name rows) [])
 
 -- there is a value at this place, or for this option
 abbrev pub is_given : Text → List Row → Bool
@@ -308,6 +318,62 @@ abbrev pub miter_refusal : Files → Option Usage
 miter_refusal files =
     if has_one_stream_for_two files then Some usage.CircuitsAreStandardInput else destination_refusal files.destination
 
+-- the numbers that the arguments of `aiginfo` name
+abbrev pub counting : List Row → Info
+counting rows = record { json = is_set (codes "json") rows; max_var = limit rows }
+
+-- the selection to this destination that the arguments of `aigselect` name
+abbrev pub selection : List Row → Option Text → Select
+selection rows destination = record {
+  outputs = all_chosen (codes "output") rows;
+  bad = all_chosen (codes "bad") rows;
+  justice = all_chosen (codes "justice") rows;
+  ascii = wants_ascii rows destination;
+  max_var = limit rows;
+}
+
+-- nothing is chosen
+abbrev pub is_empty : Select → Bool
+is_empty s = length s.outputs == 0 && length s.bad == 0 && length s.justice == 0
+
+-- the first reason to refuse a selection to this destination
+abbrev pub selection_refusal : Option Text → Select → Option Usage
+selection_refusal destination s =
+    if is_empty s then Some usage.SelectNeedsChoice else destination_refusal destination
+
+-- the number after this letter, where the text is that
+abbrev pub number_after : ℕ → Text → Option ℕ
+number_after letter [] = None
+number_after letter (c ∷ digits) = if c == letter then number_in digits else None
+
+abbrev pub place_of : Kind → ℕ → Option Place
+place_of kind position = Some (record { kind = kind; position = position })
+
+-- the place that a text names as a symbol line does, of what a circuit shows: `o`, `b`, `c`, `j` or `f`, and a position
+abbrev pub place_in : Text → Option Place
+place_in text =
+    option_map_or (place_of kinds.Output) (number_after 111 text)
+    (option_map_or (place_of kinds.Bad) (number_after 98 text)
+    (option_map_or (place_of kinds.Constraint) (number_after 99 text)
+    (option_map_or (place_of kinds.Justice) (number_after 106 text)
+    (option_map_or (place_of kinds.Fairness) (number_after 102 text) None))))
+
+-- the picture that the arguments of `aigtodot` name
+abbrev pub drawing : List Row → ToDot
+drawing rows = record {
+  cone = option_and_then place_in (first_of (codes "cone") rows);
+  all_steps = is_set (codes "all-steps") rows;
+  gates = number (codes "gates") most_drawn rows;
+  max_var = limit rows;
+}
+
+-- the first reason to refuse a picture for this destination: no place is named, or more is drawn of none
+abbrev pub drawing_refusal : List Row → Option Text → ToDot → Option Usage
+drawing_refusal rows destination request =
+    if is_given (codes "cone") rows && is_none request.cone then Some usage.ConeNeedsPlace
+    else if request.all_steps && is_none request.cone then Some usage.AllStepsNeedsCone
+    else destination_refusal destination
+
 -- what is asked for, of which files, or why that is refused
 pub data Asked : Type 0 where
   asks : Files → Command → Asked
@@ -323,6 +389,9 @@ AsksWithinLimits (asks files (commands.Reach request)) =
     (1 ≤ request.frames) × (request.frames ≤ most_frames) × (request.max_var ≤ largest_index)
 AsksWithinLimits (asks files (commands.Invariant request)) = request.max_var ≤ largest_index
 AsksWithinLimits (asks files (commands.Miter request)) = request.max_var ≤ largest_index
+AsksWithinLimits (asks files (commands.Info request)) = request.max_var ≤ largest_index
+AsksWithinLimits (asks files (commands.Select request)) = request.max_var ≤ largest_index
+AsksWithinLimits (asks files (commands.ToDot request)) = request.max_var ≤ largest_index
 AsksWithinLimits asked = ⊤
 
 -- what the arguments of `aigtoaig` ask for
@@ -375,6 +444,28 @@ aigmiter rows =
     option_map_or refused (miter_refusal files)
     (option_map_or refused (sync_refusal rows) (asks files (commands.Miter (comparison rows files.destination))))
 
+-- what the arguments of `aiginfo` ask for
+abbrev pub aiginfo : List Row → Asked
+aiginfo rows =
+    let files = files_with None None rows in
+    option_map_or refused (destination_refusal files.destination)
+    (option_map_or refused (sync_refusal rows) (asks files (commands.Info (counting rows))))
+
+-- what the arguments of `aigselect` ask for
+abbrev pub aigselect : List Row → Asked
+aigselect rows =
+    let files = files_with None None rows in
+    let request = selection rows files.destination in
+    option_map_or refused (selection_refusal files.destination request)
+    (option_map_or refused (sync_refusal rows) (asks files (commands.Select request)))
+
+-- what the arguments of `aigtodot` ask for
+abbrev pub aigtodot : List Row → Asked
+aigtodot rows =
+    let files = files_with None None rows in
+    option_map_or refused (drawing_refusal rows files.destination (drawing rows))
+    (option_map_or refused (sync_refusal rows) (asks files (commands.ToDot (drawing rows))))
+
 -- the reason to refuse the files that are read
 abbrev pub source_refusal : Files → Option Usage
 source_refusal files =
@@ -390,7 +481,8 @@ unless_packed (refused reason) = refused reason
 abbrev pub subcommands : List (Text × (List Row → Asked))
 subcommands =
     (codes "aigtoaig", to_aig) ∷ (codes "aigsim", aigsim) ∷ (codes "aigunroll", aigunroll)
-    ∷ (codes "aigmiter", aigmiter) ∷ []
+    ∷ (codes "aigmiter", aigmiter) ∷ (codes "aiginfo", aiginfo) ∷ (codes "aigselect", aigselect)
+    ∷ (codes "aigtodot", aigtodot) ∷ []
 
 -- what the subcommand of this name with these arguments asks for
 abbrev pub asked_by : Text × List Row → Option Asked
@@ -430,4 +522,5 @@ abbrev pub writes_binary : Command → Bool
 writes_binary (commands.ToAig request) = not request.ascii
 writes_binary (commands.Unroll request) = is_binary request.form
 writes_binary (commands.Miter request) = not request.ascii
+writes_binary (commands.Select request) = not request.ascii
 writes_binary command = false

@@ -53,6 +53,10 @@ usage_words usages.InvariantIsModel = codes "model and invariant are both standa
 usage_words usages.RefutationIsInvariant = codes "invariant and refutation are both standard input"
 usage_words usages.CircuitsAreStandardInput = codes "both circuits are standard input"
 usage_words usages.SyncNeedsDestination = codes "--sync needs the name of a destination"
+usage_words usages.SelectNeedsChoice = codes "--output, --bad or --justice is needed"
+usage_words usages.ConeNeedsPlace =
+    codes "--cone needs o, b, c, j or f and a position: o0 is the first output, b0 the first bad state"
+usage_words usages.AllStepsNeedsCone = codes "--all-steps needs --cone"
 usage_words usages.BinaryToTerminal =
     codes "binary output to a terminal is refused: name a file, or use --ascii or --force"
 usage_words usages.OutOfMemory = codes "out of memory"

@@ -5,6 +5,7 @@ ghost use Rattle.aig_command.specs.Aiger.{HasApp, HasRule, above, aiger, aigmite
 ghost use Rattle.aig_command.specs.Aiger.{aigunroll, flag, frames, max_var, property_option};
 ghost use Rattle.aig_command.specs.Aiger.{required_file, solver_file, to_aig};
 
+use crate::tool_builders::{aiginfo, aigselect, aigtodot};
 use clap::{Arg, ArgAction, Command, value_parser};
 use std::alloc::{AllocError, Global};
 
@@ -328,17 +329,17 @@ const SIMPLIFY_MITER_HELP: &str = "\
 Simplify the miter, so that what is built alike in both
 circuits is there once";
 
-const SYNC_HELP: &str = "\
+pub(crate) const SYNC_HELP: &str = "\
 End only once the disk has the destination; not for
 the standard output";
 
-const FORCE_HELP: &str = "Write binary even to a terminal";
+pub(crate) const FORCE_HELP: &str = "Write binary even to a terminal";
 
-const ASCII_HELP: &str = "Write ASCII, whatever the destination is named";
+pub(crate) const ASCII_HELP: &str = "Write ASCII, whatever the destination is named";
 
-const SOURCE_HELP: &str = "The file to read; - or none is the standard input";
+pub(crate) const SOURCE_HELP: &str = "The file to read; - or none is the standard input";
 
-const DESTINATION_HELP: &str = "The file to write; - or none is the standard output";
+pub(crate) const DESTINATION_HELP: &str = "The file to write; - or none is the standard output";
 
 const MODEL_HELP: &str = "The circuit's file; - is the standard input";
 
@@ -350,7 +351,12 @@ const MAX_VAR_HELP: &str = "\
 Refuse a circuit with an index or a count above N:
 0 to 2147483647, which is also the default";
 
-fn command<'a>(alloc: Global, name: &'a str, about: &'a str, after: &'a str) -> Command<'a>
+pub(crate) fn command<'a>(
+    alloc: Global,
+    name: &'a str,
+    about: &'a str,
+    after: &'a str,
+) -> Command<'a>
     ensures { HasApp (new_app name.now) result }
 {
     Command::new(alloc, name).about(about).after_help(after)
@@ -368,7 +374,7 @@ fn command_with_usage<'a>(
     command(alloc, name, about, after).override_usage(usage)
 }
 
-fn flag<'a>(alloc: Global, name: &'a str, help: &'a str) -> Arg<'a>
+pub(crate) fn flag<'a>(alloc: Global, name: &'a str, help: &'a str) -> Arg<'a>
     ensures { HasRule (flag name.now) result }
 {
     Arg::new(alloc, name)
@@ -377,7 +383,7 @@ fn flag<'a>(alloc: Global, name: &'a str, help: &'a str) -> Arg<'a>
         .help(help)
 }
 
-fn max_var<'a>(alloc: Global) -> Arg<'a>
+pub(crate) fn max_var<'a>(alloc: Global) -> Arg<'a>
     ensures { HasRule max_var result }
 {
     Arg::new(alloc, "max-var")
@@ -399,7 +405,7 @@ fn frames<'a>(alloc: Global) -> Arg<'a>
         .help(FRAMES_HELP)
 }
 
-fn property_option<'a>(alloc: Global, name: &'a str, help: &'a str) -> Arg<'a>
+pub(crate) fn property_option<'a>(alloc: Global, name: &'a str, help: &'a str) -> Arg<'a>
     ensures { HasRule (property_option name.now) result }
 {
     Arg::new(alloc, name)
@@ -420,7 +426,7 @@ fn solver_file<'a>(alloc: Global, name: &'a str, help: &'a str) -> Arg<'a>
         .help(help)
 }
 
-fn file<'a>(alloc: Global, name: &'a str, help: &'a str) -> Arg<'a>
+pub(crate) fn file<'a>(alloc: Global, name: &'a str, help: &'a str) -> Arg<'a>
     ensures { HasRule (new_rule name.now) result }
 {
     Arg::new(alloc, name).help(help)
@@ -434,7 +440,7 @@ fn required_file<'a>(alloc: Global, name: &'a str, help: &'a str) -> Arg<'a>
 
 /// It takes what the calls before it gave, so that a command is made with no `?` between its
 /// arguments: each `?` is a way out, on which the proof follows all that is dropped.
-fn with_argument<'a>(
+pub(crate) fn with_argument<'a>(
     command: Result<Command<'a>, AllocError>,
     argument: Arg<'a>,
 ) -> Result<Command<'a>, AllocError>
@@ -549,5 +555,8 @@ pub(crate) fn aiger<'a>(alloc: Global) -> Result<Command<'a>, AllocError>
     let program = with_subcommand(program(alloc), to_aig(alloc));
     let program = with_subcommand(program, aigsim(alloc));
     let program = with_subcommand(program, aigunroll(alloc));
-    with_subcommand(program, aigmiter(alloc))
+    let program = with_subcommand(program, aigmiter(alloc));
+    let program = with_subcommand(program, aiginfo(alloc));
+    let program = with_subcommand(program, aigselect(alloc));
+    with_subcommand(program, aigtodot(alloc))
 }

@@ -9,6 +9,7 @@
 mod builder;
 mod destination;
 mod hints;
+mod info;
 pub mod laws;
 mod miter;
 mod options;
@@ -17,8 +18,11 @@ mod proving;
 mod reach;
 mod reader;
 mod request;
+mod select;
 mod sim;
 mod to_aig;
+mod to_dot;
+mod tool_builders;
 mod unroll;
 mod usage;
 
@@ -26,7 +30,7 @@ pub use crate::builder::VERSION;
 pub use crate::packed::Packer;
 pub use crate::reader::command;
 pub use crate::request::{
-    BadStates, Command, CommandLine, Invariant, Miter, Names, Property, Reach, Sim, SolverFile,
-    ToAig, Unroll, UnrolledForm,
+    BadStates, Command, CommandLine, Info, Invariant, Miter, Names, Place, Property, Reach, Select,
+    Sim, SolverFile, ToAig, ToDot, Unroll, UnrolledForm,
 };
 pub use crate::usage::Usage;

@@ -2,10 +2,12 @@
 ghost use Rattle.std.specs.Prelude.{◌≡◌, IfOk, is_some};
 ghost use Rattle.clap.specs.Words.{found_of, rows_of};
 ghost use Rattle.aig_command.specs.Answer.{files_of, name_of};
-ghost use Rattle.aig_command.specs.Asked.{chosen, chosen_property, file, files_with, frames};
-ghost use Rattle.aig_command.specs.Asked.{has_one_stream_for_two, is_given, is_set, limit, number};
+ghost use Rattle.aig_command.specs.Asked.{all_chosen, chosen, chosen_property, file, files_with};
+ghost use Rattle.aig_command.specs.Asked.{frames, has_one_stream_for_two, is_given, is_set, limit};
+ghost use Rattle.aig_command.specs.Asked.{number};
 
 use crate::request::{Names, Property};
+use aig_circuit::Listing;
 use clap::ArgMatches;
 use std::alloc::{AllocError, Global};
 
@@ -42,6 +44,27 @@ pub(crate) fn chosen(matches: &ArgMatches<'_>, name: &str) -> Option<u32>
     ensures { result ≡ chosen name.now (rows_of (found_of matches.now)) }
 {
     matches.get_one::<u32>(name)
+}
+
+/// The numbers that the uses of the option choose, in their order.
+pub(crate) fn all_chosen(
+    alloc: Global,
+    matches: &ArgMatches<'_>,
+    name: &str,
+) -> Result<Listing<u32>, AllocError>
+    ensures { IfOk result (λ chosen. chosen
+        ≡ all_chosen name.now (rows_of (found_of matches.now))) }
+{
+    let mut chosen = Listing::new(alloc);
+    let Some(values) = matches.get_many::<u32>(name) else {
+        return Ok(chosen);
+    };
+    for value in values {
+        if let Ok(number) = value {
+            chosen.push(number)?;
+        }
+    }
+    Ok(chosen)
 }
 
 /// The property that `--bad` or `--justice` chooses.

@@ -14,12 +14,15 @@ ghost use Rattle.aig_command.specs.Asked.{unless_packed};
 
 use crate::builder::{VERSION, aiger};
 use crate::hints::with_hint;
+use crate::info::aiginfo;
 use crate::miter::aigmiter;
 use crate::options::is_set;
 use crate::packed::check_sources;
 use crate::request::{Command, CommandLine, Names};
+use crate::select::aigselect;
 use crate::sim::aigsim;
 use crate::to_aig::to_aig;
+use crate::to_dot::aigtodot;
 use crate::unroll::aigunroll;
 use crate::usage::Usage;
 use clap::error::ErrorKind;
@@ -51,6 +54,9 @@ fn read_matches(alloc: Global, matches: &ArgMatches<'_>) -> Result<(Names, Comma
         "aigsim" => aigsim(alloc, words),
         "aigunroll" => aigunroll(alloc, words),
         "aigmiter" => aigmiter(alloc, words),
+        "aiginfo" => aiginfo(alloc, words),
+        "aigselect" => aigselect(alloc, words),
+        "aigtodot" => aigtodot(alloc, words),
         _ => unreachable!(),
     }
 }

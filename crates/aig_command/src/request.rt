@@ -3,6 +3,8 @@ ghost use Rattle.std.specs.Prelude.{◌≡◌};
 ghost use Rattle.aig_command.specs.Answer.{is_binary_stream};
 ghost use Rattle.aig_command.specs.Asked.{is_binary, writes_binary};
 
+use aig_circuit::{Kind, Listing};
+
 /// Which bad states a conversion writes.
 #[derive(Clone, Copy)]
 pub enum BadStates {
@@ -148,6 +150,54 @@ pub struct Miter {
     pub max_var: u32,
 }
 
+/// The numbers of a circuit.
+#[derive(Clone, Copy)]
+pub struct Info {
+    /// Whether they are written as a JSON object; else as lines.
+    pub json: bool,
+    /// The limit on the largest variable index and the counts of the source.
+    pub max_var: u32,
+}
+
+/// A selection of what a circuit shows, by positions that are counted from 0, with all on which that
+/// depends. At least one is chosen.
+#[derive(Drop)]
+pub struct Select {
+    /// The outputs.
+    pub outputs: Listing<u32>,
+    /// The bad states.
+    pub bad: Listing<u32>,
+    /// The justice properties.
+    pub justice: Listing<u32>,
+    /// Whether ASCII is written, whether an option or the destination's name decided it.
+    pub ascii: bool,
+    /// The limit on the largest variable index and the counts of the source.
+    pub max_var: u32,
+}
+
+/// What a circuit shows at a position, counted from 0: an output, a bad state, a constraint, a justice
+/// property or a fairness constraint.
+#[derive(Clone, Copy)]
+pub struct Place {
+    /// Which of these it is.
+    pub kind: Kind,
+    /// Its position among those of its kind.
+    pub position: u32,
+}
+
+/// A picture of a circuit.
+#[derive(Clone, Copy)]
+pub struct ToDot {
+    /// What is drawn with all on which it depends in a step; `None` is the whole circuit.
+    pub cone: Option<Place>,
+    /// Whether that on which it depends in any step is drawn too. This stands only with a `cone`.
+    pub all_steps: bool,
+    /// The most gates that are drawn.
+    pub gates: u32,
+    /// The limit on the largest variable index and the counts of the source.
+    pub max_var: u32,
+}
+
 /// What a command line asks for.
 #[derive(Drop)]
 pub enum Command {
@@ -163,6 +213,12 @@ pub enum Command {
     Invariant(Invariant),
     /// `aigmiter`.
     Miter(Miter),
+    /// `aiginfo`.
+    Info(Info),
+    /// `aigselect`.
+    Select(Select),
+    /// `aigtodot`.
+    ToDot(ToDot),
     /// Help; this is its text.
     Help(String),
     /// The program's version; this is its text.
@@ -215,6 +271,7 @@ impl Command {
             Command::ToAig(request) => !request.ascii,
             Command::Unroll(request) => request.form.is_binary(),
             Command::Miter(request) => !request.ascii,
+            Command::Select(request) => !request.ascii,
             _ => false,
         }
     }

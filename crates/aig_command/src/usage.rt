@@ -69,6 +69,12 @@ pub enum Usage {
     CircuitsAreStandardInput,
     /// The disk is to have a destination that is the standard output.
     SyncNeedsDestination,
+    /// A selection is asked for, and nothing is chosen.
+    SelectNeedsChoice,
+    /// A cone is asked for, and the text names none.
+    ConeNeedsPlace,
+    /// More than a step is to be drawn, and no cone is asked for.
+    AllStepsNeedsCone,
     /// Binary is to go to the standard output, which is a terminal.
     BinaryToTerminal,
     /// An allocation failed; nothing is known of the command line.
@@ -112,6 +118,11 @@ impl Usage {
             Usage::RefutationIsInvariant => "invariant and refutation are both standard input",
             Usage::CircuitsAreStandardInput => "both circuits are standard input",
             Usage::SyncNeedsDestination => "--sync needs the name of a destination",
+            Usage::SelectNeedsChoice => "--output, --bad or --justice is needed",
+            Usage::ConeNeedsPlace => {
+                "--cone needs o, b, c, j or f and a position: o0 is the first output, b0 the first bad state"
+            }
+            Usage::AllStepsNeedsCone => "--all-steps needs --cone",
             Usage::BinaryToTerminal => {
                 "binary output to a terminal is refused: name a file, or use --ascii or --force"
             }

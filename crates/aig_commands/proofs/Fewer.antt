@@ -1,5 +1,5 @@
 -- What each reading leaves to read.
-use Rattle.std.proofs.Common.{◌<◌, ℕ, List, Bool, true, false, arith}
+use Rattle.std.proofs.Common.{◌<◌, ℕ, List, Bool, true, false, arith, inl, inr}
 use Rattle.aig_circuit.specs.declared.circuit.Circuit.{Circuit}
 use Rattle.aig_command.specs.declared.request.Invariant.{Invariant}
 use Rattle.aig_commands.specs.Jobs.{Makes, read_for, reads_of, sources_left}
@@ -27,3 +27,8 @@ fewer (readings.Never request strengthened) bytes next (answer, is, then) = rw t
 fewer (readings.First request) bytes next (first, is, then) = rw then (omega arith)
 fewer (readings.Second request first) bytes next (answer, is, then) = rw then (omega arith)
 fewer (readings.Sim request) bytes next (model, is, then) = rw then (omega arith)
+fewer (readings.Info request) bytes next (answer, is, then) = rw then (omega arith)
+fewer (readings.Select request) bytes next (inl (answer, is, then)) = rw then (omega arith)
+fewer (readings.Select request) bytes next (inr (refusal, is, then)) = rw then (omega arith)
+fewer (readings.ToDot request) bytes next (inl (answer, is, then)) = rw then (omega arith)
+fewer (readings.ToDot request) bytes next (inr (refusal, is, then)) = rw then (omega arith)

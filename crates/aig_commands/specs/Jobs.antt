@@ -1,5 +1,5 @@
 -- What each source makes of a job, and what is written in the end (this project's profile).
-use Rattle.std.specs.Prelude.{◌≡◌, ◌<◌, ℕ, List, Bool, true, false, length, string_bytes, ⊤}
+use Rattle.std.specs.Prelude.{◌≡◌, ◌<◌, ◌⊎◌, ℕ, List, Bool, true, false, length, string_bytes, ⊤}
 use Rattle.aig_binary.specs.BinaryText.{binary_text}
 use Rattle.aig_circuit.specs.declared.circuit.Circuit.{Circuit}
 use Rattle.aig_command.specs.Answer.{CanReach, HasFrames, IsKeptAlone}
@@ -7,15 +7,21 @@ use Rattle.aig_command.specs.declared.request.Command.{Command}
 use Rattle.aig_command.specs.declared.request.Command.TheVariants as commands
 use Rattle.aig_command.specs.declared.request.Invariant.{Invariant}
 use Rattle.aig_command.specs.declared.request.Reach.{Reach}
+use Rattle.aig_command.specs.declared.request.Select.{Select}
 use Rattle.aig_command.specs.declared.request.SolverFile.{SolverFile}
 use Rattle.aig_command.specs.declared.request.SolverFile.TheVariants as wrote
+use Rattle.aig_command.specs.declared.request.ToDot.{ToDot}
 use Rattle.aig_cuts.specs.CutText.{cut_text}
+use Rattle.aig_dot.specs.Dot.{dot_text}
 use Rattle.aig_fault.specs.declared.fault.Fault.{Fault}
+use Rattle.aig_info.specs.InfoText.{info_text}
 use Rattle.aig_io.specs.Runs.{Ending}
 use Rattle.aig_replay.specs.WitnessLines.{lasso_text, witness_text}
 use Rattle.aig_text.specs.AsciiText.{ascii_text}
 use Rattle.aig_commands.specs.Comparing.{IsAccepted, IsFirst, IsMiterText, NotFirst, NotMiter}
 use Rattle.aig_commands.specs.Conversion.{IsConversionRefused, IsConversionText}
+use Rattle.aig_commands.specs.Counting.{IsInfoText}
+use Rattle.aig_commands.specs.Drawing.{IsDotText, IsNotDrawn}
 use Rattle.aig_commands.specs.File.{IsFileOf}
 use Rattle.aig_commands.specs.Proving.{IsInvariantModel, IsInvariantText, IsNeverText, IsStrengthened}
 use Rattle.aig_commands.specs.Proving.{NotInvariantModel}
@@ -23,6 +29,7 @@ use Rattle.aig_commands.specs.Proving.{NotStrengthened, never_text, over_one_fra
 use Rattle.aig_commands.specs.Reaching.{IsModelRefused, IsReachRefused, IsReachText, IsSelectedModel}
 use Rattle.aig_commands.specs.Reading.{AtAnyTime, AtItsEnd, IsUnreadable}
 use Rattle.aig_commands.specs.Refuting.{CanUnroll, IsNoneText, IsRefutationRefused, none_text}
+use Rattle.aig_commands.specs.Selecting.{IsNotSelected, IsSelectionText}
 use Rattle.aig_commands.specs.Simulation.{task_of}
 use Rattle.aig_commands.specs.Unrolling.{IsUnrollingRefused, IsUnrollingText, unrolled_text}
 use Rattle.aig_commands.specs.declared.answer.Answer.{Answer}
@@ -33,6 +40,7 @@ use Rattle.aig_commands.specs.declared.job.Part.{Part}
 use Rattle.aig_commands.specs.declared.job.Part.TheVariants.{File, Model, Refutation}
 use Rattle.aig_commands.specs.declared.job.Reading.{Reading}
 use Rattle.aig_commands.specs.declared.job.Reading.TheVariants as readings
+use Rattle.aig_commands.specs.declared.refusal.Refusal.{Refusal}
 
 -- the text that is written
 abbrev pub text_of : Answer → List ℕ
@@ -45,6 +53,8 @@ text_of (answers.Witness claim) = witness_text claim
 text_of (answers.Lasso claim) = lasso_text claim
 text_of (answers.NoneWithin frames) = none_text frames
 text_of answers.Never = never_text
+text_of (answers.Info form info) = info_text form info
+text_of (answers.Picture picture circuit) = dot_text picture circuit
 text_of (answers.Text text) = string_bytes text
 
 -- the job that a command is
@@ -55,6 +65,9 @@ job_of (commands.Unroll request) = jobs.Read (readings.Unroll request)
 job_of (commands.Reach request) = jobs.Read (readings.Reach request)
 job_of (commands.Invariant request) = jobs.Read (readings.Invariant request)
 job_of (commands.Miter request) = jobs.Read (readings.First request)
+job_of (commands.Info request) = jobs.Read (readings.Info request)
+job_of (commands.Select request) = jobs.Read (readings.Select request)
+job_of (commands.ToDot request) = jobs.Read (readings.ToDot request)
 job_of (commands.Help text) = jobs.Write (answers.Text text)
 job_of (commands.Version text) = jobs.Write (answers.Text text)
 
@@ -71,10 +84,27 @@ source_of (readings.Never request strengthened) = Refutation
 source_of (readings.First request) = Model
 source_of (readings.Second request first) = File
 source_of (readings.Sim request) = Model
+source_of (readings.Info request) = Model
+source_of (readings.Select request) = Model
+source_of (readings.ToDot request) = Model
 
 -- an answer is written, and this holds of its text
 abbrev pub WritesText : (List ℕ → Type 0) → Job → Type 0
 WritesText IsText next = (answer : Answer) × IsText (text_of answer) × (next ≡ jobs.Write answer)
+
+-- the circuit that was read has not what the arguments speak of, for this reason
+abbrev pub IsRefusedFor : (Refusal → Type 0) → Job → Type 0
+IsRefusedFor Is next = (refusal : Refusal) × Is refusal × (next ≡ jobs.Refuse refusal)
+
+-- what is chosen is written, or is not there
+abbrev pub MakesSelection : Select → List ℕ → Job → Type 0
+MakesSelection request bytes next =
+    WritesText (IsSelectionText request bytes) next ⊎ IsRefusedFor (IsNotSelected request bytes) next
+
+-- a picture is written, or there is none
+abbrev pub MakesPicture : ToDot → List ℕ → Job → Type 0
+MakesPicture request bytes next =
+    WritesText (IsDotText request bytes) next ⊎ IsRefusedFor (IsNotDrawn request bytes) next
 
 -- the text for what a solver wrote on the clauses of this circuit
 abbrev pub IsSolvedText : SolverFile → Reach → Circuit → (bytes text : List ℕ) → Type 0
@@ -113,6 +143,9 @@ Makes (readings.First request) bytes next =
 Makes (readings.Second request first) bytes next = WritesText (IsMiterText request first bytes) next
 Makes (readings.Sim request) bytes next =
     (model : Circuit) × IsFileOf bytes request.max_var model × (next ≡ jobs.Steps (task_of request) model)
+Makes (readings.Info request) bytes next = WritesText (IsInfoText request bytes) next
+Makes (readings.Select request) bytes next = MakesSelection request bytes next
+Makes (readings.ToDot request) bytes next = MakesPicture request bytes next
 
 -- why nothing is: these bytes came, and ended so
 abbrev pub Refuses : Reading → Fault → List ℕ → Ending → Type 0
@@ -127,6 +160,9 @@ Refuses (readings.Never request strengthened) = IsRefutationRefused (over_one_fr
 Refuses (readings.First request) = AtItsEnd (NotFirst request)
 Refuses (readings.Second request first) = AtItsEnd (NotMiter request first)
 Refuses (readings.Sim request) = AtItsEnd (IsUnreadable request.max_var)
+Refuses (readings.Info request) = AtItsEnd (IsUnreadable request.max_var)
+Refuses (readings.Select request) = AtItsEnd (IsUnreadable request.max_var)
+Refuses (readings.ToDot request) = AtItsEnd (IsUnreadable request.max_var)
 
 -- A source can be read for this: the request can be met, and the clauses of the circuit fit.
 abbrev pub CanRead : Reading → Type 0
@@ -143,6 +179,7 @@ abbrev pub CanDo : Job → Type 0
 CanDo (jobs.Read reading) = CanRead reading
 CanDo (jobs.Steps task model) = ⊤
 CanDo (jobs.Write answer) = 0 < length (text_of answer)
+CanDo (jobs.Refuse refusal) = ⊤
 
 -- how many sources are read at most
 abbrev pub reads_of : Reading → ℕ
@@ -156,3 +193,4 @@ abbrev pub sources_left : Job → ℕ
 sources_left (jobs.Read reading) = reads_of reading
 sources_left (jobs.Steps task model) = 0
 sources_left (jobs.Write answer) = 0
+sources_left (jobs.Refuse refusal) = 0

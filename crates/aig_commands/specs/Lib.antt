@@ -2,6 +2,10 @@ pub use Rattle.aig_binary.specs.File
 pub use Rattle.aig_binary.specs.Reading
 pub mod OutputsAsBad
 pub mod Comparing
+pub mod Counting
+pub mod Drawing
+pub mod Refusals
+pub mod Selecting
 pub mod Conversion
 pub mod Simulation
 pub mod Property

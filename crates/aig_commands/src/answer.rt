@@ -12,7 +12,9 @@ use aig_command::UnrolledForm;
 use aig_convert::{MappedImage, write_mapped};
 use aig_core::{Checked, DeviceFault, Listing, Output, Sink};
 use aig_cuts::{Cut, write_cut_clauses};
+use aig_dot::{Picture, write_dot};
 use aig_fault::{Message, Stopped};
+use aig_info::{Form, Info, write_info};
 use aig_live::FoundLasso;
 use aig_replay::FoundWitness;
 use aig_text::write_ascii;
@@ -42,6 +44,13 @@ pub enum Answer {
     NoneWithin(u32),
     /// That no run ever does.
     Never,
+    /// What is counted of a circuit, in this form.
+    Info(Form, Info),
+    /// A picture of a circuit.
+    Picture {
+        picture: Picture,
+        circuit: Checked,
+    },
     /// A text that is shown.
     Text(String),
 }
@@ -133,6 +142,12 @@ impl Answer {
             Answer::Lasso(lasso) => Ok(lasso.write(sink)?),
             Answer::NoneWithin(frames) => Ok(send_none_within(frames, sink)?),
             Answer::Never => Ok(send_text(b"never\n", sink)?),
+            Answer::Info(form, info) => Ok(write_info(form, &info, sink)?),
+            Answer::Picture { picture, circuit } => {
+                let written = write_dot(&picture, circuit.circuit(), sink);
+                drop(circuit); // for the proof
+                Ok(written?)
+            }
             Answer::Text(text) => Ok(send_text(text.as_bytes(), sink)?),
         }
     }

@@ -10,12 +10,16 @@ ghost use Rattle.aig_commands.specs.Reading.{ReadSays};
 use crate::answer::Answer;
 use crate::comparing::{read_first, read_second};
 use crate::conversion::read_conversion;
+use crate::counting::read_info;
+use crate::drawing::read_drawing;
 use crate::proving::{read_clauses, read_never, read_proving_model, read_strengthened};
 use crate::reaching::{read_selected, read_solved};
+use crate::refusal::Refusal;
+use crate::selecting::read_selection;
 use crate::task::{Task, task_of};
 use crate::unrolling::read_unrolling;
 use aig_binary::read_source;
-use aig_command::{Command, Invariant, Miter, Reach, Sim, ToAig, Unroll};
+use aig_command::{Command, Info, Invariant, Miter, Reach, Select, Sim, ToAig, ToDot, Unroll};
 use aig_core::{Checked, Keep, Source};
 use aig_fault::Stopped;
 use std::alloc::Global;
@@ -72,6 +76,12 @@ pub enum Reading {
     },
     /// A model, and then the steps of a stimulus or of a witness file.
     Sim(Sim),
+    /// A circuit, of which this is counted.
+    Info(Info),
+    /// A circuit, of which this is selected.
+    Select(Select),
+    /// A circuit, of which this is drawn.
+    ToDot(ToDot),
 }
 
 /// What is still to be done.
@@ -83,6 +93,8 @@ pub enum Job {
     Steps { task: Task, model: Checked },
     /// An answer is written.
     Write(Answer),
+    /// Nothing is done, since what was read has not what the arguments speak of.
+    Refuse(Refusal),
 }
 
 impl Job {
@@ -100,6 +112,9 @@ impl Job {
             Command::Reach(request) => Job::Read(Reading::Reach(request)),
             Command::Invariant(request) => Job::Read(Reading::Invariant(request)),
             Command::Miter(request) => Job::Read(Reading::First(request)),
+            Command::Info(request) => Job::Read(Reading::Info(request)),
+            Command::Select(request) => Job::Read(Reading::Select(request)),
+            Command::ToDot(request) => Job::Read(Reading::ToDot(request)),
             Command::Help(text) | Command::Version(text) => Job::Write(Answer::Text(text)),
         }
     }
@@ -125,6 +140,7 @@ impl Reading {
         match self {
             Reading::ToAig(_) | Reading::Unroll(_) | Reading::Reach(_) => Part::Model,
             Reading::Invariant(_) | Reading::First(_) | Reading::Sim(_) => Part::Model,
+            Reading::Info(_) | Reading::Select(_) | Reading::ToDot(_) => Part::Model,
             Reading::Solved { .. } | Reading::Clauses { .. } => Part::File,
             Reading::Strengthen { .. } | Reading::Second { .. } => Part::File,
             Reading::Never { .. } => Part::Refutation,
@@ -193,6 +209,12 @@ impl Reading {
                     model,
                 })
             }
+            Reading::Info(request) => {
+                let answer = read_info(alloc, &request, source)?;
+                Ok(Job::Write(answer))
+            }
+            Reading::Select(request) => read_selection(alloc, &request, source),
+            Reading::ToDot(request) => read_drawing(alloc, &request, source),
         }
     }
 }

@@ -52,6 +52,9 @@ no_steps_then (readings.Never request strengthened) bytes next none (answer, is,
 no_steps_then (readings.First request) bytes next none (first, is, then) = rw then tt
 no_steps_then (readings.Second request first) bytes next none (answer, is, then) = rw then tt
 no_steps_then (readings.Sim request) bytes next none made = absurd none
+no_steps_then (readings.Info request) bytes next none (answer, is, then) = rw then tt
+no_steps_then (readings.Select request) bytes next none made = absurd none
+no_steps_then (readings.ToDot request) bytes next none made = absurd none
 
 module _ (inputs : Inputs) where
   -- a reading came to a text, or to a fault, by what it made

@@ -131,6 +131,12 @@ module _ (input : List ℕ) (now : History) (given : HasGiven now) where
       all_refused (readings.Second request first) fault bytes ending is says.0 says
   refused (readings.Sim request) fault bytes ending is says =
       all_refused (readings.Sim request) fault bytes ending is says.0 says
+  refused (readings.Info request) fault bytes ending is says =
+      all_refused (readings.Info request) fault bytes ending is says.0 says
+  refused (readings.Select request) fault bytes ending is says =
+      all_refused (readings.Select request) fault bytes ending is says.0 says
+  refused (readings.ToDot request) fault bytes ending is says =
+      all_refused (readings.ToDot request) fault bytes ending is says.0 says
 
   pub batched : (c : Circuit) (columns : Columns) (r : Result (Unit {0}) Stopped) (origin : Origin)
       (sink_now : History)

@@ -12,10 +12,13 @@ use Rattle.aig_fault.specs.declared.fault.Fault.{Fault}
 use Rattle.aig_io.specs.Runs.{AtEnd}
 use Rattle.aig_library.specs.declared.memory.Inputs.{Inputs}
 
--- no steps are read for this
+-- no steps are read for this, and no position is chosen
 abbrev pub HasNoSteps : Job → Type 0
 HasNoSteps (jobs.Read (readings.Sim request)) = ⊥
+HasNoSteps (jobs.Read (readings.Select request)) = ⊥
+HasNoSteps (jobs.Read (readings.ToDot request)) = ⊥
 HasNoSteps (jobs.Steps task model) = ⊥
+HasNoSteps (jobs.Refuse refusal) = ⊥
 HasNoSteps job = ⊤
 
 -- the bytes of a source

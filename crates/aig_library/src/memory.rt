@@ -64,7 +64,7 @@ pub(crate) fn run_in_memory(alloc: Global, inputs: &Inputs, job: Job) -> Result<
     loop {
         match job {
             Job::Read(reading) => job = read_bytes(alloc, inputs.at(reading.source()), reading)?,
-            Job::Steps { .. } => unreachable!(),
+            Job::Steps { .. } | Job::Refuse(_) => unreachable!(),
             Job::Write(answer) => return answer_text(alloc, answer),
         }
     }

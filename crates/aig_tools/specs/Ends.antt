@@ -15,6 +15,7 @@ use Rattle.aig_commands.specs.declared.job.Job.TheVariants as jobs
 use Rattle.aig_commands.specs.declared.job.Part.{Part}
 use Rattle.aig_commands.specs.declared.job.Part.TheVariants.{File, Model}
 use Rattle.aig_commands.specs.declared.job.Reading.{Reading}
+use Rattle.aig_commands.specs.declared.refusal.Refusal.{Refusal}
 use Rattle.aig_commands.specs.declared.task.Task.{Task}
 use Rattle.aig_fault.specs.declared.stopped.Stopped.{Stopped}
 use Rattle.aig_io.specs.Files.{with_sync}
@@ -22,7 +23,7 @@ use Rattle.aig_lasso.specs.declared.verdict.LassoVerdict.TheVariants as lassos
 use Rattle.aig_verdicts.specs.declared.verdict.WitnessVerdict.{WitnessVerdict}
 use Rattle.aig_verdicts.specs.declared.verdict.WitnessVerdict.TheVariants.{BadState, Justice}
 use Rattle.aig_witness.specs.declared.verdict.Verdict.TheVariants.{Confirmed, NotConfirmed}
-use Rattle.aig_tools.specs.Lines.{IsReported, name_at, stop_line, usage_text}
+use Rattle.aig_tools.specs.Lines.{IsReported, name_at, refusal_line, stop_line, usage_text}
 use Rattle.aig_tools.specs.SimulationOutcome.{TaskSays, without_verdict}
 use Rattle.aig_tools.specs.Worlds.{ReadIn, SentIn, TakesAs, TransferredBetween, World}
 
@@ -46,7 +47,7 @@ Concludes names part (Err stopped) before after status =
     (status ≡ 1) × IsReportedIn (stop_line names part stopped before.why) before after
 
 -- How a job ends: its next source is read, and what that makes of it ends so; or that is not read or is refused; or
--- steps are answered as they come; or its answer is written.
+-- steps are answered as they come; or its answer is written; or the model has not what was asked of it.
 pub data Ends (names : Names) : Job → World → World → ℕ → Type 0 where
   goes_on : (reading : Reading) (next : Job) (before between after : World) (status : ℕ)
       → ReadIn (ReadSays (λ next bytes. Makes reading bytes next) (Refuses reading) (Ok next))
@@ -66,6 +67,8 @@ pub data Ends (names : Names) : Job → World → World → ℕ → Type 0 where
       between
       → Concludes names Model (without_verdict sent) between after status
       → Ends names (jobs.Write answer) before after status
+  refuses : (refusal : Refusal) (before after : World) → IsReportedIn (refusal_line names refusal) before after
+      → Ends names (jobs.Refuse refusal) before after 1
 
 -- the status of refused words: 1 where memory was refused, else 2
 abbrev pub status_of : Usage → ℕ

@@ -5,8 +5,10 @@ use Rattle.aig_command.specs.Words.{usage_words}
 use Rattle.aig_command.specs.declared.request.Names.{Names}
 use Rattle.aig_command.specs.declared.usage.Usage.{Usage}
 use Rattle.aig_command.specs.declared.usage.Usage.TheVariants as usages
+use Rattle.aig_commands.specs.Refusals.{refusal_text}
 use Rattle.aig_commands.specs.declared.job.Part.{Part}
 use Rattle.aig_commands.specs.declared.job.Part.TheVariants.{File, Model, Refutation}
+use Rattle.aig_commands.specs.declared.refusal.Refusal.{Refusal}
 use Rattle.aig_fault.specs.Stopping.{stopped_text}
 use Rattle.aig_files.specs.Reasons.{reason_words}
 use Rattle.aig_files.specs.declared.reason.Reason.{Reason}
@@ -60,6 +62,10 @@ cause_text names part (Refused fault) why = []
 abbrev pub stop_line : Names → Part → Stopped → Option Reason → List ℕ
 stop_line names part stopped why =
     line_of (subject_text names part stopped) (stopped_text stopped ++ cause_text names part stopped why)
+
+-- the line that reports what the model has not
+abbrev pub refusal_line : Names → Refusal → List ℕ
+refusal_line names refusal = line_of (shown (name_of names.model) ++ codes ": ") (refusal_text refusal)
 
 -- what is printed where the words are refused: the text of `clap`, or a line
 abbrev pub usage_text : Usage → List ℕ

@@ -53,6 +53,7 @@ pub fn run<A: FileAccess, R: Source, W: Sink, E: Sink>(
                 let sent = world.write(&names.destination, answer);
                 return world.conclude(names, Part::Model, without_verdict(sent));
             }
+            Job::Refuse(refusal) => return world.refuse(names, refusal),
         }
     }
 }

@@ -4,11 +4,12 @@
 ghost use Rattle.std.specs.Prelude.{◌≡◌, ◌++◌, [], codes};
 ghost use Rattle.aig_io.specs.Output.{Appended};
 ghost use Rattle.aig_command.specs.Answer.{name_of};
-ghost use Rattle.aig_tools.specs.Lines.{IsReported, line_of, memory_line, name_at, shown};
-ghost use Rattle.aig_tools.specs.Lines.{cause_text, stop_line, subject_text, usage_text, why_text, words_line};
+ghost use Rattle.aig_tools.specs.Lines.{IsReported, cause_text, line_of, memory_line, name_at};
+ghost use Rattle.aig_tools.specs.Lines.{refusal_line, shown, stop_line, subject_text, usage_text};
+ghost use Rattle.aig_tools.specs.Lines.{why_text, words_line};
 
 use aig_command::{Names, Usage};
-use aig_commands::{Part, Stopped};
+use aig_commands::{Part, Refusal, Stopped};
 use aig_core::{Output, Sink};
 use aig_files::Reason;
 
@@ -145,6 +146,19 @@ pub(crate) fn report_stop<E: Sink>(
     put_subject(&mut output, names, part, stopped);
     stopped.put(&mut output);
     put_cause(&mut output, names, part, stopped, why);
+    output.put(b"\n");
+    let (_sent, _errors) = output.finish();
+}
+
+/// Reports what the model has not, in one line that names it.
+pub(crate) fn report_refusal<E: Sink>(errors: &mut E, names: &Names, refusal: Refusal)
+    ensures { IsReported (refusal_line names.now refusal)
+        (E.history errors.old) (E.history errors.new) }
+{
+    let mut output = Output::new(errors);
+    output.put(b"aiger: ");
+    put_name(&mut output, &names.model);
+    refusal.words().put(&mut output);
     output.put(b"\n");
     let (_sent, _errors) = output.finish();
 }

@@ -6,15 +6,16 @@ ghost use Rattle.aig_command.specs.Answer.{name_of};
 ghost use Rattle.aig_fault.specs.declared.stopped.Stopped.TheVariants.{WriteFailed};
 ghost use Rattle.aig_commands.specs.Jobs.{CanDo, CanRead, Makes, Refuses, text_of};
 ghost use Rattle.aig_commands.specs.Reading.{ReadSays};
-ghost use Rattle.aig_tools.specs.Ends.{Concludes, done_status};
+ghost use Rattle.aig_tools.specs.Ends.{Concludes, done_status, IsReportedIn};
+ghost use Rattle.aig_tools.specs.Lines.{refusal_line};
 ghost use Rattle.aig_tools.specs.SimulationOutcome.{TaskSays};
 ghost use Rattle.aig_tools.specs.Worlds.{IsIdle, ReadIn, SentIn, TakesAs, TransferredBetween};
 ghost use Rattle.aig_tools.specs.Worlds.{world};
 
-use crate::reporting::report_stop;
+use crate::reporting::{report_refusal, report_stop};
 use crate::simulation::perform;
 use aig_command::Names;
-use aig_commands::{Answer, Job, Part, Reading, Stopped, Task};
+use aig_commands::{Answer, Job, Part, Reading, Refusal, Stopped, Task};
 use aig_core::{Checked, Sink, Source};
 use aig_files::{FileAccess, NamedSink, NamedSource};
 use aig_lasso::LassoVerdict;
@@ -185,5 +186,16 @@ impl<A: FileAccess, R: Source, W: Sink, E: Sink> World<A, R, W, E> {
                 FAILED
             }
         }
+    }
+
+    /// Reports what the model has not, and answers the status.
+    pub(crate) fn refuse(&mut self, names: &Names, refusal: Refusal) -> u8
+        requires idle { self.old.files.current ≡ None }
+        ensures idle { self.new.files.current ≡ None }
+        ensures reported { IsReportedIn (refusal_line names.now refusal) self.old self.new }
+        ensures status { result ≡ 1 }
+    {
+        report_refusal(&mut self.errors, names, refusal);
+        FAILED
     }
 }

@@ -1,4 +1,5 @@
 //! Command lines and what is answered to them.
+use crate::tools::{INFOS, PICTURES, SELECTIONS, shown_info, shown_picture, shown_selection};
 use aig_command::{
     BadStates, Command, CommandLine, Invariant, Miter, Names, Property, Reach, Sim, SolverFile,
     ToAig, Unroll, UnrolledForm, Usage, command,
@@ -288,6 +289,29 @@ aigmiter - - => both circuits are standard input;\
 aigmiter --by-name --sync - - m.gz => both circuits are standard input;\
 aigmiter a b m.gz => compressed output is not supported: use aiger COMMAND .. - | gzip > FILE.gz;\
 aigmiter --sync a b => --sync needs the name of a destination;\
+aiginfo x.xz y => compressed input is not supported: use xz -dc FILE.xz | aiger COMMAND .. - ..;\
+aigselect --bad 0 x.gz => compressed input is not supported: use gzip -dc FILE.gz | aiger COMMAND .. - ..;\
+aigselect --force x.gz => --output, --bad or --justice is needed;\
+aiginfo --sync => --sync needs the name of a destination;\
+aiginfo --json - x.gz => compressed output is not supported: use aiger COMMAND .. - | gzip > FILE.gz;\
+aigselect => --output, --bad or --justice is needed;\
+aigselect --sync a b.gz => --output, --bad or --justice is needed;\
+aigselect a -- --bad => --output, --bad or --justice is needed;\
+aigselect --bad 1 a b.gz => compressed output is not supported: use aiger COMMAND .. - | gzip > FILE.gz;\
+aigselect --bad 1 --sync a => --sync needs the name of a destination;\
+aigtodot --all-steps => --all-steps needs --cone;\
+aigtodot --all-steps a b.gz => --all-steps needs --cone;\
+aigtodot --cone b0 a b.gz => compressed output is not supported: use aiger COMMAND .. - | gzip > FILE.gz;\
+aigtodot --cone b0 --sync => --sync needs the name of a destination;\
+aigtodot --cone b => --cone needs o, b, c, j or f and a position: o0 is the first output, b0 the first bad state;\
+aigtodot --cone <> --all-steps => --cone needs o, b, c, j or f and a position: o0 is the first output, b0 the first bad state;\
+aigtodot --cone 0 => --cone needs o, b, c, j or f and a position: o0 is the first output, b0 the first bad state;\
+aigtodot --cone i0 => --cone needs o, b, c, j or f and a position: o0 is the first output, b0 the first bad state;\
+aigtodot --cone l0 => --cone needs o, b, c, j or f and a position: o0 is the first output, b0 the first bad state;\
+aigtodot --cone B0 => --cone needs o, b, c, j or f and a position: o0 is the first output, b0 the first bad state;\
+aigtodot --cone bb0 => --cone needs o, b, c, j or f and a position: o0 is the first output, b0 the first bad state;\
+aigtodot --cone b0x => --cone needs o, b, c, j or f and a position: o0 is the first output, b0 the first bad state;\
+aigtodot --cone o4294967296 a b.gz => --cone needs o, b, c, j or f and a position: o0 is the first output, b0 the first bad state;\
 aigtoaig --sync => --sync needs the name of a destination;\
 aigtoaig --sync a => --sync needs the name of a destination;\
 aigtoaig a --sync - => --sync needs the name of a destination;\
@@ -390,6 +414,12 @@ help aigtoaig => help;\
 help aigsim => help;\
 help aigunroll => help;\
 help aigmiter => help;\
+help aiginfo => help;\
+help aigselect => help;\
+help aigtodot => help;\
+aigselect --help => help;\
+aigtodot --all-steps -h => help;\
+aiginfo --version => version;\
 help help => help;\
 -h help => help;\
 --help => help;\
@@ -409,6 +439,29 @@ aigunroll --cnf --ascii --help => help;\
 aigunroll --answer - --refutation - --help => help;\
 aigunroll --invariant - --ascii --help => help;\
 aigtoaig a b c => words;\
+aiginfo a b c => words;\
+aiginfo --json --json => words;\
+aiginfo --ascii => words;\
+aiginfo --force => words;\
+aigtodot --force => words;\
+aiginfo --max-var x => words;\
+aigselect --bad => words;\
+aigselect --bad x => words;\
+aigselect --bad=-1 => words;\
+aigselect --bad 2147483648 => words;\
+aigselect --bad 1 --bad x => words;\
+aigselect --bad 1,2 => words;\
+aigselect --bad 0 --ascii --ascii => words;\
+aigselect --bad 0 a b c => words;\
+aigselect --strip --bad 0 => words;\
+aigtodot --cone => words;\
+aigtodot --cone b0 --cone b1 => words;\
+aigtodot --gates x => words;\
+aigtodot --gates 2147483648 => words;\
+aigtodot --gates 1 --gates 2 => words;\
+aigtodot a b c => words;\
+aigtodot --bad 0 => words;\
+aiginf => words;\
 aigtoaig --ascii --ascii => words;\
 aigtoaig --max-var => words;\
 aigtoaig --max-var 2147483648 => words;\
@@ -592,7 +645,7 @@ fn words_of(alloc: Global, line: &str) -> Result<Vec<String>, AllocError> {
 }
 
 /// The file of this name, as a row shows it.
-fn show_file(file: &Option<String>) -> &str {
+pub(crate) fn show_file(file: &Option<String>) -> &str {
     match file {
         Some(name) if name.is_empty() => "<>",
         Some(name) => name.as_str(),
@@ -731,6 +784,9 @@ fn shown_command(alloc: Global, names: &Names, command: &Command) -> Result<Stri
         Command::Reach(request) => shown_reaching(alloc, names, *request),
         Command::Invariant(request) => shown_proving(alloc, names, *request),
         Command::Miter(request) => shown_miter(alloc, names, *request),
+        Command::Info(request) => shown_info(alloc, names, *request),
+        Command::Select(request) => shown_selection(alloc, names, request),
+        Command::ToDot(request) => shown_picture(alloc, names, *request),
         Command::Help(_) => String::from_str(alloc, "help"),
         Command::Version(_) => String::from_str(alloc, "version"),
     }
@@ -817,6 +873,27 @@ fn miters(rt: HostRuntime) -> Result<(), Fail> {
 }
 
 #[test]
+fn infos(rt: HostRuntime) -> Result<(), Fail> {
+    let wrong = first_wrong(rt.alloc(), INFOS)?;
+    assert!(rt; wrong.is_none(), "{wrong:?}");
+    Ok(())
+}
+
+#[test]
+fn selections(rt: HostRuntime) -> Result<(), Fail> {
+    let wrong = first_wrong(rt.alloc(), SELECTIONS)?;
+    assert!(rt; wrong.is_none(), "{wrong:?}");
+    Ok(())
+}
+
+#[test]
+fn pictures(rt: HostRuntime) -> Result<(), Fail> {
+    let wrong = first_wrong(rt.alloc(), PICTURES)?;
+    assert!(rt; wrong.is_none(), "{wrong:?}");
+    Ok(())
+}
+
+#[test]
 fn refusals(rt: HostRuntime) -> Result<(), Fail> {
     let wrong = first_wrong(rt.alloc(), REFUSALS)?;
     assert!(rt; wrong.is_none(), "{wrong:?}");
@@ -860,6 +937,9 @@ fn help_fits_a_terminal(rt: HostRuntime) -> Result<(), Fail> {
         "help aigsim",
         "help aigunroll",
         "help aigmiter",
+        "help aiginfo",
+        "help aigselect",
+        "help aigtodot",
     ];
     for line in lines.iter() {
         let longest = longest_shown(rt.alloc(), line)?;

@@ -1,5 +1,5 @@
 use Rattle.std.proofs.Common.{rules, subst, sym}
-use Rattle.aig_tools.specs.Ends.{Ends, answers_steps, goes_on, is_stopped, writes}
+use Rattle.aig_tools.specs.Ends.{Ends, answers_steps, goes_on, is_stopped, refuses, writes}
 use Rattle.aig_tools.proofs.Jobs.{as_is}
 use Rattle.aig_tools.proofs.program.run.Goals as goal
 
@@ -37,3 +37,9 @@ returns-in-Write-clause-ends g c =
     (as_is c.args.names.now _ _ _ _ _ c.in-Write.is
     (writes c.in-Write.answer c.write-sent.result _ _ _ _ c.write-sent.ensures.sent
     (rw c.without_verdict.ensures at c.conclude-in-Write.ensures.concludes)))
+
+pub returns-in-Refuse-clause-ends : goal.returns-in-Refuse-clause-ends
+returns-in-Refuse-clause-ends g c =
+    rw c.refuse.ensures.status (c.loop-job.invariant.rest _ _
+    (as_is c.args.names.now _ _ _ _ _ c.in-Refuse.is
+    (refuses c.in-Refuse.refusal _ _ c.refuse.ensures.reported)))
