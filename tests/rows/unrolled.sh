@@ -194,7 +194,7 @@ rows_unroll_words() {
         "unexpected argument '--strip' found\n\n  tip: to pass '--strip' as a value, use '-- --strip'$all" aigunroll --frames 1 --strip
     misused 'a name too many to unroll' "unexpected argument 'z' found$all" aigunroll --frames 1 x y z
     misused 'frames of a conversion' \
-        "unexpected argument '--frames' found\n\n  tip: to pass '--frames' as a value, use '-- --frames'\n\nUsage: aiger aigtoaig [OPTIONS] [source] [destination]" \
+        "unexpected argument '--frames' found\n\n  tip: a similar argument exists: '--force'\n\nUsage: aiger aigtoaig --force [source] [destination]" \
         aigtoaig --frames 1
     unwanted 'a compressed file to unroll to' 'compressed output is not supported: use aiger COMMAND .. - | gzip > FILE.gz' aigunroll --frames 2 - none/x.aig.gz
 }
