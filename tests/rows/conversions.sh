@@ -1041,10 +1041,10 @@ rows_words() {
     misused 'help on another command' "unrecognized subcommand 'convert'$usage" help convert
     misused 'help on two commands' \
         "unrecognized subcommand 'aigsim'\n\nUsage: aiger aigtoaig [OPTIONS] [source] [destination]" help aigtoaig aigsim
-    for option in --version -V -Vx; do row "the version: $option" 'aag 0 0 0 0 0\n' 'aiger 1.6.2\n' '' 0 "$option"; done
-    row 'the version behind a subcommand' 'aag 0 0 0 0 0\n' 'aiger 1.6.2\n' '' 0 aigtoaig --version
-    row 'the version where a model is wanted' '' 'aiger 1.6.2\n' '' 0 aigsim -V
-    row 'the version where frames are wanted' '' 'aiger 1.6.2\n' '' 0 aigunroll --version x
+    for option in --version -V -Vx; do row "the version: $option" 'aag 0 0 0 0 0\n' 'aiger 1.7.0\n' '' 0 "$option"; done
+    row 'the version behind a subcommand' 'aag 0 0 0 0 0\n' 'aiger 1.7.0\n' '' 0 aigtoaig --version
+    row 'the version where a model is wanted' '' 'aiger 1.7.0\n' '' 0 aigsim -V
+    row 'the version where frames are wanted' '' 'aiger 1.7.0\n' '' 0 aigunroll --version x
     misused 'no option for the version' "unexpected argument '-v' found$usage" -v
     misused 'another subcommand' "unrecognized subcommand 'convert'$usage" convert --ascii
     misused 'a subcommand that is close to all of them' \

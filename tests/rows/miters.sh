@@ -380,7 +380,7 @@ rows_miter_words() {
     missing 'two circuits that are not there' none/x aigmiter none/x none/y none/z
     row 'a first circuit that is refused before a second that is not there' 'aag 0 0 0 0 0 0 0 0 1\n1\n' '' \
         'aiger: -: justice or fairness cannot be compared\n' 1 aigmiter - none/x
-    row 'the version where circuits are wanted' '' 'aiger 1.6.2\n' '' 0 aigmiter --version
+    row 'the version where circuits are wanted' '' 'aiger 1.7.0\n' '' 0 aigmiter --version
 }
 
 # What is written tells where the two differ.
