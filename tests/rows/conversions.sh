@@ -1006,6 +1006,9 @@ Commands:
   aigsim     Simulate a circuit, step by step
   aigunroll  Unroll a circuit, write clauses, check refutations and invariants
   aigmiter   Make one circuit of two, to show that they are equal
+  aiginfo    Count what a circuit has: sizes, levels, what is used
+  aigselect  Select outputs, bad states or justice properties, with their cone
+  aigtodot   Draw a circuit, or a cone of it, for Graphviz
   help       Print this message or the help of the given subcommand(s)
 
 Options:
@@ -1048,7 +1051,7 @@ rows_words() {
     misused 'no option for the version' "unexpected argument '-v' found$usage" -v
     misused 'another subcommand' "unrecognized subcommand 'convert'$usage" convert --ascii
     misused 'a subcommand that is close to all of them' \
-        "unrecognized subcommand 'aigsom'\n\n  tip: some similar subcommands exist: 'aigunroll', 'aigtoaig', 'aigmiter', 'aigsim'$usage" aigsom x
+        "unrecognized subcommand 'aigsom'\n\n  tip: some similar subcommands exist: 'aigunroll', 'aigselect', 'aigtoaig', 'aigmiter', 'aigtodot', 'aiginfo', 'aigsim'$usage" aigsom x
     local sim='\n\nUsage: aiger aigsim'
     local all="$sim [OPTIONS] <model> [stimulus]"
     misused 'no model' "the following required arguments were not provided:\n  <model>$sim <model> [stimulus]" aigsim
