@@ -41,6 +41,9 @@ aigunroll --frames 2 --cnf --bad 0 --justice 0
 aigunroll --frames 2 --bad 0
 aigunroll --frames 2 --justice 0
 aigunroll --frames 2 --lrat --answer model
+aigselect -
+aigtodot --cone x0 -
+aigtodot --all-steps -
 aigunroll --frames 2 --answer - -
 aigunroll --frames 2 --refutation - -
 aigunroll --cnf
