@@ -868,7 +868,7 @@ def check_options(program):
         said = subprocess.run([program, command, "--help"], stdout=subprocess.PIPE, text=True, check=True).stdout
         words = re.findall(r"^ {2,6}(?:-\w, )?--([a-z-]+)", said, re.M)
         # (the library names no files, so none is to be on a disk, and takes refutations in DRAT alone)
-        there = {it.replace("-", "_") for it in words} - {"help", "version", "sync", "lrat"}
+        there = {it.replace("-", "_") for it in words} - {"help", "version", "sync", "force", "lrat"}
         names = {name for it in functions for name in inspect.signature(it).parameters}
         inputs = {"data", "model", "stimulus", "witness", "answer", "refutation", "invariant", "first", "second"}
         here = names - inputs | chosen
