@@ -79,7 +79,8 @@ CLOCKS = {
     "a divided one": "reg k = 0, t = 0, q = 0; always @(posedge clk) begin k <= ~k; t <= ~t; end always @(posedge k) q <= t;",
     "one divided twice": "reg k = 0, l = 0, t = 0, q = 0; always @(posedge clk) begin k <= ~k; t <= ~t; end\n"
     "always @(posedge k) l <= ~l; always @(posedge l) q <= t;",
-    "one of a counter": "reg [1:0] t = 0, q = 0; wire k = t == 2; always @(posedge clk) t <= t + 1; always @(posedge k) q <= t;",
+    "one of a counter": "reg [1:0] t = 0; reg q = 0; wire k = t == 2; always @(posedge clk) t <= t + 1;\n"
+    "always @(posedge k) q <= t[1];",
     "an enable": "reg k = 0, t = 0, q = 0; always @(posedge clk) begin k <= ~k; t <= ~t; end always @(posedge k) if (t) q <= 1;",
     "a gated one": "reg t = 1, q = 0; wire k = clk & t; always @(posedge clk) t <= 0; always @(posedge k) q <= 1;",
     "one gated by a choice": "reg t = 1, q = 0; wire k = t ? clk : 1'b0; always @(posedge clk) t <= 0; always @(posedge k) q <= 1;",
