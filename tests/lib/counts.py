@@ -11,7 +11,7 @@ def finish(wrong, passed, skipped=0):
         print(f"FAILED {said}")
     skips = f", {skipped} skipped" if skipped else ""
     print(f"{passed} passed, {len(wrong)} failed{skips}")
-    sys.exit(bool(wrong) or not passed)
+    sys.exit(bool(wrong) or not (passed or skipped))
 
 
 def part_of(words):

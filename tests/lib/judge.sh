@@ -92,6 +92,7 @@ check() {
     judge "$name" $?
 }
 
+has_compiler() { command -v gcc || command -v cc || command -v clang || command -v "${RT:-rt}"; } > /dev/null
 # compile_preload NAME: makes $work/NAME.so of tests/preload/NAME.c, with whichever C compiler is there; only what each of
 # them has is used, no header and no library. What they said is in $work/compile.
 compile_preload() {

@@ -2,6 +2,7 @@
 import collections
 import concurrent.futures
 import os
+import shutil
 import signal
 import subprocess
 import tempfile
@@ -72,6 +73,9 @@ def judge_rows(judged, program, name=""):
         words = ["bash", "-c", COMPILE, Path(__file__).parent, compiled]
         said = subprocess.run(words, capture_output=True, check=False)
         preload = f"{compiled}/fail_call.so"
+        if not any(map(shutil.which, ("gcc", "cc", "clang", os.environ.get("RT") or "rt"))):
+            print("SKIPPED: there is no C compiler")
+            counts.finish([], 0, len(numbers))
         if not os.path.exists(preload):
             counts.finish([f"tests/preload/fail_call.c compiles: {said}"], 0)
         asked = [pool.submit(judged, program, preload, under, number) for number in numbers]

@@ -216,7 +216,9 @@ else
 fi
 
 # what a file system says only when it is to keep a file is not lost: unasked where it is on no disk, else with --sync
-if compile_preload fail_sync && compile_preload device_major; then
+if ! has_compiler; then
+    skip 8 'no C compiler'
+elif compile_preload fail_sync && compile_preload device_major; then
     closing() { MAJOR=$1 LD_PRELOAD="$work/fail_sync.so $work/device_major.so" "$program" aigtoaig "${@:2}"; }
     disk=8 no_disk=0
     wants '' "aiger: $files/closed.aig: cannot write: $broken\n" 1

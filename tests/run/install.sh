@@ -379,7 +379,11 @@ python3-aigtools_${version}_all.deb" env LC_ALL=C ls "$packages"
         for package in "$packages"/*.deb; do dpkg-deb -x "$package" "$root"; done
         skip 2 'only root installs packages, so they were unpacked'
     fi
-    check 'the library asks for no newer C library' same GLIBC_2.14 newest_needed "$root$multiarch/libaigtools.so.1"
+    if command -v objdump > /dev/null; then
+        check 'the library asks for no newer C library' same GLIBC_2.14 newest_needed "$root$multiarch/libaigtools.so.1"
+    else
+        skip 1 'no objdump'
+    fi
     check 'what the program needs' same '' field aiger Depends
     check 'the program of the package' same "$(cat "$top/examples/canonical/lock.aag")" \
         "$root/usr/bin/aiger" aigtoaig --ascii "$top/examples/lock.aag"
