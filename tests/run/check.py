@@ -12,6 +12,7 @@ solver count as skipped where it is not installed.
 import concurrent.futures
 import importlib
 import os
+import signal
 import sys
 from pathlib import Path
 
@@ -62,4 +63,6 @@ def main(program, *words):
 
 
 if __name__ == "__main__":
+    # nohup ignores it, and so would what is started here
+    signal.signal(signal.SIGHUP, signal.SIG_DFL)
     main(*sys.argv[1:])
