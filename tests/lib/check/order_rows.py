@@ -86,7 +86,7 @@ CLOCKS = {
     "one gated by a choice": "reg t = 1, q = 0; wire k = t ? clk : 1'b0; always @(posedge clk) t <= 0; always @(posedge k) q <= 1;",
 }
 LOADED = {
-    "an input": "reg [1:0] q = 0; always @(posedge clk or posedge s[0]) if (s[0]) q <= d; else q <= 0;",
+    "an input": "reg [3:0] q = 0; always @(posedge clk or posedge s[0]) if (s[0]) q <= d; else q <= 0;",
     "set and reset": "reg q = 0; always @(posedge clk or posedge s[0] or posedge s[1]) if (s[0]) q <= 0; else if (s[1]) q <= 1; else q <= d;",
     "another register": "reg p = 0, q = 0; always @(posedge clk) p <= d[0]; always @(posedge clk or posedge s[0]) if (s[0]) q <= p;",
 }
@@ -136,7 +136,7 @@ def rows():
     for name, text in LOADED.items():
         last = "\nx: assert property (!s[0] || q == d);\nfree: assert property (d <= 15);"
         last = last.replace("q == d", "q == p") if "p <=" in text else last.replace("q == d", "!q") if "s[1])" in text else last
-        yield f"order: loaded with {name}", each(doubted, inside(text + last), "q is set or loaded asynchronously")
+        yield f"order: loaded with {name}", each(doubted, inside(text + last), "is set or loaded asynchronously")
     for at, text in enumerate(SURE_CLOCKS):
         yield f"order: a clock of the design {at}", each(answers, inside(text), {"x": "never"})
     yield "order: two processes write a memory", two_writers

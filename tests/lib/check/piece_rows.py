@@ -408,8 +408,8 @@ def words(room):
     (room.here / "l.f").write_text("b.sv +incdir+i +define+D=4\n", encoding="ascii")
     check = piece("arguments").check_arguments
     name = str(room.here / "l.f")
-    given = check(parse(["--top", "m", "a.sv", "-f", name, "c.vhdl", "-I", "j", "-D", "E", "-P", "N=1", "--clock", "k"]))
-    need(given.files == ["a.sv", "b.sv", "c.vhdl"], "other files", given)
+    given = check(parse(["--top", "m", "a.sv", "-f", name, "c.v", "-I", "j", "-D", "E", "-P", "N=1", "--clock", "k"]))
+    need(given.files == ["a.sv", "b.sv", "c.v"], "other files", given)
     need((given.include, given.defines) == (["j", "i"], ["E", "D=4"]), "other words", given)
     need((given.parameters, given.clocks) == (["N=1"], ["k"]), "other words", given)
     given = check(parse(["--equal", "--top", "m", "--top", "n", "a.sv,b.sv", "c.sv"]))
